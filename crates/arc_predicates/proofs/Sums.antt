@@ -1,5 +1,6 @@
 -- Sums and products of numbers that are small, computed in 128 bits.
-use Rattle.std.proofs.Common.{◌≡◌, ℕ, ◌+◌, ◌*◌, ◌<◌, ◌^◌, ℤ, ◌+ℤ◌, ◌*ℤ◌, arith, refl, sym, subst, FitsSigned, to_z, of_z, to_z-of_z}
+use Rattle.std.proofs.Common.{◌≡◌, ℕ, ◌+◌, ◌*◌, ◌<◌, ◌^◌, ℤ, ◌+ℤ◌, ◌*ℤ◌, arith, refl, sym, subst}
+use Rattle.std.proofs.Common.{FitsSigned, to_z, of_z, to_z-of_z}
 use Rattle.std.specs.Int.{w128}
 use Rattle.std.proofs.lemmas.Int.{ints}
 use borrow.Author.Differences.{fits_in}
@@ -18,7 +19,8 @@ sum_back p q x y h k e f =
 pub back : (m : ℕ) (p : ℤ) → m < 2 ^ 127 + 1 → IsWithin m p → to_z w128 (of_z w128 p) ≡ p
 back m p l h = to_z-of_z (within_fits m p l h)
 
-pub product_within : (m n : ℕ) (p q : ℤ) → m < 2 ^ 127 + 1 → n < 2 ^ 127 + 1 → m * n < 2 ^ 124 + 1 → IsWithin m p → IsWithin n q
+pub product_within : (m n : ℕ) (p q : ℤ) → m < 2 ^ 127 + 1 → n < 2 ^ 127 + 1 → m * n < 2 ^ 124 + 1
+    → IsWithin m p → IsWithin n q
     → IsWithin (2 ^ 124) (to_z w128 (of_z w128 p) *ℤ to_z w128 (of_z w128 q))
 product_within m n p q l k f h g = rw (back m p l h, back n q k g) (within_more (m * n) (2 ^ 124) _ f (within_product m n p q h g))
 

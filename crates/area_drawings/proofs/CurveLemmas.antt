@@ -1,5 +1,6 @@
 -- Curves that may be added to a drawing, and what is added.
-use Rattle.std.proofs.Common.{◌≡◌, ℕ, zero, suc, ◌<◌, ℤ, pos, ◌-ℤ◌, ◌*ℤ◌, ◌<ℤ◌, Bool, true, false, List, [], ◌∷◌, length, map, get_or, refl, sym, ap, ◌∙◌, subst, arith}
+use Rattle.std.proofs.Common.{◌≡◌, ℕ, zero, suc, ◌<◌, ℤ, pos, ◌-ℤ◌, ◌*ℤ◌, ◌<ℤ◌, Bool, true, false}
+use Rattle.std.proofs.Common.{List, [], ◌∷◌, length, map, get_or, refl, sym, ap, ◌∙◌, subst, arith}
 use Rattle.std.specs.List.{All}
 use Rattle.std.proofs.lemmas.Int.{ints}
 use Rattle.std.proofs.lemmas.List.Elements.{All-head, All-tail}
@@ -27,10 +28,12 @@ difference_zero a b h = omega (arith, ints, h)
 zero_difference : (a b : ℤ) → a ≡ b → (a -ℤ b) ≡ pos 0
 zero_difference a b h = omega (arith, ints, h)
 
-pub collinear_from : (s m e : Place) → cross (point_at s) (point_at m) (point_at e) ≡ pos 0 → are_collinear s m e ≡ true
+pub collinear_from : (s m e : Place) → cross (point_at s) (point_at m) (point_at e) ≡ pos 0
+    → are_collinear s m e ≡ true
 collinear_from s m e h = same_as _ _ (difference_zero ((m.x -ℤ s.x) *ℤ (e.y -ℤ s.y)) ((m.y -ℤ s.y) *ℤ (e.x -ℤ s.x)) h)
 
-pub not_collinear : (s m e : Place) → (cross (point_at s) (point_at m) (point_at e) ≡ pos 0 → ⊥) → are_collinear s m e ≡ false
+pub not_collinear : (s m e : Place) → (cross (point_at s) (point_at m) (point_at e) ≡ pos 0 → ⊥)
+    → are_collinear s m e ≡ false
 not_collinear s m e h = by (are_collinear s m e) (λ t. h (zero_difference ((m.x -ℤ s.x) *ℤ (e.y -ℤ s.y)) ((m.y -ℤ s.y) *ℤ (e.x -ℤ s.x)) (same_from _ _ t)))
   where
     by : (b : Bool) → (b ≡ true → ⊥) → b ≡ false
@@ -55,11 +58,13 @@ module _ (s m e : Place) (p q r : Point) (f : p ≡ point_at s) (g : q ≡ point
   bent_places c z = let t = sym (collinear_from s m e (sym same_cross ∙ z)) ∙ c in cc
 
 -- places of one window are close
-pub close_points : (w : Window2) (s t : Place) (p q : Point) → p ≡ point_at s → q ≡ point_at t → IsIn w s → IsIn w t → AreClose p q
+pub close_points : (w : Window2) (s t : Place) (p q : Point) → p ≡ point_at s → q ≡ point_at t
+    → IsIn w s → IsIn w t → AreClose p q
 close_points w s t p q e f h k = inside_close w.low w.high p q w.narrow (subst (IsInside w.low w.high) (sym e) h) (subst (IsInside w.low w.high) (sym f) k)
 
 -- ---- what stands at a place of a list
-pub mapped_at : {X Y : Type 0} (f : X → Y) (P : Y → Type 0) (xs : List X) (i : ℕ) (x : X) → All P (map f xs) → i < length xs → x ≡ get_or xs i x → P (f x)
+pub mapped_at : {X Y : Type 0} (f : X → Y) (P : Y → Type 0) (xs : List X) (i : ℕ) (x : X)
+    → All P (map f xs) → i < length xs → x ≡ get_or xs i x → P (f x)
 mapped_at f P [] i x h l e = absurd (omega (arith, l))
 mapped_at f P (y ∷ xs) zero x h l e = subst (λ z. P (f z)) (sym e) (All-head P (f y) (map f xs) h)
 mapped_at f P (y ∷ xs) (suc i) x h l e = mapped_at f P xs i x (All-tail P (f y) (map f xs) h) (omega (arith, l)) e

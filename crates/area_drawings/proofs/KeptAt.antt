@@ -16,7 +16,8 @@ use Rattle.area_drawings.specs.declared.kept_points.PointColumn.{PointColumn as 
 use Rattle.area_drawings.specs.declared.table_places.TablePlaces.{TablePlaces}
 use Rattle.area_drawings.specs.Drawable.{HasForms}
 use Rattle.area_drawings.specs.Drawings.{IsWindowOf}
-use Rattle.area_drawings.specs.KeptDrawings.{AreIn, AreDrawable, AreDrawn, IsDrawnFrom, curves_there}
+use Rattle.area_drawings.specs.KeptDrawings.{AreIn, AreDrawable, AreDrawn, IsDrawnFrom}
+use Rattle.area_drawings.specs.KeptDrawings.{curves_there}
 use Rattle.area_drawings.specs.KeptDrawings.{kept_curves, column_points, total}
 use Rattle.area_drawings.specs.KeptPoints.{points_in_column}
 use Rattle.area_drawings.specs.KeptRows.{Kept, counts_in, vertices_in}

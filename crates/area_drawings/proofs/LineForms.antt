@@ -11,7 +11,8 @@ module _ (forms : List code.LineForm) (form : code.LineForm) (ls : List LineForm
   same_form : l ≡ line_of form
   same_form = by forms f (e ∙ o)
     where
-      by : (fs : List code.LineForm) → form ≡ get_or fs 0 form → lines_view fs ≡ l ∷ [] → l ≡ line_of form
+      by : (fs : List code.LineForm) → form ≡ get_or fs 0 form → lines_view fs ≡ l ∷ []
+          → l ≡ line_of form
       by [] f h = absurd (cc)
       by (g ∷ fs) f h = first (line_of g) (lines_view fs) h ∙ ap line_of (sym f)
         where

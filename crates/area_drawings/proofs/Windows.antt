@@ -29,7 +29,8 @@ same_narrow p q x y = λ i. record { x = same_order _ _ x.x y.x i; y = same_orde
 abbrev window : (l h : Point) → IsNarrow l h → IsShort l → IsShort h → Window2
 window l h n s t = record { low = l; high = h; narrow = n; low_digits = s; high_digits = t }
 
-same_inner : (l h : Point) (n m : IsNarrow l h) (s t : IsShort l) (u v : IsShort h) → window l h n s u ≡ window l h m t v
+same_inner : (l h : Point) (n m : IsNarrow l h) (s t : IsShort l) (u v : IsShort h)
+    → window l h n s u ≡ window l h m t v
 same_inner l h n m s t u v = λ i. record { low = l; high = h; narrow = same_narrow l h n m i; low_digits = same_short l s t i; high_digits = same_short h u v i }
 
 -- with its own corners replaced by equal ones a window is as it was
@@ -49,14 +50,16 @@ one_window : (ls : List LineForm) (v w : Window2) → HasWindow ls v → HasWind
 one_window [] v w h k = same_window v w (h.0 ∙ sym k.0) (h.1 ∙ sym k.1)
 one_window (l ∷ ls) v w h k = same_window v w (h.low ∙ sym k.low) (h.high ∙ sym k.high)
 
-pub one_drawing : (l : Layout) (rows : List (List Row)) (a : AreaOf) (d e : Plan) → IsDrawing l rows a d → IsDrawing l rows a e → d ≡ e
+pub one_drawing : (l : Layout) (rows : List (List Row)) (a : AreaOf) (d e : Plan)
+    → IsDrawing l rows a d → IsDrawing l rows a e → d ≡ e
 one_drawing l rows a d e h k =
     let w : d.window ≡ e.window = one_window (lines_in (slice_get l.tables a.lines)) d.window e.window h.window k.window in
     let c : d.curves ≡ e.curves = h.curves ∙ sym k.curves in
     let p : d.points ≡ e.points = h.points ∙ sym k.points in
     λ i. record { window = w i; curves = c i; points = p i }
 
-pub same_drawings : (l : Layout) (rows : List (List Row)) (as_ : List AreaOf) (ds es : List Plan) → AllZip (IsDrawing l rows) as_ ds → AllZip (IsDrawing l rows) as_ es → ds ≡ es
+pub same_drawings : (l : Layout) (rows : List (List Row)) (as_ : List AreaOf) (ds es : List Plan)
+    → AllZip (IsDrawing l rows) as_ ds → AllZip (IsDrawing l rows) as_ es → ds ≡ es
 same_drawings l rows [] [] [] h k = refl
 same_drawings l rows [] [] (e ∷ es) h k = absurd k
 same_drawings l rows [] (d ∷ ds) es h k = absurd h

@@ -1,5 +1,6 @@
 -- What the calls ask for: numbers by marks, edges that are not bad, and places whose edges are known.
-use Rattle.std.proofs.Common.{◌≡◌, Bool, true, false, ℕ, ◌<◌, ◌≤◌, Some, None, List, [], length, slice_index_or, arith, ◌∙◌, subst, ap}
+use Rattle.std.proofs.Common.{◌≡◌, Bool, true, false, ℕ, ◌<◌, ◌≤◌, Some, None, List, [], length}
+use Rattle.std.proofs.Common.{slice_index_or, arith, ◌∙◌, subst, ap}
 use Rattle.std.proofs.lemmas.List.{length-map}
 use Rattle.area_search.specs.Unsettled.CurvePoints.{AreMarkedTo}
 use Rattle.faces.specs.declared.labelled.Labelled.{Labelled}
@@ -19,7 +20,8 @@ use Rattle.straight_predicates.specs.EdgeLists.{edge_of, no_point}
 use Rattle.tubes.specs.DrawnEdges.{edges_of, straight_edge}
 use Rattle.plane.specs.Rule.Doubled.{twice_curve}
 use Rattle.tubes.proofs.EdgeLemmas.{drawn_edges}
-use Rattle.area_faults.specs.RestFaces.{AreMendable, AreParted, AreRunFaces, IsKnownPlace, half_edges, half_plan, rest_plan}
+use Rattle.area_faults.specs.RestFaces.{AreMendable, AreParted, AreRunFaces, IsKnownPlace}
+use Rattle.area_faults.specs.RestFaces.{half_edges, half_plan, rest_plan}
 use Rattle.area_faults.proofs.PlacedFaces.{cell_edge, edges_are}
 use Rattle.area_faults.proofs.RestDrawings.{is_doubled, none_bad, rest_straights}
 
@@ -42,10 +44,12 @@ module _ (d : Plan) (marks : List Bool) (kept left : List ℕ) (parted : ArePart
   pub few_edges : length (half_edges d kept) ≤ 16000000
   few_edges = let a = edges_size d kept in let b = parted.kept_are.few in let c = mend.few in omega (arith, a, b, c)
 
-  pub straights_stay : (k : ℕ) → k < length (rest_plan d kept).curves → (curve (rest_plan d kept) k).kind ≡ kind.Straight
+  pub straights_stay : (k : ℕ) → k < length (rest_plan d kept).curves
+      → (curve (rest_plan d kept) k).kind ≡ kind.Straight
   straights_stay = rest_straights d out kept parted.kept_are.known parted.kept_are.mark_is parted.kept_are.rising parted.kept_are.whole mend.straights
 
-  half_kinds : (k : ℕ) → k < length (half_plan (rest_plan d kept)).curves → (curve (half_plan (rest_plan d kept)) k).kind ≡ kind.Straight
+  half_kinds : (k : ℕ) → k < length (half_plan (rest_plan d kept)).curves
+      → (curve (half_plan (rest_plan d kept)) k).kind ≡ kind.Straight
   half_kinds k l =
       let n = (is_doubled (rest_plan d kept)).count in
       let m : k < length (rest_plan d kept).curves = omega (arith, l, n) in
@@ -66,10 +70,13 @@ module _ (d : Plan) (marks : List Bool) (kept left : List ℕ) (parted : ArePart
 
   -- ---- places
   module _ (vs : List Move) (run : Run (length (half_edges d kept)) (edge_of (half_edges d kept)) (steps_from [] vs)) (l : Labelled) (faces : AreRunFaces (length kept) vs l) where
-    known_place : (v : Point) (s : Place) → IsPlaceOf (half_edges d kept) vs v s → IsKnownPlace (size l.mesh) s
+    known_place : (v : Point) (s : Place) → IsPlaceOf (half_edges d kept) vs v s
+        → IsKnownPlace (size l.mesh) s
     known_place v (place.Cell p None upper) c = tt
     known_place v (place.Cell p (Some i) upper) c = let k = cell_edge d kept straights_stay vs run v p i upper c in let s = faces.size_is in omega (arith, k, s)
     known_place v (place.OnEdge i) c = let k = c.known in let n = edges_size d kept in let s = faces.size_is in omega (arith, k, n, s)
 
-    pub known_places : (points : List Point) (places : List Place) → ArePlaces (half_edges d kept) vs points places → (j : ℕ) → j < length places → IsKnownPlace (size l.mesh) (slice_index_or places j no_place)
+    pub known_places : (points : List Point) (places : List Place)
+        → ArePlaces (half_edges d kept) vs points places → (j : ℕ) → j < length places
+        → IsKnownPlace (size l.mesh) (slice_index_or places j no_place)
     known_places points places a j k = known_place (slice_index_or points j no_point) (slice_index_or places j no_place) (a.each j (let s = a.size in omega (arith, k, s)))

@@ -1,5 +1,6 @@
 -- The edges of the rest in half units rise, and are close to each other and to the points that are located.
-use Rattle.std.proofs.Common.{◌≡◌, ℕ, ◌+◌, ◌-◌, ◌<◌, List, length, slice_index, slice_index_or, arith, inl, inr, sym, subst, All}
+use Rattle.std.proofs.Common.{◌≡◌, ℕ, ◌+◌, ◌-◌, ◌<◌, List, length, slice_index, slice_index_or}
+use Rattle.std.proofs.Common.{arith, inl, inr, sym, subst, All}
 use Rattle.std.proofs.lemmas.Bool.{cases_lt}
 use Rattle.std.proofs.lemmas.List.{get_or-map, length-map}
 use Rattle.plane.specs.declared.kinds.Curve.{Curve}
@@ -12,12 +13,14 @@ use Rattle.plane.specs.Forms.Vectors.{Before}
 use Rattle.plane.specs.Rule.Doubled.{twice, twice_curve}
 use Rattle.plane.specs.Rule.Plans.{Plan, curve, object}
 use Rattle.plane.specs.Rule.Windows.{IsDrawn, IsInside, IsNarrow}
-use Rattle.straight_predicates.specs.EdgeLists.{AreAllClose, AreSorted, HasEnds, IsCloseToAll, edge_of, no_edge, no_point}
+use Rattle.straight_predicates.specs.EdgeLists.{AreAllClose, AreSorted, HasEnds, IsCloseToAll}
+use Rattle.straight_predicates.specs.EdgeLists.{edge_of, no_edge, no_point}
 use Rattle.straight_predicates.specs.Meetings.{AreClose}
 use Rattle.tubes.specs.DrawnEdges.{edge_from, straight_edge}
 use Rattle.tubes.proofs.EdgeLemmas.{edge_ends}
 use Rattle.area_faults.specs.RestFaces.{IsWritten, half_edges, half_points}
-use Rattle.area_faults.proofs.HalfUnits.{IsInHalves, halves_near, inside_short, sum_inside, twice_inside, twice_once}
+use Rattle.area_faults.proofs.HalfUnits.{IsInHalves, halves_near, inside_short, sum_inside}
+use Rattle.area_faults.proofs.HalfUnits.{twice_inside, twice_once}
 use Rattle.area_faults.proofs.PlacedFaces.{middle_point, object_point, points_count}
 
 -- a curve of a window has few digits
@@ -34,16 +37,19 @@ pub record IsHeld (low high : Point) (x : Edge) : Type 0 where
   pub first : IsInHalves low high x.low
   pub second : IsInHalves low high x.high
 
-held : (low high p q : Point) → (p ≡ q → ⊥) → IsInHalves low high p → IsInHalves low high q → IsHeld low high (edge_from p q)
+held : (low high p q : Point) → (p ≡ q → ⊥) → IsInHalves low high p → IsInHalves low high q
+    → IsHeld low high (edge_from p q)
 held low high p q n a b = let r = edge_ends p q n in by_ends r.0 r.1
   where
-    by_ends : Before (edge_from p q).low (edge_from p q).high → HasEnds (edge_from p q) p q → IsHeld low high (edge_from p q)
+    by_ends : Before (edge_from p q).low (edge_from p q).high → HasEnds (edge_from p q) p q
+        → IsHeld low high (edge_from p q)
     by_ends s (inl h) = record { sorted = s; first = subst (IsInHalves low high) (sym h.0) a; second = subst (IsInHalves low high) (sym h.1) b }
     by_ends s (inr h) = record { sorted = s; first = subst (IsInHalves low high) (sym h.0) b; second = subst (IsInHalves low high) (sym h.1) a }
 
 module _ (d : Plan) (low high : Point) (narrow : IsNarrow low high) (drawn : All (λ (c : Curve). IsDrawn low high c) d.curves) (kept : List ℕ)
     (known : (m : ℕ) → m < length kept → slice_index kept m < length d.curves) where
-  each_held : (m : ℕ) → m < length (half_edges d kept) → IsHeld low high (edge_of (half_edges d kept) m)
+  each_held : (m : ℕ) → m < length (half_edges d kept)
+      → IsHeld low high (edge_of (half_edges d kept) m)
   each_held m l =
       let n = length-map kept (λ (i : ℕ). straight_edge (twice_curve (curve d i))) in
       let k : m < length kept = omega (arith, l, n) in
@@ -77,7 +83,8 @@ module _ (d : Plan) (low high : Point) (narrow : IsNarrow low high) (drawn : All
     point = λ m l. let a = each_held m l in near _ _ a.first h;
   }
 
-  pub points_close : All (λ (p : Placed). IsInside low high p.at) d.points → (left : List ℕ) → ((m : ℕ) → m < length left → slice_index left m < length d.curves)
+  pub points_close : All (λ (p : Placed). IsInside low high p.at) d.points → (left : List ℕ)
+      → ((m : ℕ) → m < length left → slice_index left m < length d.curves)
       → (j : ℕ) → j < length (half_points d left) → IsCloseToAll (half_edges d kept) (slice_index_or (half_points d left) j no_point)
   points_close inside left there j l = elim (cases_lt j (length d.points)) [
     | inl k ↦ subst (IsCloseToAll (half_edges d kept)) (sym (object_point d left j k)) (close_to (twice (object d j)) (twice_inside low high (object d j) (inside j _ k)))

@@ -22,13 +22,16 @@ DOT ax ay bx by zx zy zn =
     let O = num (pos 1) in
     plus (times (minus (times ax zn) (times zx O)) (minus (times bx zn) (times zx O))) (times (minus (times ay zn) (times zy O)) (minus (times by zn) (times zy O)))
 
-pub turning_parts : (a b e f : Point) (ux uy vx vy r : ℤ) → ux ≡ b.x -ℤ a.x → uy ≡ b.y -ℤ a.y → vx ≡ f.x -ℤ e.x → vy ≡ f.y -ℤ e.y → r ≡ (ux *ℤ vy) -ℤ (uy *ℤ vx) → r ≡ turning a b e f
+pub turning_parts : (a b e f : Point) (ux uy vx vy r : ℤ) → ux ≡ b.x -ℤ a.x → uy ≡ b.y -ℤ a.y
+    → vx ≡ f.x -ℤ e.x → vy ≡ f.y -ℤ e.y → r ≡ (ux *ℤ vy) -ℤ (uy *ℤ vx) → r ≡ turning a b e f
 turning_parts a b e f ux uy vx vy r h k l m n = cc
 
-pub part_parts : (a e f : Point) (ux uy vx vy r : ℤ) → ux ≡ e.x -ℤ a.x → uy ≡ e.y -ℤ a.y → vx ≡ f.x -ℤ e.x → vy ≡ f.y -ℤ e.y → r ≡ (ux *ℤ vy) -ℤ (uy *ℤ vx) → r ≡ part a e f
+pub part_parts : (a e f : Point) (ux uy vx vy r : ℤ) → ux ≡ e.x -ℤ a.x → uy ≡ e.y -ℤ a.y
+    → vx ≡ f.x -ℤ e.x → vy ≡ f.y -ℤ e.y → r ≡ (ux *ℤ vy) -ℤ (uy *ℤ vx) → r ≡ part a e f
 part_parts a e f ux uy vx vy r h k l m n = cc
 
-pub rounded_meeting : (a b e f : Point) (p t x y : ℤ) → p ≡ part a e f → t ≡ turning a b e f → IsRounded a.x (b.x -ℤ a.x) p t x → IsRounded a.y (b.y -ℤ a.y) p t y → pos 0 <ℤ t
+pub rounded_meeting : (a b e f : Point) (p t x y : ℤ) → p ≡ part a e f → t ≡ turning a b e f
+    → IsRounded a.x (b.x -ℤ a.x) p t x → IsRounded a.y (b.y -ℤ a.y) p t y → pos 0 <ℤ t
     → ((a b e f m : Point) (z : Vector) → Place z → pos 0 <ℤ turning a b e f → IsRoundedMeeting a b e f m → IsOnStraight (point a) (point b) z → IsOnStraight (point e) (point f) z → IsInUnit m z)
     → (z : Vector) → IsOnBoth a b e f z → IsInUnit (record { x = x; y = y }) z
 rounded_meeting a b e f p t x y part_is turn_is rx ry left law z on =
@@ -47,13 +50,15 @@ turned a b e f =
     ring (TURNING (at 0) (at 1) (at 2) (at 3) (at 6) (at 7) (at 4) (at 5)) (minus (num (pos 0)) (TURNING (at 0) (at 1) (at 2) (at 3) (at 4) (at 5) (at 6) (at 7)))
     (vars (a.x ∷ a.y ∷ b.x ∷ b.y ∷ e.x ∷ e.y ∷ f.x ∷ f.y ∷ [])) refl
 
-pub left_again : (a b e f : Point) (t : ℤ) → t ≡ turning a b e f → (turning a b e f ≡ pos 0 → ⊥) → t ≤ℤ pos 0 → pos 0 <ℤ turning a b f e
+pub left_again : (a b e f : Point) (t : ℤ) → t ≡ turning a b e f → (turning a b e f ≡ pos 0 → ⊥)
+    → t ≤ℤ pos 0 → pos 0 <ℤ turning a b f e
 left_again a b e f t h cross l =
     let i = turned a b e f in
     by_lt_z (turning a b e f) (pos 0) (λ (k : turning a b e f <ℤ pos 0). omega (arith, ints, i, k)) (λ (k : pos 0 ≤ℤ turning a b e f). absurd (cross (omega (arith, ints, h, l, k))))
 
 -- places of both straights, the second one the other way round
-straight_back : (e f : Point) (z : Vector) → IsOnStraight (point e) (point f) z → IsOnStraight (point f) (point e) z
+straight_back : (e f : Point) (z : Vector) → IsOnStraight (point e) (point f) z
+    → IsOnStraight (point f) (point e) z
 unfolding TURN DOT
 straight_back e f z on = record {
   line =

@@ -15,7 +15,8 @@ use Rattle.plane.proofs.Algebra.Ring.{Expr, at, num, minus, times, vars, ring}
 use Rattle.plane.proofs.Covers.SamePlace.{on_straight_same}
 use Rattle.plane.proofs.FewerCurves.OneFace.{hits_straight, straight_hits}
 use Rattle.plane.proofs.HalfUnits.DoubledCurves.{hits_halved}
-use Rattle.plane.proofs.HalfUnits.DoubledForms.{halved_on, halved_place, there_and_back, turn-halved}
+use Rattle.plane.proofs.HalfUnits.DoubledForms.{halved_on, halved_place, there_and_back}
+use Rattle.plane.proofs.HalfUnits.DoubledForms.{turn-halved}
 use Rattle.plane.proofs.HalfUnits.DoubledPaths.{doubled_off}
 use Rattle.plane.proofs.HalfUnits.HalvedCrossings.{IsHalfEdge}
 use Rattle.plane.proofs.Linear.EdgePlaces.{place_point}
@@ -30,12 +31,14 @@ turn-there a b z =
     ring (T (D (at 6)) (D (at 7)) (D (at 8))) (D (T (at 6) (at 7) (at 8))) (vars (a.x ∷ a.y ∷ a.n ∷ b.x ∷ b.y ∷ b.n ∷ z.x ∷ z.y ∷ z.n ∷ [])) refl
 
 -- a place of a segment, in half units
-on_twice : (a b z : Vector) → Place a → Place b → Place z → IsOnStraight a b z → IsOnStraight (doubled a) (doubled b) (doubled z)
+on_twice : (a b z : Vector) → Place a → Place b → Place z → IsOnStraight a b z
+    → IsOnStraight (doubled a) (doubled b) (doubled z)
 on_twice a b z A B Z on = halved_on a b (doubled z) (on_straight_same a b z (halved (doubled z)) A B Z (halved_place (doubled z) Z) (there_and_back z) on)
 
 module _ (d e : Plan) (double : IsDoubled d e) (straights : (k : ℕ) → k < length d.curves → (curve d k).kind ≡ kind.Straight) where
   module _ (k : ℕ) (l : k < length d.curves) (g E : Edge) (half : IsHalfEdge g E (curve d k)) (p q : Vector) (x : CrossesCurve d g k p q) where
-    turned : (z : Vector) → turn (point E.low) (point E.high) z ≡ pos 2 *ℤ turn (point g.low) (point g.high) (halved z)
+    turned : (z : Vector)
+        → turn (point E.low) (point E.high) z ≡ pos 2 *ℤ turn (point g.low) (point g.high) (halved z)
     turned z =
         subst (λ (a : Point). turn (point a) (point E.high) z ≡ pos 2 *ℤ turn (point g.low) (point g.high) (halved z)) (sym half.low)
         (subst (λ (b : Point). turn (point (twice g.low)) (point b) z ≡ pos 2 *ℤ turn (point g.low) (point g.high) (halved z)) (sym half.high) (turn-halved (point g.low) (point g.high) z))

@@ -39,10 +39,12 @@ pub arc_place : (c e : Curve) → HaveHalfArc c e → IsMeetingPlace c e c.from
 arc_place c e h = of_arc h refl
 
 -- ---- two straights
-on_straight : (c : Curve) (z : Vector) → c.kind ≡ kind.Straight → IsOn c z → IsOnStraight (point c.from) (point c.to) z
+on_straight : (c : Curve) (z : Vector) → c.kind ≡ kind.Straight → IsOn c z
+    → IsOnStraight (point c.from) (point c.to) z
 on_straight c z s h = subst (λ (k : CurveKind). IsOnKind k c z) s h
 
-straight_on : (c : Curve) (z : Vector) → c.kind ≡ kind.Straight → IsOnStraight (point c.from) (point c.to) z → IsOn c z
+straight_on : (c : Curve) (z : Vector) → c.kind ≡ kind.Straight
+    → IsOnStraight (point c.from) (point c.to) z → IsOn c z
 straight_on c z s h = subst (λ (k : CurveKind). IsOnKind k c z) (sym s) h
 
 module _ (c e : Curve) (straights : AreBothStraight c e) (bad : AreBad c e) where
@@ -58,10 +60,12 @@ module _ (c e : Curve) (straights : AreBothStraight c e) (bad : AreBad c e) wher
   pub crossing_place : (p : Point) → IsUnitOf c.from c.to e.from e.to p → IsMeetingPlace c e p
   crossing_place p h = rounded m.z m.place m.on_first m.on_second (h m.z both)
 
-  judged : (d : Curve) (p : Point) → d.kind ≡ kind.Straight → IsOnStraight (point d.from) (point d.to) (point p) → IsJudgedOn d p
+  judged : (d : Curve) (p : Point) → d.kind ≡ kind.Straight
+      → IsOnStraight (point d.from) (point d.to) (point p) → IsJudgedOn d p
   judged d p s h = record { on = straight_on d (point p) s h; side = λ k. absurd (not_half_arc d s k) }
 
-  pub not_parallel : ArePlaced c e → ((p : Point) → IsEndOnOther c e p → ⊥) → turning c.from c.to e.from e.to ≡ pos 0 → ⊥
+  pub not_parallel : ArePlaced c e → ((p : Point) → IsEndOnOther c e p → ⊥)
+      → turning c.from c.to e.from e.to ≡ pos 0 → ⊥
   not_parallel a none parallel =
       elim (an_end_meets c.from c.to e.from e.to m.z a.first.distinct a.second.distinct m.place both.first both.second parallel) [
         | inl h ↦ none e.from (inr (record { end = inl refl; on = judged c e.from straights.0 h }))

@@ -1,5 +1,7 @@
 -- What is read off the run of the rest are the numbers of the faces of the drawing without the curves that are left out.
-use Rattle.std.proofs.Common.{◌≡◌, ◌⊎◌, Bool, true, false, ℕ, zero, suc, ◌+◌, ◌-◌, ◌<◌, ◌≤◌, Option, Some, List, [], length, map, take, slice_index, slice_index_or, pos, arith, refl, inl, inr, sym, ◌∙◌, subst, ap, All}
+use Rattle.std.proofs.Common.{◌≡◌, ◌⊎◌, Bool, true, false, ℕ, zero, suc, ◌+◌, ◌-◌, ◌<◌, ◌≤◌, Option}
+use Rattle.std.proofs.Common.{Some, List, [], length, map, take, slice_index, slice_index_or, pos}
+use Rattle.std.proofs.Common.{arith, refl, inl, inr, sym, ◌∙◌, subst, ap, All}
 use Rattle.std.proofs.lemmas.Bool.{cases_lt}
 use Rattle.std.proofs.lemmas.Int.{ints}
 use Rattle.std.proofs.lemmas.List.{get_or-map, get_or-take, length-map, length-take-le}
@@ -10,7 +12,9 @@ use Rattle.fault_lists.specs.declared.faces.CurveFaces.{CurveFaces}
 use Rattle.fault_lists.specs.declared.faces.DrawingFaces.{DrawingFaces}
 use Rattle.fault_lists.specs.declared.faces.PointPlace.{PointPlace}
 use Rattle.fault_lists.specs.declared.faces.PointPlace.TheVariants.{InFace}
-use Rattle.fault_lists.specs.DrawingFaces.{AreCurveFaces, AreDrawingFaces, AreFacePlaces, HasCurveBeside, HasCurveFaces, HasFaces, IsInFace, IsNumbered, IsPlaceBelow, IsPointPlace, AreFacesBelow}
+use Rattle.fault_lists.specs.DrawingFaces.{AreCurveFaces, AreDrawingFaces, AreFacePlaces}
+use Rattle.fault_lists.specs.DrawingFaces.{HasCurveBeside, HasCurveFaces, HasFaces, IsInFace}
+use Rattle.fault_lists.specs.DrawingFaces.{IsNumbered, IsPlaceBelow, IsPointPlace, AreFacesBelow}
 use Rattle.fault_lists.specs.Faults.{LiesOn}
 use Rattle.fault_lists.specs.Sides.{end_on, is_first_kind, side_end}
 use Rattle.half_edges.specs.HalfEdges.{over_of, under_of}
@@ -31,7 +35,8 @@ use Rattle.plane.specs.Rule.CrossedCurves.{CrossesCurve}
 use Rattle.plane.specs.Rule.Curves.{IsOn}
 use Rattle.plane.specs.Rule.Cuts.{CrossesKind, CrossesOne, course}
 use Rattle.plane.specs.Rule.Doubled.{IsDoubled, doubled, twice, twice_curve}
-use Rattle.plane.specs.Rule.LeftOut.{AreStraightsOut, IsClosed, IsOpen, IsRestOf, MissesEnds, middle}
+use Rattle.plane.specs.Rule.LeftOut.{AreStraightsOut, IsClosed, IsOpen, IsRestOf, MissesEnds}
+use Rattle.plane.specs.Rule.LeftOut.{middle}
 use Rattle.plane.specs.Rule.Places.{Vector, Place, point}
 use Rattle.plane.specs.Rule.Plans.{Plan, curve, object}
 use Rattle.plane.specs.Rule.Windows.{IsDrawn}
@@ -55,12 +60,21 @@ use Rattle.point_location.specs.declared.places.Place.TheVariants as place
 use Rattle.point_location.specs.Places.{ArePlaces, IsLeastOn as IsLeastEdge, IsPlaceOf, no_place}
 use Rattle.straight_predicates.specs.EdgeLists.{edge_of}
 use Rattle.tubes.specs.DrawnEdges.{edges_of}
-use Rattle.area_faults.specs.RestFaces.{AreCurveFacesTo, AreMendable, AreOpenTo, AreParted, AreRunFaces, AreSidesOf, HasSizes, half_edges, half_plan, half_points, place_at, place_face, point_place, rest_plan, sides_at}
+use Rattle.area_faults.specs.RestFaces.{AreCurveFacesTo, AreMendable, AreOpenTo, AreParted}
+use Rattle.area_faults.specs.RestFaces.{AreRunFaces, AreSidesOf, HasSizes, half_edges, half_plan}
+use Rattle.area_faults.specs.RestFaces.{half_points, place_at, place_face, point_place, rest_plan}
+use Rattle.area_faults.specs.RestFaces.{sides_at}
 use Rattle.area_faults.proofs.HalfUnits.{before_twice}
 use Rattle.area_faults.proofs.LeftPlaces.{IsRightOf}
-use Rattle.area_faults.proofs.PlacedFaces.{cell_below, cell_number, curves_count, edges_are, edges_count, face_below, face_used, faces_there, is_run, middle_point, object_point, points_count}
-use Rattle.area_faults.proofs.RestDrawings.{is_doubled, is_drawn, is_rest, is_right, outs, rest_count, rest_curve, rest_straights}
-use Rattle.area_faults.proofs.RestNumbers.{IsAt, closed_number, face_place, in_face, middle_at, open_number, place_all, place_at as place_number, place_off, place_once, place_outer, place_there, point_at}
+use Rattle.area_faults.proofs.PlacedFaces.{cell_below, cell_number, curves_count, edges_are}
+use Rattle.area_faults.proofs.PlacedFaces.{edges_count, face_below, face_used, faces_there, is_run}
+use Rattle.area_faults.proofs.PlacedFaces.{middle_point, object_point, points_count}
+use Rattle.area_faults.proofs.RestDrawings.{is_doubled, is_drawn, is_rest, is_right, outs}
+use Rattle.area_faults.proofs.RestDrawings.{rest_count, rest_curve, rest_straights}
+use Rattle.area_faults.proofs.RestNumbers.{IsAt, closed_number, face_place, in_face, middle_at}
+use Rattle.area_faults.proofs.RestNumbers.{open_number, place_all, place_at as place_number}
+use Rattle.area_faults.proofs.RestNumbers.{place_off, place_once, place_outer, place_there}
+use Rattle.area_faults.proofs.RestNumbers.{point_at}
 use Rattle.area_faults.proofs.RestSides.{IsCrossedBy, any_crossing, half_of_edge, some_crossing}
 
 not_true : (b : Bool) → b ≡ false → b ≡ true → ⊥
@@ -112,13 +126,15 @@ module _ (d : Plan) (marks : List Bool) (kept left : List ℕ) (parted : ArePart
   rises : (m n : ℕ) → m < n → n < length kept → slice_index kept m < slice_index kept n
   rises = parted.kept_are.rising
 
-  whole : (i : ℕ) → i < length d.curves → mark_of marks i ≡ false → (m : ℕ) × (m < length kept) × (slice_index kept m ≡ i)
+  whole : (i : ℕ) → i < length d.curves → mark_of marks i ≡ false
+      → (m : ℕ) × (m < length kept) × (slice_index kept m ≡ i)
   whole = parted.kept_are.whole
 
   pub rest : IsRestOf d (rest_plan d kept) (λ (i : ℕ). mark_of marks i)
   rest = is_rest d out kept known stays_in rises whole
 
-  st : (k : ℕ) → k < length (rest_plan d kept).curves → (curve (rest_plan d kept) k).kind ≡ kind.Straight
+  st : (k : ℕ) → k < length (rest_plan d kept).curves
+      → (curve (rest_plan d kept) k).kind ≡ kind.Straight
   st = rest_straights d out kept known stays_in rises whole mend.straights
 
   abbrev E : ℕ → Edge
@@ -142,10 +158,12 @@ module _ (d : Plan) (marks : List Bool) (kept left : List ℕ) (parted : ArePart
   At : Vector → ℕ → Type 0
   At z n = IsAt r e E (steps_from [] vs) on face z n
 
-  below : (h : Half) → half_edge_of h < length (half_plan (rest_plan d kept)).curves → slice_index l.mesh.face (number h) < l.count
+  below : (h : Half) → half_edge_of h < length (half_plan (rest_plan d kept)).curves
+      → slice_index l.mesh.face (number h) < l.count
   below = face_below d kept st vs run l faces
 
-  used : (n : ℕ) → 0 < n → n < l.count → (h : Half) × (half_edge_of h < length (half_plan (rest_plan d kept)).curves) × (slice_index l.mesh.face (number h) ≡ n)
+  used : (n : ℕ) → 0 < n → n < l.count
+      → (h : Half) × (half_edge_of h < length (half_plan (rest_plan d kept)).curves) × (slice_index l.mesh.face (number h) ≡ n)
   used = face_used d kept st vs run l faces
 
   -- ---- a place in each face
@@ -170,7 +188,8 @@ module _ (d : Plan) (marks : List Bool) (kept left : List ℕ) (parted : ArePart
   there_at : (n : ℕ) → n < l.count → Place (at_face n)
   there_at n k = face_places.place n k
 
-  lies : (z : Vector) (n : ℕ) → Place z → IsAt r e E (steps_from [] vs) on face z n → n < l.count → IsInFace r l.count at_face z n
+  lies : (z : Vector) (n : ℕ) → Place z → IsAt r e E (steps_from [] vs) on face z n → n < l.count
+      → IsInFace r l.count at_face z n
   unfolding at_face
   lies z n Z at_z k = record { there = k; joined = in_face r e half E (steps_from [] vs) on face F low.x right l.count faces.some below used z n Z at_z k }
 
@@ -182,18 +201,24 @@ module _ (d : Plan) (marks : List Bool) (kept left : List ℕ) (parted : ArePart
   fits_half m k = let n = curves_count d kept st vs run in omega (arith, k, n)
 
   -- the curve of an edge in half units
-  half_curve : (m : ℕ) → m < length kept → curve (half_plan (rest_plan d kept)) m ≡ twice_curve (curve d (slice_index kept m))
+  half_curve : (m : ℕ) → m < length kept
+      → curve (half_plan (rest_plan d kept)) m ≡ twice_curve (curve d (slice_index kept m))
   half_curve m k = half.curves m (fits m k) ∙ ap twice_curve (rest_curve d out kept known stays_in rises whole m (fits m k))
 
-  same_edge : (m : ℕ) → edge_of (half_edges d kept) m ≡ edge_of (edges_of (half_plan (rest_plan d kept))) m
+  same_edge : (m : ℕ)
+      → edge_of (half_edges d kept) m ≡ edge_of (edges_of (half_plan (rest_plan d kept))) m
   same_edge m = ap (λ (es : List Edge). edge_of es m) (edges_are d kept)
 
-  on_curve : (m : ℕ) → m < length kept → (v : Vector) → Place v → OnStraight (edge_of (half_edges d kept) m) v → IsOn (twice_curve (curve d (slice_index kept m))) v
+  on_curve : (m : ℕ) → m < length kept → (v : Vector) → Place v
+      → OnStraight (edge_of (half_edges d kept) m) v
+      → IsOn (twice_curve (curve d (slice_index kept m))) v
   on_curve m k v V h =
       let f = on_edge_is (E m) (curve e m) v (on.edges.edge m (fits_half m k)) (on.edges.straight m (fits_half m k)) V in
       subst (λ (c : Curve). IsOn c v) (half_curve m k) (f.0 (subst (λ (x : Edge). OnStraight x v) (same_edge m) h))
 
-  curve_on : (m : ℕ) → m < length kept → (v : Vector) → Place v → IsOn (twice_curve (curve d (slice_index kept m))) v → OnStraight (edge_of (half_edges d kept) m) v
+  curve_on : (m : ℕ) → m < length kept → (v : Vector) → Place v
+      → IsOn (twice_curve (curve d (slice_index kept m))) v
+      → OnStraight (edge_of (half_edges d kept) m) v
   curve_on m k v V h =
       let f = on_edge_is (E m) (curve e m) v (on.edges.edge m (fits_half m k)) (on.edges.straight m (fits_half m k)) V in
       subst (λ (x : Edge). OnStraight x v) (sym (same_edge m)) (f.1 (subst (λ (c : Curve). IsOn c v) (sym (half_curve m k)) h))
@@ -209,7 +234,8 @@ module _ (d : Plan) (marks : List Bool) (kept left : List ℕ) (parted : ArePart
       two true = inl refl
       two false = inr refl
 
-  no_lesser : (j i : ℕ) → IsLeastEdge (half_edges d kept) (twice (object d j)) i → (k : ℕ) → k < slice_index kept i → (mark_of marks k ≡ true → ⊥) → LiesOn d j k → ⊥
+  no_lesser : (j i : ℕ) → IsLeastEdge (half_edges d kept) (twice (object d j)) i → (k : ℕ)
+      → k < slice_index kept i → (mark_of marks k ≡ true → ⊥) → LiesOn d j k → ⊥
   no_lesser j i c k b free h = elim (by_mark k) [
     | inl t ↦ free t
     | inr f ↦ (
@@ -225,7 +251,8 @@ module _ (d : Plan) (marks : List Bool) (kept left : List ℕ) (parted : ArePart
         ])
   ]
 
-  by_spot : (j : ℕ) → j < length d.points → (s : Spot) → IsPlaceOf (half_edges d kept) vs (twice (object d j)) s
+  by_spot : (j : ℕ) → j < length d.points → (s : Spot)
+      → IsPlaceOf (half_edges d kept) vs (twice (object d j)) s
       → IsPointPlace d r (λ (i : ℕ). mark_of marks i) l.count at_face j (point_place l.mesh.face kept s)
   by_spot j k (place.Cell p lower upper) c =
       let (at_v, f) = cell_number d kept st vs run l faces (twice (object d j)) p lower upper c in
@@ -254,13 +281,16 @@ module _ (d : Plan) (marks : List Bool) (kept left : List ℕ) (parted : ArePart
   first_known : (j : ℕ) → j < length d.points → j < length (half_points d left)
   first_known j k = let n = points_count d left in omega (arith, k, n)
 
-  pub point_in : (j : ℕ) → j < length d.points → IsPointPlace d r (λ (i : ℕ). mark_of marks i) l.count at_face j (point_place l.mesh.face kept (place_at places j))
+  pub point_in : (j : ℕ) → j < length d.points
+      → IsPointPlace d r (λ (i : ℕ). mark_of marks i) l.count at_face j (point_place l.mesh.face kept (place_at places j))
   point_in j k = by_spot j k (place_at places j) (subst (λ (v : Point). IsPlaceOf (half_edges d kept) vs v (place_at places j)) (object_point d left j k) (located.each j (first_known j k)))
 
-  pub point_below : (j : ℕ) → j < length d.points → IsPlaceBelow l.count (point_place l.mesh.face kept (place_at places j))
+  pub point_below : (j : ℕ) → j < length d.points
+      → IsPlaceBelow l.count (point_place l.mesh.face kept (place_at places j))
   point_below j k = of_spot (place_at places j) (subst (λ (v : Point). IsPlaceOf (half_edges d kept) vs v (place_at places j)) (object_point d left j k) (located.each j (first_known j k)))
     where
-      of_spot : (s : Spot) → IsPlaceOf (half_edges d kept) vs (twice (object d j)) s → IsPlaceBelow l.count (point_place l.mesh.face kept s)
+      of_spot : (s : Spot) → IsPlaceOf (half_edges d kept) vs (twice (object d j)) s
+          → IsPlaceBelow l.count (point_place l.mesh.face kept s)
       of_spot (place.Cell p lower upper) c = cell_below d kept st vs run l faces (twice (object d j)) p lower upper c
       of_spot (place.OnEdge i) c = tt
 
@@ -268,10 +298,12 @@ module _ (d : Plan) (marks : List Bool) (kept left : List ℕ) (parted : ArePart
   goes_out : AreStraightsOut d (rest_plan d kept) (λ (i : ℕ). mark_of marks i)
   goes_out = outs d out kept known stays_in rises whole mend.straights mend.pairs
 
-  middle_free : (i : ℕ) → i < length d.curves → mark_of marks i ≡ true → (curve d i).from ≡ (curve d i).to → ⊥
+  middle_free : (i : ℕ) → i < length d.curves → mark_of marks i ≡ true
+      → (curve d i).from ≡ (curve d i).to → ⊥
   middle_free i k t = (is_drawn d out kept known stays_in rises whole low high held i k).distinct
 
-  by_middle : (i : ℕ) → i < length d.curves → mark_of marks i ≡ true → (s : Spot) → IsPlaceOf (half_edges d kept) vs (sum (curve d i)) s
+  by_middle : (i : ℕ) → i < length d.curves → mark_of marks i ≡ true → (s : Spot)
+      → IsPlaceOf (half_edges d kept) vs (sum (curve d i)) s
       → (n : ℕ) × (place_face l.mesh.face s ≡ Some n) × IsAt r e E (steps_from [] vs) on face (middle (curve d i)) n
   by_middle i k t (place.Cell p lower upper) c =
       let (at_v, f) = cell_number d kept st vs run l faces (sum (curve d i)) p lower upper c in
@@ -286,7 +318,8 @@ module _ (d : Plan) (marks : List Bool) (kept left : List ℕ) (parted : ArePart
       absurd (inner_off r v (goes_out i k t).0 (goes_out i k t).1 (middle v) M (middle_on v (goes_out i k t).0) (middle_inner v (middle_free i k t)) g (fits g m)
       (subst (λ (x : Curve). IsOn x (middle v)) (sym (rest_curve d out kept known stays_in rises whole g (fits g m))) on_m))
 
-  middle_spot : (m : ℕ) → m < length left → (n : ℕ) × (place_face l.mesh.face (place_at places (length d.points + m)) ≡ Some n) × IsAt r e E (steps_from [] vs) on face (middle (curve d (slice_index left m))) n
+  middle_spot : (m : ℕ) → m < length left
+      → (n : ℕ) × (place_face l.mesh.face (place_at places (length d.points + m)) ≡ Some n) × IsAt r e E (steps_from [] vs) on face (middle (curve d (slice_index left m))) n
   middle_spot m k =
       let n = points_count d left in
       by_middle (slice_index left m) (parted.left_are.known m k) (parted.left_are.mark_is m k) (place_at places (length d.points + m))
@@ -297,7 +330,8 @@ module _ (d : Plan) (marks : List Bool) (kept left : List ℕ) (parted : ArePart
     places_count : length places ≡ length d.points + length left
     places_count = located.size ∙ points_count d left
 
-    pub closed_face : (n : ℕ) → n < l.count → mark_of open_marks n ≡ false → IsClosed d r (λ (i : ℕ). mark_of marks i) (at_face n)
+    pub closed_face : (n : ℕ) → n < l.count → mark_of open_marks n ≡ false
+        → IsClosed d r (λ (i : ℕ). mark_of marks i) (at_face n)
     closed_face n k f =
         closed_number r e half E (steps_from [] vs) on face F low.x right d out st goes_out middle_free (at_face n) n (there_at n k) (number_at n k) (λ i b t.
         let (m, lm, q) = parted.left_are.whole i b t in
@@ -308,7 +342,8 @@ module _ (d : Plan) (marks : List Bool) (kept left : List ℕ) (parted : ArePart
               not_true (mark_of open_marks n) f (opened.opened (length d.points + m) n (omega arith) (let z = places_count in omega (arith, lm, z)) (face_is ∙ ap (λ (x : ℕ). Some x) s)),
         ))
 
-    pub open_face : (n : ℕ) → n < l.count → mark_of open_marks n ≡ true → IsOpen d r (λ (i : ℕ). mark_of marks i) (at_face n)
+    pub open_face : (n : ℕ) → n < l.count → mark_of open_marks n ≡ true
+        → IsOpen d r (λ (i : ℕ). mark_of marks i) (at_face n)
     open_face n k t =
         let (j, first, b, face_is) = opened.only n t in
         let z = places_count in
@@ -338,19 +373,24 @@ module _ (d : Plan) (marks : List Bool) (kept left : List ℕ) (parted : ArePart
     whole_straight = ap (λ (v : Curve). v.kind) (sym curve_is) ∙ straight
 
     -- between the words of the curve's direction and those of its course
-    to_one : (p q : Vector) → CrossesCurve d (course (curve (rest_plan d kept) k)) (slice_index kept k) p q → CrossesOne d (slice_index kept k) p q
+    to_one : (p q : Vector)
+        → CrossesCurve d (course (curve (rest_plan d kept) k)) (slice_index kept k) p q
+        → CrossesOne d (slice_index kept k) p q
     to_one p q x =
         subst (λ (t : CurveKind). CrossesKind t d (slice_index kept k) p q) (sym whole_straight)
         (subst (λ (v : Curve). CrossesCurve d (course v) (slice_index kept k) p q) curve_is x)
 
-    as_course : (p q : Vector) → CrossesOne (rest_plan d kept) k p q → CrossesCurve (rest_plan d kept) (course (curve (rest_plan d kept) k)) k p q
+    as_course : (p q : Vector) → CrossesOne (rest_plan d kept) k p q
+        → CrossesCurve (rest_plan d kept) (course (curve (rest_plan d kept) k)) k p q
     as_course p q x = subst (λ (t : CurveKind). CrossesKind t r k p q) straight x
 
     -- each segment that crosses the curve has these faces at its ends
     module _ (a b : ℕ) (a_there : a < l.count) (b_there : b < l.count)
         (any : (p q : Vector) → CrossesCurve (rest_plan d kept) (course (curve (rest_plan d kept) k)) k p q
         → IsAt r e E (steps_from [] vs) on face p a × IsAt r e E (steps_from [] vs) on face q b) where
-      has_faces : (p q : Vector) → CrossesCurve (rest_plan d kept) (course (curve (rest_plan d kept) k)) k p q → MissesEnds (curve (rest_plan d kept) k) p q
+      has_faces : (p q : Vector)
+          → CrossesCurve (rest_plan d kept) (course (curve (rest_plan d kept) k)) k p q
+          → MissesEnds (curve (rest_plan d kept) k) p q
           → HasCurveFaces d r (λ (i : ℕ). mark_of marks i) rest l.count at_face k (record { left = a; right = b })
       unfolding rest is_rest
       has_faces p q x miss =
@@ -376,11 +416,13 @@ module _ (d : Plan) (marks : List Bool) (kept left : List ℕ) (parted : ArePart
     below_under : slice_index l.mesh.face (number (under k)) < l.count
     below_under = below (under k) (fits_half k lk)
 
-    runs_forth : (g : Edge) (part : IsHalfEdge g (edge_of (edges_of (half_plan (rest_plan d kept))) k) (curve (rest_plan d kept) k)) → g.low ≡ (curve (rest_plan d kept) k).from → g.high ≡ (curve (rest_plan d kept) k).to
+    runs_forth : (g : Edge) (part : IsHalfEdge g (edge_of (edges_of (half_plan (rest_plan d kept))) k) (curve (rest_plan d kept) k))
+        → g.low ≡ (curve (rest_plan d kept) k).from → g.high ≡ (curve (rest_plan d kept) k).to
         → Before (curve (rest_plan d kept) k).from (curve (rest_plan d kept) k).to
     runs_forth g part lo hi = before_twice c.from c.to (subst (λ (v : Point). Before (twice c.from) v) (part.high ∙ ap twice hi) (subst (λ (v : Point). Before v (E k).high) (part.low ∙ ap twice lo) sorted))
 
-    runs_back : (g : Edge) (part : IsHalfEdge g (edge_of (edges_of (half_plan (rest_plan d kept))) k) (curve (rest_plan d kept) k)) → g.low ≡ (curve (rest_plan d kept) k).to → g.high ≡ (curve (rest_plan d kept) k).from
+    runs_back : (g : Edge) (part : IsHalfEdge g (edge_of (edges_of (half_plan (rest_plan d kept))) k) (curve (rest_plan d kept) k))
+        → g.low ≡ (curve (rest_plan d kept) k).to → g.high ≡ (curve (rest_plan d kept) k).from
         → Before (curve (rest_plan d kept) k).from (curve (rest_plan d kept) k).to → ⊥
     runs_back g part lo hi b =
         before_once c.to c.from (before_twice c.to c.from (subst (λ (v : Point). Before (twice c.to) v) (part.high ∙ ap twice hi) (subst (λ (v : Point). Before v (E k).high) (part.low ∙ ap twice lo) sorted))) b
@@ -388,7 +430,8 @@ module _ (d : Plan) (marks : List Bool) (kept left : List ℕ) (parted : ArePart
     direction : Before (curve (rest_plan d kept) k).from (curve (rest_plan d kept) k).to ⊎ (Before (curve (rest_plan d kept) k).from (curve (rest_plan d kept) k).to → ⊥)
     direction = let (g, part) = half_of_edge r e half st E (steps_from [] vs) on face F k m in by_part g part part.of
       where
-        by_part : (g : Edge) (part : IsHalfEdge g (edge_of (edges_of (half_plan (rest_plan d kept))) k) (curve (rest_plan d kept) k)) → IsEdgeOf g (curve (rest_plan d kept) k)
+        by_part : (g : Edge) (part : IsHalfEdge g (edge_of (edges_of (half_plan (rest_plan d kept))) k) (curve (rest_plan d kept) k))
+            → IsEdgeOf g (curve (rest_plan d kept) k)
             → Before (curve (rest_plan d kept) k).from (curve (rest_plan d kept) k).to ⊎ (Before (curve (rest_plan d kept) k).from (curve (rest_plan d kept) k).to → ⊥)
         by_part g part (inl h) = inl (runs_forth g part h.0 h.1)
         by_part g part (inr h) = inr (runs_back g part h.0 h.1)
@@ -399,7 +442,8 @@ module _ (d : Plan) (marks : List Bool) (kept left : List ℕ) (parted : ArePart
     under_number : under_of k ≡ number (under k)
     under_number = omega arith
 
-    pub curve_faces : (f : CurveFaces) → AreSidesOf (curve d (slice_index kept k)) l.mesh.face k f → HasCurveFaces d r (λ (i : ℕ). mark_of marks i) rest l.count at_face k f × (f.left < l.count) × (f.right < l.count)
+    pub curve_faces : (f : CurveFaces) → AreSidesOf (curve d (slice_index kept k)) l.mesh.face k f
+        → HasCurveFaces d r (λ (i : ℕ). mark_of marks i) rest l.count at_face k f × (f.left < l.count) × (f.right < l.count)
     curve_faces f sides =
         let (g, part) = half_of_edge r e half st E (steps_from [] vs) on face F k m in
         let (p, q, x) = some_crossing r e half st E (steps_from [] vs) on face F k m g part in
@@ -461,7 +505,8 @@ module _ (d : Plan) (marks : List Bool) (kept left : List ℕ) (parted : ArePart
     point_size : length d.points ≤ length places
     point_size = let z = located.size in let n = points_count d left in omega (arith, z, n)
 
-    nth_point : (j : ℕ) → j < length d.points → slice_index_or f.points.items j (InFace 0) ≡ point_place l.mesh.face kept (place_at places j)
+    nth_point : (j : ℕ) → j < length d.points
+        → slice_index_or f.points.items j (InFace 0) ≡ point_place l.mesh.face kept (place_at places j)
     nth_point j k =
         let n = length-take-le (length d.points) places point_size in
         ap (λ (ps : List PointPlace). slice_index_or ps j (InFace 0)) points
@@ -487,7 +532,8 @@ module _ (d : Plan) (marks : List Bool) (kept left : List ℕ) (parted : ArePart
     ]
 
     -- each half of an edge has its face beside its curve
-    beside : (h : Half) → half_edge_of h < length kept → HasCurveBeside f (slice_index l.mesh.face (number h))
+    beside : (h : Half) → half_edge_of h < length kept
+        → HasCurveBeside f (slice_index l.mesh.face (number h))
     beside (over n) k =
         let (g, g_is, sides) = curves.each n k in
         record {

@@ -28,7 +28,8 @@ twice_inside low high p h = record {
     up : (a b : ℤ) → a ≤ℤ b → (pos 2 *ℤ a) ≤ℤ (pos 2 *ℤ b)
     up a b h = omega (arith, ints, h)
 
-pub sum_inside : (low high : Point) (c : Curve) → IsInside low high c.from → IsInside low high c.to → IsInHalves low high (sum c)
+pub sum_inside : (low high : Point) (c : Curve) → IsInside low high c.from → IsInside low high c.to
+    → IsInHalves low high (sum c)
 sum_inside low high c h k = record {
   left = under low.x c.from.x c.to.x h.left k.left;
   right = over c.from.x c.to.x high.x h.right k.right;
@@ -43,23 +44,27 @@ sum_inside low high c h k = record {
     over a b c h k = omega (arith, ints, h, k)
 
 -- they are near each other
-pub halves_near : (low high p q : Point) → IsNarrow low high → IsInHalves low high p → IsInHalves low high q → AreNear (2 ^ 41) p q
+pub halves_near : (low high p q : Point) → IsNarrow low high → IsInHalves low high p
+    → IsInHalves low high q → AreNear (2 ^ 41) p q
 halves_near low high p q n h k = record {
   x = near low.x high.x p.x q.x n.x h.left h.right k.left k.right;
   y = near low.y high.y p.y q.y n.y h.bottom h.top k.bottom k.top;
 }
   where
-    near : (l h a b : ℤ) → (h -ℤ l) <ℤ pos (2 ^ 40) → (pos 2 *ℤ l) ≤ℤ a → a ≤ℤ (pos 2 *ℤ h) → (pos 2 *ℤ l) ≤ℤ b → b ≤ℤ (pos 2 *ℤ h) → IsNear (2 ^ 41) a b
+    near : (l h a b : ℤ) → (h -ℤ l) <ℤ pos (2 ^ 40) → (pos 2 *ℤ l) ≤ℤ a → a ≤ℤ (pos 2 *ℤ h)
+        → (pos 2 *ℤ l) ≤ℤ b → b ≤ℤ (pos 2 *ℤ h) → IsNear (2 ^ 41) a b
     near l h a b n c d e f = record { above = omega (arith, ints, n, c, d, e, f); below = omega (arith, ints, n, c, d, e, f) }
 
 -- points of a window have few digits
-pub inside_short : (low high p : Point) → IsShort low → IsShort high → IsInside low high p → IsShort p
+pub inside_short : (low high p : Point) → IsShort low → IsShort high → IsInside low high p
+    → IsShort p
 inside_short low high p s t h = record {
   x = between low.x high.x p.x s.x t.x h.left h.right;
   y = between low.y high.y p.y s.y t.y h.bottom h.top;
 }
   where
-    between : (l h z : ℤ) → IsWithin (10 ^ 18) l → IsWithin (10 ^ 18) h → l ≤ℤ z → z ≤ℤ h → IsWithin (10 ^ 18) z
+    between : (l h z : ℤ) → IsWithin (10 ^ 18) l → IsWithin (10 ^ 18) h → l ≤ℤ z → z ≤ℤ h
+        → IsWithin (10 ^ 18) z
     between l h z s t a b = let u = s.low in let v = t.high in record { low = omega (arith, ints, u, a); high = omega (arith, ints, v, b) }
 
 -- points in half units are in order, and differ, as in whole units

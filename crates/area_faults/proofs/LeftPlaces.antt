@@ -1,5 +1,6 @@
 -- Places on the left of all straights of a drawing: they are outer, and outer places are joined.
-use Rattle.std.proofs.Common.{◌≡◌, ℕ, ◌<◌, length, ℤ, pos, ◌*ℤ◌, ◌-ℤ◌, ◌<ℤ◌, ◌≤ℤ◌, [], ◌∷◌, refl, arith}
+use Rattle.std.proofs.Common.{◌≡◌, ℕ, ◌<◌, length, ℤ, pos, ◌*ℤ◌, ◌-ℤ◌, ◌<ℤ◌, ◌≤ℤ◌, [], ◌∷◌, refl}
+use Rattle.std.proofs.Common.{arith}
 use Rattle.std.proofs.lemmas.Int.{ints, by_lt_z}
 use Rattle.plane.specs.declared.kinds.CurveKind.TheVariants as kind
 use Rattle.plane.specs.Forms.Vectors.{Between, mix}
@@ -67,7 +68,8 @@ module _ (l : ℤ) (r : Plan) (right : IsRightOf l r) where
   one : (x : ℤ) → l ≤ℤ x → (l *ℤ pos 1) ≤ℤ x
   one x h = omega (arith, ints, h)
 
-  never_on : (z : Vector) → Place z → IsLeft z → (k : ℕ) → k < length r.curves → IsOn (curve r k) z → ⊥
+  never_on : (z : Vector) → Place z → IsLeft z → (k : ℕ) → k < length r.curves → IsOn (curve r k) z
+      → ⊥
   never_on z Z h k m on =
       let c = curve r k in
       let b = straight_between (point c.from) (point c.to) z (place_point c.from) (place_point c.to) Z (on_straight c z (right.straight k m) on) in
@@ -124,5 +126,6 @@ module _ (l : ℤ) (r : Plan) (right : IsRightOf l r) where
       joined_through r p left_place q P left_there (to_left p P h) (joined_back r q left_place Q left_there (to_left q Q k))
 
 -- what is joined to an outer place is outer
-pub outer_along : (r : Plan) (p q : Vector) → Place p → Place q → Joined r p q → IsOuter r q → IsOuter r p
+pub outer_along : (r : Plan) (p q : Vector) → Place p → Place q → Joined r p q → IsOuter r q
+    → IsOuter r p
 outer_along r p q P Q j o b = let (s, S, k, h) = o b in (s, S, joined_through r p q s P Q j k, h)

@@ -1,5 +1,6 @@
 -- Marks of the curves of the first pairs of a list.
-use Rattle.std.proofs.Common.{◌≡◌, ◌↔◌, ◌⊎◌, inl, inr, ℕ, suc, ◌+◌, ◌<◌, ◌≤◌, ◌≢◌, Bool, true, false, List, length, zero, get_or, set, sym, ◌∙◌, ap, subst, arith}
+use Rattle.std.proofs.Common.{◌≡◌, ◌↔◌, ◌⊎◌, inl, inr, ℕ, suc, ◌+◌, ◌<◌, ◌≤◌, ◌≢◌, Bool, true}
+use Rattle.std.proofs.Common.{false, List, length, zero, get_or, set, sym, ◌∙◌, ap, subst, arith}
 use Rattle.std.proofs.lemmas.List.{get_or_default, get_or-set_other, get_or-set_same}
 use Rattle.fault_lists.specs.FaultLists.{IsMet}
 use Rattle.near_pairs.specs.Boxes.{mark_of}
@@ -12,7 +13,8 @@ by_lt (suc i) zero f g = g (omega arith)
 by_lt (suc i) (suc j) f g = by_lt i j (λ l. f (omega (arith, l))) (λ l. g (omega (arith, l)))
 
 -- ---- one mark
-pub marked_one : (marks : List Bool) (n i : ℕ) → n < length marks → (mark_of (set marks n true) i ≡ true) ↔ ((mark_of marks i ≡ true) ⊎ (n ≡ i))
+pub marked_one : (marks : List Bool) (n i : ℕ) → n < length marks
+    → (mark_of (set marks n true) i ≡ true) ↔ ((mark_of marks i ≡ true) ⊎ (n ≡ i))
 marked_one marks n i l = by_lt n i (λ (a : n < i). other (λ e. omega (arith, a, e))) (λ (b : i ≤ n). by_lt i n (λ (a : i < n). other (λ e. omega (arith, a, e))) (λ (a : n ≤ i). same (omega (arith, a, b))))
   where
     same : n ≡ i → (mark_of (set marks n true) i ≡ true) ↔ ((mark_of marks i ≡ true) ⊎ (n ≡ i))
@@ -40,7 +42,8 @@ IsMetBelow ms n i = (m : MeetingAt) × IsAmong ms n m × IsOf m i
 abbrev pub AreMarked : List MeetingAt → ℕ → List Bool → Type 0
 AreMarked ms n marks = (i : ℕ) → (mark_of marks i ≡ true) ↔ IsMetBelow ms n i
 
-pub none_marked : (ms : List MeetingAt) (marks : List Bool) → ((i : ℕ) → mark_of marks i ≡ false) → AreMarked ms 0 marks
+pub none_marked : (ms : List MeetingAt) (marks : List Bool) → ((i : ℕ) → mark_of marks i ≡ false)
+    → AreMarked ms 0 marks
 none_marked ms marks e i = ((λ x. absurd (unmarked (sym (e i) ∙ x))), (λ x. none_below x))
   where
     unmarked : false ≡ true → ⊥
@@ -50,7 +53,8 @@ none_marked ms marks e i = ((λ x. absurd (unmarked (sym (e i) ∙ x))), (λ x. 
     none_below x = let l = x.1.first in absurd (omega (arith, l))
 
 -- one pair more
-pub marked_next : (ms : List MeetingAt) (n : ℕ) (d : MeetingAt) (marks once both : List Bool) → n < length ms
+pub marked_next : (ms : List MeetingAt) (n : ℕ) (d : MeetingAt) (marks once both : List Bool)
+    → n < length ms
     → ((i : ℕ) → (mark_of once i ≡ true) ↔ ((mark_of marks i ≡ true) ⊎ ((get_or ms n d).first ≡ i)))
     → ((i : ℕ) → (mark_of both i ≡ true) ↔ ((mark_of once i ≡ true) ⊎ ((get_or ms n d).second ≡ i)))
     → AreMarked ms n marks → AreMarked ms (n + 1) both
@@ -82,7 +86,8 @@ marked_next ms n d marks once both l f s m i = ((λ x. into ((s i).0 x)), (λ x.
         by_lt x.1.k n (λ (b : x.1.k < n). old (x.0, record { k = x.1.k; first = b; there = x.1.there; is = x.1.is }, x.2))
         (λ (b : n ≤ x.1.k). last x.0 (get_or_default ms n d x.0 l ∙ (ap (λ (j : ℕ). get_or ms j x.0) (omega (arith, a, b)) ∙ x.1.is)) x.2)
 
-pub all_marked : (ms : List MeetingAt) (n : ℕ) (marks : List Bool) → length ms ≤ n → AreMarked ms n marks
+pub all_marked : (ms : List MeetingAt) (n : ℕ) (marks : List Bool) → length ms ≤ n
+    → AreMarked ms n marks
     → (i : ℕ) → (mark_of marks i ≡ true) ↔ IsMet ms i
 all_marked ms n marks l m i = (
   (λ x. let a = (m i).0 x in (a.0, (a.1.k, a.1.there, a.1.is), a.2)),

@@ -1,5 +1,7 @@
 -- Lists of entries by their codes.
-use Rattle.std.proofs.Common.{add-one, ◌≡◌, ℕ, zero, suc, ◌+◌, ◌/◌, ◌%◌, ◌^◌, ◌<◌, ◌≤◌, Bool, true, List, [], ◌∷◌, ◌++◌, length, get_or, map, take, refl, arith, ap, sym, ◌∙◌, subst}
+use Rattle.std.proofs.Common.{add-one, ◌≡◌, ℕ, zero, suc, ◌+◌, ◌/◌, ◌%◌, ◌^◌, ◌<◌, ◌≤◌, Bool, true}
+use Rattle.std.proofs.Common.{List, [], ◌∷◌, ◌++◌, length, get_or, map, take, refl, arith, ap, sym}
+use Rattle.std.proofs.Common.{◌∙◌, subst}
 use Rattle.std.specs.List.{Contains}
 use Rattle.std.specs.List.Sorted.{IsStrictlyIncreasing}
 use Rattle.std.proofs.lemmas.List.{length-append, get_or_append_left, map-append}
@@ -30,7 +32,8 @@ pub same_pair : (i j k l : ℕ) → j < 2 ^ 32 → l < 2 ^ 32 → code i j ≡ c
 same_pair i j k l h m e = let f = same_first i j k l h m e in (f, omega (arith, e, f))
 
 -- the two numbers of a code
-pub numbers_of : (c first second : ℕ) → first ≡ c / 2 ^ 32 → second ≡ c % 2 ^ 32 → (second < 2 ^ 32) × (code first second ≡ c)
+pub numbers_of : (c first second : ℕ) → first ≡ c / 2 ^ 32 → second ≡ c % 2 ^ 32
+    → (second < 2 ^ 32) × (code first second ≡ c)
 numbers_of c first second e f = (omega (arith, f), omega (arith, e, f))
 
 same_numbers : (sought : ℕ → ℕ → Type 0) (n : ℕ) (p : NearPair) (first second : ℕ) → p.first ≡ first → p.second ≡ second → IsPair sought n p → IsPair sought n (record { first = first; second = second })
@@ -41,7 +44,8 @@ same_numbers sought n p first second e f h = record {
 }
 
 -- the pair of a code, by its two numbers
-pub code_pair : (d : Plan) (c : ℕ) → length d.curves < 2 ^ 32 → IsCode (IsBadPair d) (length d.curves) c → IsBadPair d (c / 2 ^ 32) (c % 2 ^ 32)
+pub code_pair : (d : Plan) (c : ℕ) → length d.curves < 2 ^ 32
+    → IsCode (IsBadPair d) (length d.curves) c → IsBadPair d (c / 2 ^ 32) (c % 2 ^ 32)
 code_pair d c small h =
     let n = numbers_of c (c / 2 ^ 32) (c % 2 ^ 32) refl refl in
     let t = h.sought.there in
@@ -49,17 +53,21 @@ code_pair d c small h =
     (same_numbers (IsBadPair d) (length d.curves) h.pair (c / 2 ^ 32) (c % 2 ^ 32) same.0 same.1 h.sought).sought
 
 -- ---- entries
-contains_of_map : {T : Type 0} (f : T → ℕ) (xs : List T) (c : ℕ) → Contains (map f xs) c → (x : T) × Contains xs x × (f x ≡ c)
+contains_of_map : {T : Type 0} (f : T → ℕ) (xs : List T) (c : ℕ) → Contains (map f xs) c
+    → (x : T) × Contains xs x × (f x ≡ c)
 contains_of_map f [] c (i, l, e) = absurd (omega (arith, l))
 contains_of_map f (x ∷ xs) c (zero, l, e) = (x, (0, omega arith, refl), e)
 contains_of_map f (x ∷ xs) c (suc i, l, e) = let (y, (j, m, g), h) = contains_of_map f xs c (i, omega (arith, l), e) in (y, (suc j, omega (arith, m), g), h)
 
-take_one : (xs : List ℕ) (k x : ℕ) → k < length xs → get_or xs k x ≡ x → take (suc k) xs ≡ take k xs ++ x ∷ []
+take_one : (xs : List ℕ) (k x : ℕ) → k < length xs → get_or xs k x ≡ x
+    → take (suc k) xs ≡ take k xs ++ x ∷ []
 take_one [] k x l e = absurd (omega (arith, l))
 take_one (y ∷ xs) zero x l e = ap (λ (z : ℕ). z ∷ []) e
 take_one (y ∷ xs) (suc k) x l e = ap (λ (zs : List ℕ). y ∷ zs) (take_one xs k x (omega (arith, l)) e)
 
-pub entries_more : (d : Plan) (codes : List ℕ) (k c : ℕ) (ms new : List MeetingAt) (m : MeetingAt) → k < length codes → get_or codes k c ≡ c → AreEntries d (take k codes) ms → new ≡ ms ++ m ∷ [] → entry_code m ≡ c → IsMeeting d m → AreEntries d (take (k + 1) codes) new
+pub entries_more : (d : Plan) (codes : List ℕ) (k c : ℕ) (ms new : List MeetingAt) (m : MeetingAt)
+    → k < length codes → get_or codes k c ≡ c → AreEntries d (take k codes) ms → new ≡ ms ++ m ∷ []
+    → entry_code m ≡ c → IsMeeting d m → AreEntries d (take (k + 1) codes) new
 entries_more d codes k c ms new m l at a q e h = record {
   codes_are = ap (map entry_code) q ∙ map-append entry_code ms (m ∷ []) ∙ ap (λ (xs : List ℕ). xs ++ entry_code m ∷ []) a.codes_are ∙ ap (λ (x : ℕ). take k codes ++ x ∷ []) e ∙ sym (ap (λ (n : ℕ). take n codes) (add-one k) ∙ take_one codes k c l at);
   each = λ i o n. by_lt i (length ms)
@@ -94,7 +102,8 @@ module _ (d : Plan) (small : length d.curves < 2 ^ 32) (n : ℕ) (size : n ≡ l
   }
 
 -- bad pairs are near
-pub bad_is_near : (d : Plan) (boxes : List Reach) (marks : List Bool) → AreReachesTo d.curves (length d.curves) boxes → AreMeetingMarks d marks
+pub bad_is_near : (d : Plan) (boxes : List Reach) (marks : List Bool)
+    → AreReachesTo d.curves (length d.curves) boxes → AreMeetingMarks d marks
     → ((c e : Curve) (a b : Box) → AreBad c e → HoldsCurve a c → HoldsCurve b e → (z : Vector) × Place z × InBox a z × InBox b z)
     → (i j : ℕ) → IsBadPair d i j → AreNear boxes marks i j
 bad_is_near d boxes marks r m law i j p = record {

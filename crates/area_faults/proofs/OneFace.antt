@@ -1,5 +1,7 @@
 -- Where all curves are left out the plane is one face, which each curve enters.
-use Rattle.std.proofs.Common.{◌≡◌, inl, ℕ, zero, suc, ◌<◌, ℤ, pos, ◌-ℤ◌, Bool, true, false, List, [], ◌∷◌, Option, None, length, replicate, slice_index_or, refl, sym, ◌∙◌, subst, ap, arith}
+use Rattle.std.proofs.Common.{◌≡◌, inl, ℕ, zero, suc, ◌<◌, ℤ, pos, ◌-ℤ◌, Bool, true, false, List}
+use Rattle.std.proofs.Common.{[], ◌∷◌, Option, None, length, replicate, slice_index_or, refl, sym}
+use Rattle.std.proofs.Common.{◌∙◌, subst, ap, arith}
 use Rattle.std.proofs.lemmas.Int.{ints}
 use Rattle.std.proofs.lemmas.List.{length-replicate}
 use Rattle.plane.specs.Rule.Curves.{Hits}
@@ -9,7 +11,8 @@ use Rattle.plane.specs.Rule.Places.{Vector, Place, point}
 use Rattle.plane.specs.Rule.Plans.{Plan, curve, object}
 use Rattle.plane.proofs.Covers.CurvePlaces.{control_on, hits_alone}
 use Rattle.plane.proofs.Linear.EdgePlaces.{place_point}
-use Rattle.fault_lists.specs.DrawingFaces.{AreCurveFaces, AreFacePlaces, HasFaces, IsPointInFace, IsPointPlace, face_count, faces_of, is_open, place_of}
+use Rattle.fault_lists.specs.DrawingFaces.{AreCurveFaces, AreFacePlaces, HasFaces, IsPointInFace}
+use Rattle.fault_lists.specs.DrawingFaces.{IsPointPlace, face_count, faces_of, is_open, place_of}
 use Rattle.fault_lists.specs.declared.faces.CurveFaces.{CurveFaces}
 use Rattle.fault_lists.specs.declared.faces.DrawingFaces.{DrawingFaces}
 use Rattle.fault_lists.specs.declared.faces.PointPlace.{PointPlace}
@@ -96,7 +99,8 @@ module _ (d : Plan) where
   replicated (suc n) x zero = refl
   replicated (suc n) x (suc j) = replicated n x j
 
-  pub one_face : (f : DrawingFaces) (any : Bool) → (any ≡ true → 0 < length d.curves) → (any ≡ false → length d.curves ≡ 0) → f.open.items ≡ any ∷ []
+  pub one_face : (f : DrawingFaces) (any : Bool) → (any ≡ true → 0 < length d.curves)
+      → (any ≡ false → length d.curves ≡ 0) → f.open.items ≡ any ∷ []
       → f.points.items ≡ replicate (length d.points) (InFace 0) → f.curves.items ≡ replicate (length d.curves) None → HasFaces d (λ i. true) f
   one_face f any some nothing opens points curves = (
     bare d,

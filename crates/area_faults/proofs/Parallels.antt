@@ -1,11 +1,13 @@
 -- Two parallel straights with a common place: an end of one is on the other.
-use Rattle.std.proofs.Common.{◌≡◌, ◌⊎◌, inl, inr, ℤ, pos, ◌+ℤ◌, ◌*ℤ◌, ◌-ℤ◌, ◌<ℤ◌, ◌≤ℤ◌, [], ◌∷◌, refl, ap, sym, ◌∙◌, arith}
+use Rattle.std.proofs.Common.{◌≡◌, ◌⊎◌, inl, inr, ℤ, pos, ◌+ℤ◌, ◌*ℤ◌, ◌-ℤ◌, ◌<ℤ◌, ◌≤ℤ◌, [], ◌∷◌}
+use Rattle.std.proofs.Common.{refl, ap, sym, ◌∙◌, arith}
 use Rattle.std.proofs.lemmas.Int.{ints, by_lt_z}
 use Rattle.plane.specs.declared.kinds.Point.{Point}
 use Rattle.plane.specs.Rule.MeetingPlaces.{turning}
 use Rattle.plane.specs.Rule.Places.{Vector, Place, point}
 use Rattle.plane.specs.Rule.Straights.{turn, dot, IsOnStraight}
-use Rattle.plane.proofs.Algebra.Laws.{product_nonnegative, product_positive, square_nonnegative, square_zero}
+use Rattle.plane.proofs.Algebra.Laws.{product_nonnegative, product_positive, square_nonnegative}
+use Rattle.plane.proofs.Algebra.Laws.{square_zero}
 use Rattle.plane.proofs.Algebra.Ring.{Expr, at, num, plus, minus, times, vars, ring}
 use Rattle.plane.proofs.Algebra.Scaling.{cancel_le, cancel_zero, product_of_zero}
 
@@ -67,7 +69,8 @@ DP : Expr → Expr → Expr → Expr → Expr
 DP x y s t = plus (times x s) (times y t)
 
 -- what is parallel to u is parallel
-both_parallel : (ux uy vx vy wx wy : ℤ) → pos 0 <ℤ dp ux uy ux uy → cr ux uy vx vy ≡ pos 0 → cr ux uy wx wy ≡ pos 0 → cr vx vy wx wy ≡ pos 0
+both_parallel : (ux uy vx vy wx wy : ℤ) → pos 0 <ℤ dp ux uy ux uy → cr ux uy vx vy ≡ pos 0
+    → cr ux uy wx wy ≡ pos 0 → cr vx vy wx wy ≡ pos 0
 unfolding CR DP
 both_parallel ux uy vx vy wx wy U h k =
     let i = ring (times (DP (at 0) (at 1) (at 0) (at 1)) (CR (at 2) (at 3) (at 4) (at 5)))
@@ -106,7 +109,8 @@ sx z p = z.x -ℤ (z.n *ℤ p.x)
 abbrev sy : Vector → Point → ℤ
 sy z p = z.y -ℤ (z.n *ℤ p.y)
 
-turn_step : (a b : Point) (z : Vector) → turn (point a) (point b) z ≡ cr (b.x -ℤ a.x) (b.y -ℤ a.y) (sx z a) (sy z a)
+turn_step : (a b : Point) (z : Vector)
+    → turn (point a) (point b) z ≡ cr (b.x -ℤ a.x) (b.y -ℤ a.y) (sx z a) (sy z a)
 unfolding CR
 turn_step a b z =
     let O = num (pos 1) in
@@ -114,7 +118,8 @@ turn_step a b z =
     (CR (minus (at 2) (at 0)) (minus (at 3) (at 1)) (minus (at 4) (times (at 6) (at 0))) (minus (at 5) (times (at 6) (at 1))))
     (vars (a.x ∷ a.y ∷ b.x ∷ b.y ∷ z.x ∷ z.y ∷ z.n ∷ [])) refl
 
-dot_step : (a b : Point) (z : Vector) → dot (point a) (point b) z ≡ dp (sx z a) (sy z a) (sx z b) (sy z b)
+dot_step : (a b : Point) (z : Vector)
+    → dot (point a) (point b) z ≡ dp (sx z a) (sy z a) (sx z b) (sy z b)
 unfolding DP
 dot_step a b z =
     let O = num (pos 1) in
@@ -123,7 +128,8 @@ dot_step a b z =
     (vars (a.x ∷ a.y ∷ b.x ∷ b.y ∷ z.x ∷ z.y ∷ z.n ∷ [])) refl
 
 -- the same of a point e, by steps to the place
-turn_point : (a b e : Point) (z : Vector) → z.n *ℤ turn (point a) (point b) (point e) ≡ cr (b.x -ℤ a.x) (b.y -ℤ a.y) (sx z a) (sy z a) -ℤ cr (b.x -ℤ a.x) (b.y -ℤ a.y) (sx z e) (sy z e)
+turn_point : (a b e : Point) (z : Vector)
+    → z.n *ℤ turn (point a) (point b) (point e) ≡ cr (b.x -ℤ a.x) (b.y -ℤ a.y) (sx z a) (sy z a) -ℤ cr (b.x -ℤ a.x) (b.y -ℤ a.y) (sx z e) (sy z e)
 unfolding CR
 turn_point a b e z =
     let O = num (pos 1) in
@@ -133,7 +139,8 @@ turn_point a b e z =
     (minus (CR ux uy (minus (at 6) (times (at 8) (at 0))) (minus (at 7) (times (at 8) (at 1)))) (CR ux uy (minus (at 6) (times (at 8) (at 4))) (minus (at 7) (times (at 8) (at 5)))))
     (vars (a.x ∷ a.y ∷ b.x ∷ b.y ∷ e.x ∷ e.y ∷ z.x ∷ z.y ∷ z.n ∷ [])) refl
 
-dot_point : (a b e : Point) (z : Vector) → (z.n *ℤ z.n) *ℤ dot (point a) (point b) (point e) ≡ dp (sx z e -ℤ sx z a) (sy z e -ℤ sy z a) (sx z e -ℤ sx z b) (sy z e -ℤ sy z b)
+dot_point : (a b e : Point) (z : Vector)
+    → (z.n *ℤ z.n) *ℤ dot (point a) (point b) (point e) ≡ dp (sx z e -ℤ sx z a) (sy z e -ℤ sy z a) (sx z e -ℤ sx z b) (sy z e -ℤ sy z b)
 unfolding DP
 dot_point a b e z =
     let O = num (pos 1) in
@@ -144,12 +151,14 @@ dot_point a b e z =
     (vars (a.x ∷ a.y ∷ b.x ∷ b.y ∷ e.x ∷ e.y ∷ z.x ∷ z.y ∷ z.n ∷ [])) refl
 
 -- steps add up
-way_between : (wx wy sx sy tx ty : ℤ) → dp wx wy (sx -ℤ tx) (sy -ℤ ty) ≡ dp wx wy sx sy -ℤ dp wx wy tx ty
+way_between : (wx wy sx sy tx ty : ℤ)
+    → dp wx wy (sx -ℤ tx) (sy -ℤ ty) ≡ dp wx wy sx sy -ℤ dp wx wy tx ty
 unfolding DP
 way_between wx wy sx sy tx ty =
     ring (DP (at 0) (at 1) (minus (at 2) (at 4)) (minus (at 3) (at 5))) (minus (DP (at 0) (at 1) (at 2) (at 3)) (DP (at 0) (at 1) (at 4) (at 5))) (vars (wx ∷ wy ∷ sx ∷ sy ∷ tx ∷ ty ∷ [])) refl
 
-turn_between : (wx wy sx sy tx ty : ℤ) → cr wx wy (sx -ℤ tx) (sy -ℤ ty) ≡ cr wx wy sx sy -ℤ cr wx wy tx ty
+turn_between : (wx wy sx sy tx ty : ℤ)
+    → cr wx wy (sx -ℤ tx) (sy -ℤ ty) ≡ cr wx wy sx sy -ℤ cr wx wy tx ty
 unfolding CR
 turn_between wx wy sx sy tx ty =
     ring (CR (at 0) (at 1) (minus (at 2) (at 4)) (minus (at 3) (at 5))) (minus (CR (at 0) (at 1) (at 2) (at 3)) (CR (at 0) (at 1) (at 4) (at 5))) (vars (wx ∷ wy ∷ sx ∷ sy ∷ tx ∷ ty ∷ [])) refl
@@ -175,7 +184,8 @@ long a b d =
 
 -- A point is on a straight where it and the straight's ends are on one line with the place, and the
 -- point's way along a step w is between those of the ends.
-point_inside : (a b e : Point) (z : Vector) (wx wy : ℤ) → Place z → pos 0 <ℤ dp wx wy wx wy → cr wx wy (sx z a) (sy z a) ≡ pos 0 → cr wx wy (sx z e) (sy z e) ≡ pos 0
+point_inside : (a b e : Point) (z : Vector) (wx wy : ℤ) → Place z → pos 0 <ℤ dp wx wy wx wy
+    → cr wx wy (sx z a) (sy z a) ≡ pos 0 → cr wx wy (sx z e) (sy z e) ≡ pos 0
     → cr (b.x -ℤ a.x) (b.y -ℤ a.y) (sx z a) (sy z a) ≡ pos 0 → cr (b.x -ℤ a.x) (b.y -ℤ a.y) (sx z e) (sy z e) ≡ pos 0
     → ((dp wx wy (sx z e) (sy z e) -ℤ dp wx wy (sx z a) (sy z a)) *ℤ (dp wx wy (sx z e) (sy z e) -ℤ dp wx wy (sx z b) (sy z b))) ≤ℤ pos 0
     → IsOnStraight (point a) (point b) (point e)

@@ -1,6 +1,9 @@
 -- The run over the rest in half units, and the numbers of what is located in it.
-use Rattle.std.proofs.Common.{◌≡◌, ℕ, ◌+◌, ◌<◌, Option, Some, None, List, [], ◌∷◌, length, map, take, slice_index, slice_index_or, pos, arith, refl, sym, ◌∙◌, subst, ap}
-use Rattle.std.proofs.lemmas.List.{get_or-append-add, get_or-map, get_or_append_left, length-append, length-map}
+use Rattle.std.proofs.Common.{◌≡◌, ℕ, ◌+◌, ◌<◌, Option, Some, None, List, [], ◌∷◌, length, map}
+use Rattle.std.proofs.Common.{take, slice_index, slice_index_or, pos, arith, refl, sym, ◌∙◌, subst}
+use Rattle.std.proofs.Common.{ap}
+use Rattle.std.proofs.lemmas.List.{get_or-append-add, get_or-map, get_or_append_left, length-append}
+use Rattle.std.proofs.lemmas.List.{length-map}
 use Rattle.area_search.specs.Settled.Cases.{face_over}
 use Rattle.area_search.proofs.SettledLemmas.ListPlaces.{before_has, label_before, over_or}
 use Rattle.faces.specs.declared.labelled.Labelled.{Labelled}
@@ -34,28 +37,33 @@ use Rattle.area_faults.specs.RestFaces.{AreRunFaces, half_edges, half_plan, half
 use Rattle.area_faults.proofs.RestDrawings.{is_doubled}
 
 -- ---- the lists of edges and points
-maps_are : (d : Plan) (xs : List ℕ) → map (λ (i : ℕ). straight_edge (twice_curve (curve d i))) xs ≡ map straight_edge (map twice_curve (map (λ (i : ℕ). curve d i) xs))
+maps_are : (d : Plan) (xs : List ℕ)
+    → map (λ (i : ℕ). straight_edge (twice_curve (curve d i))) xs ≡ map straight_edge (map twice_curve (map (λ (i : ℕ). curve d i) xs))
 maps_are d [] = refl
 maps_are d (x ∷ xs) = ap (λ (es : List Edge). straight_edge (twice_curve (curve d x)) ∷ es) (maps_are d xs)
 
 -- the edges are those of the rest in half units
-pub edges_are : (d : Plan) (kept : List ℕ) → half_edges d kept ≡ edges_of (half_plan (rest_plan d kept))
+pub edges_are : (d : Plan) (kept : List ℕ)
+    → half_edges d kept ≡ edges_of (half_plan (rest_plan d kept))
 edges_are d kept = maps_are d kept
 
-pub object_point : (d : Plan) (left : List ℕ) (j : ℕ) → j < length d.points → slice_index_or (half_points d left) j no_point ≡ twice (object d j)
+pub object_point : (d : Plan) (left : List ℕ) (j : ℕ) → j < length d.points
+    → slice_index_or (half_points d left) j no_point ≡ twice (object d j)
 object_point d left j l =
     let n = length-map d.points (λ (p : Placed). twice p.at) in
     get_or_append_left (map (λ (p : Placed). twice p.at) d.points) (map (λ (i : ℕ). sum (curve d i)) left) no_point j (omega (arith, l, n))
     ∙ get_or-map (λ (p : Placed). twice p.at) d.points j _ no_point l
 
-pub middle_point : (d : Plan) (left : List ℕ) (m : ℕ) → m < length left → slice_index_or (half_points d left) (length d.points + m) no_point ≡ sum (curve d (slice_index left m))
+pub middle_point : (d : Plan) (left : List ℕ) (m : ℕ) → m < length left
+    → slice_index_or (half_points d left) (length d.points + m) no_point ≡ sum (curve d (slice_index left m))
 middle_point d left m l =
     let n = length-map d.points (λ (p : Placed). twice p.at) in
     ap (λ (k : ℕ). slice_index_or (half_points d left) (k + m) no_point) (sym n)
     ∙ get_or-append-add (map (λ (p : Placed). twice p.at) d.points) (map (λ (i : ℕ). sum (curve d i)) left) m no_point
     ∙ get_or-map (λ (i : ℕ). sum (curve d i)) left m 0 no_point l
 
-pub points_count : (d : Plan) (left : List ℕ) → length (half_points d left) ≡ length d.points + length left
+pub points_count : (d : Plan) (left : List ℕ)
+    → length (half_points d left) ≡ length d.points + length left
 points_count d left =
     let a = length-append (map (λ (p : Placed). twice p.at) d.points) (map (λ (i : ℕ). sum (curve d i)) left) in
     let b = length-map d.points (λ (p : Placed). twice p.at) in
@@ -80,7 +88,8 @@ module _ (d : Plan) (kept : List ℕ) (straights : (k : ℕ) → k < length (res
   pub edges_count : length (half_edges d kept) ≡ length kept
   edges_count = length-map kept (λ (i : ℕ). straight_edge (twice_curve (curve d i)))
 
-  pub half_straights : (k : ℕ) → k < length (half_plan (rest_plan d kept)).curves → (curve (half_plan (rest_plan d kept)) k).kind ≡ kind.Straight
+  pub half_straights : (k : ℕ) → k < length (half_plan (rest_plan d kept)).curves
+      → (curve (half_plan (rest_plan d kept)) k).kind ≡ kind.Straight
   half_straights k l =
       let m : k < length (rest_plan d kept).curves = (let n = (is_doubled (rest_plan d kept)).count in omega (arith, l, n)) in
       ap (λ (c : Curve). c.kind) ((is_doubled (rest_plan d kept)).curves k m) ∙ straights k m
@@ -98,7 +107,8 @@ module _ (d : Plan) (kept : List ℕ) (straights : (k : ℕ) → k < length (res
   same_replay : replay (pos 0) (length (half_edges d kept)) (edge_of (half_edges d kept)) (steps_from [] vs) ≡ drawn (pos 0) (half_plan (rest_plan d kept)) (edge_of (edges_of (half_plan (rest_plan d kept)))) (steps_from [] vs)
   same_replay = ap (λ (n : ℕ). replay (pos 0) n (edge_of (half_edges d kept)) steps) (edges_count ∙ sym curves_count) ∙ ap (λ (F : ℕ → Edge). replay (pos 0) (length e.curves) F steps) same_edge
 
-  pub cell_edge : (v : Point) (p i : ℕ) (upper : Option ℕ) → IsCell (half_edges d kept) vs v p (Some i) upper → i < length kept
+  pub cell_edge : (v : Point) (p i : ℕ) (upper : Option ℕ)
+      → IsCell (half_edges d kept) vs v p (Some i) upper → i < length kept
   cell_edge v p i upper c =
       let k = run_known (length (half_edges d kept)) (edge_of (half_edges d kept)) vs c.events i run c.known (before_has (live_from [] (take c.events vs)) p i (sym c.lower_is)) in
       let n = edges_count in omega (arith, k, n)
@@ -113,13 +123,16 @@ module _ (d : Plan) (kept : List ℕ) (straights : (k : ℕ) → k < length (res
         subst (λ (n : ℕ). IsFaces (replay (pos 0) n E steps) face) (sym curves_count)
         (faces.faces (pos 0) E (subst (λ (n : ℕ). Run n E steps) curves_count is_run.run))
 
-    within : (h : Half) → half_edge_of h < length (half_plan (rest_plan d kept)).curves → number h < size l.mesh
+    within : (h : Half) → half_edge_of h < length (half_plan (rest_plan d kept)).curves
+        → number h < size l.mesh
     within h m = let n = number_below h (length e.curves) m in let s = faces.size_is in let c = curves_count in omega (arith, n, s, c)
 
-    pub face_below : (h : Half) → half_edge_of h < length (half_plan (rest_plan d kept)).curves → slice_index l.mesh.face (number h) < l.count
+    pub face_below : (h : Half) → half_edge_of h < length (half_plan (rest_plan d kept)).curves
+        → slice_index l.mesh.face (number h) < l.count
     face_below h m = faces.below (number h) (within h m)
 
-    pub face_used : (n : ℕ) → 0 < n → n < l.count → (h : Half) × (half_edge_of h < length (half_plan (rest_plan d kept)).curves) × (slice_index l.mesh.face (number h) ≡ n)
+    pub face_used : (n : ℕ) → 0 < n → n < l.count
+        → (h : Half) × (half_edge_of h < length (half_plan (rest_plan d kept)).curves) × (slice_index l.mesh.face (number h) ≡ n)
     face_used n p q =
         let (i, m, f) = faces.used n p q in
         let s = faces.size_is in
@@ -128,7 +141,8 @@ module _ (d : Plan) (kept : List ℕ) (straights : (k : ℕ) → k < length (res
         (half_of i, below_number (half_of i) (length e.curves) (omega (arith, h, m, s, c)), ap (slice_index l.mesh.face) h ∙ f)
 
     -- ---- cells
-    over_is : (o : Option ℕ) → over_or (numbers (λ h. slice_index l.mesh.face (number h))) 0 o ≡ face_over l.mesh.face o
+    over_is : (o : Option ℕ)
+        → over_or (numbers (λ h. slice_index l.mesh.face (number h))) 0 o ≡ face_over l.mesh.face o
     over_is None = refl
     over_is (Some i) = refl
 
@@ -145,7 +159,8 @@ module _ (d : Plan) (kept : List ℕ) (straights : (k : ℕ) → k < length (res
               ∙ over_is lower,
         )
 
-    pub cell_below : (v : Point) (p : ℕ) (lower upper : Option ℕ) → IsCell (half_edges d kept) vs v p lower upper → face_over l.mesh.face lower < l.count
+    pub cell_below : (v : Point) (p : ℕ) (lower upper : Option ℕ)
+        → IsCell (half_edges d kept) vs v p lower upper → face_over l.mesh.face lower < l.count
     cell_below v p None upper c = faces.some
     cell_below v p (Some i) upper c =
         let k = cell_edge v p i upper c in

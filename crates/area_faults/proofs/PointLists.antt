@@ -1,5 +1,6 @@
 -- The points on curves that stay and on those that are left out are all points on curves.
-use Rattle.std.proofs.Common.{◌≡◌, ◌⊎◌, inl, inr, ℕ, ◌<◌, ◌≤◌, min, Bool, true, false, Option, Some, None, List, length, refl, sym, ◌∙◌, ap, subst, arith}
+use Rattle.std.proofs.Common.{◌≡◌, ◌⊎◌, inl, inr, ℕ, ◌<◌, ◌≤◌, min, Bool, true, false, Option, Some}
+use Rattle.std.proofs.Common.{None, List, length, refl, sym, ◌∙◌, ap, subst, arith}
 use Rattle.std.specs.List.{Contains}
 use Rattle.plane.specs.Rule.LeftOut.{IsRestOf}
 use Rattle.plane.specs.Rule.Partition.{IsOff}
@@ -7,7 +8,8 @@ use Rattle.plane.specs.Rule.Places.{point}
 use Rattle.plane.specs.Rule.Curves.{IsOn}
 use Rattle.plane.specs.Rule.Plans.{Plan, curve, object}
 use Rattle.plane.specs.declared.kinds.Curve.{Curve}
-use Rattle.fault_lists.specs.DrawingFaces.{AreDrawingFaces, IsLeastOn, IsPointPlace, face_count, place_of}
+use Rattle.fault_lists.specs.DrawingFaces.{AreDrawingFaces, IsLeastOn, IsPointPlace, face_count}
+use Rattle.fault_lists.specs.DrawingFaces.{place_of}
 use Rattle.fault_lists.specs.FaceLists.{HasExactly}
 use Rattle.fault_lists.specs.Faults.{LiesOn}
 use Rattle.fault_lists.specs.FaultLists.{ArePointsOn}
@@ -15,7 +17,8 @@ use Rattle.fault_lists.specs.declared.faces.DrawingFaces.{DrawingFaces}
 use Rattle.fault_lists.specs.declared.faces.PointPlace.{PointPlace}
 use Rattle.fault_lists.specs.declared.faces.PointPlace.TheVariants.{InFace, OnCurve}
 use Rattle.fault_lists.specs.declared.kinds.OnAt.{OnAt}
-use Rattle.area_faults.specs.PointLists.{AreLeast, ArePairsFor, IsChosen, TellsLeast, chosen, least_at, lesser, pair_at}
+use Rattle.area_faults.specs.PointLists.{AreLeast, ArePairsFor, IsChosen, TellsLeast, chosen}
+use Rattle.area_faults.specs.PointLists.{least_at, lesser, pair_at}
 use Rattle.area_faults.proofs.ChosenCurves.{none_some, same_some}
 use Rattle.area_faults.proofs.LeastCurves.{by_lt}
 use Rattle.std.proofs.lemmas.List.{get_or_default}
@@ -52,7 +55,9 @@ module _ (d r : Plan) (out : ℕ → Bool) (rest : IsRestOf d r out) (f : Drawin
       by (inr (k, l, e)) = off k l (subst (λ (c : Curve). IsOn c (point (object d j))) (ap (λ (n : ℕ). curve d n) (sym e) ∙ rest.is k l) on.on)
 
   -- ---- what is chosen lies on the curve
-  chosen_lies : (j c : ℕ) (p : PointPlace) (o : Option ℕ) → IsPointPlace d r out (face_count f) h.at j p → TellsLeast pairs (length pairs) j o → chosen p o ≡ Some c → LiesOn d j c
+  chosen_lies : (j c : ℕ) (p : PointPlace) (o : Option ℕ)
+      → IsPointPlace d r out (face_count f) h.at j p → TellsLeast pairs (length pairs) j o
+      → chosen p o ≡ Some c → LiesOn d j c
   chosen_lies j c (OnCurve i) None x t e = subst (λ (n : ℕ). LiesOn d j n) (same_some i c e) x.on
   chosen_lies j c (OnCurve i) (Some k) x t e = subst (λ (n : ℕ). LiesOn d j n) (same_some (min i k) c e) (by_min i k x.on (pair_lies j k t))
     where
@@ -68,10 +73,14 @@ module _ (d r : Plan) (out : ℕ → Bool) (rest : IsRestOf d r out) (f : Drawin
   kept_most j i k x on kept = by_lt i k (λ (l : i < k). absurd (x.least i l kept on)) (λ (l : k ≤ i). l)
 
   -- a lesser curve is none of the point's, and some curve is chosen where there is one
-  chosen_most : (j i : ℕ) (p : PointPlace) (o : Option ℕ) → IsPointPlace d r out (face_count f) h.at j p → TellsLeast pairs (length pairs) j o → LiesOn d j i → (c : ℕ) × (chosen p o ≡ Some c) × (c ≤ i)
+  chosen_most : (j i : ℕ) (p : PointPlace) (o : Option ℕ)
+      → IsPointPlace d r out (face_count f) h.at j p → TellsLeast pairs (length pairs) j o
+      → LiesOn d j i → (c : ℕ) × (chosen p o ≡ Some c) × (c ≤ i)
   chosen_most j i p o x t on = by (is_out i) p o x t
     where
-      by : (out i ≡ true) ⊎ (out i ≡ true → ⊥) → (p : PointPlace) (o : Option ℕ) → IsPointPlace d r out (face_count f) h.at j p → TellsLeast pairs (length pairs) j o → (c : ℕ) × (chosen p o ≡ Some c) × (c ≤ i)
+      by : (out i ≡ true) ⊎ (out i ≡ true → ⊥) → (p : PointPlace) (o : Option ℕ)
+          → IsPointPlace d r out (face_count f) h.at j p → TellsLeast pairs (length pairs) j o
+          → (c : ℕ) × (chosen p o ≡ Some c) × (c ≤ i)
       by (inl m) (OnCurve k) o x t = let (c, e, l) = pair_here j i (for.all j i on m) o t in (min k c, ap (λ (q : Option ℕ). Some (lesser k q)) e, omega (arith, l))
       by (inl m) (InFace n) o x t = let (c, e, l) = pair_here j i (for.all j i on m) o t in (c, e, l)
       by (inr m) (OnCurve k) None x t = (k, refl, kept_most j i k x on m)

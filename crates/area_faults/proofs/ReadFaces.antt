@@ -1,5 +1,7 @@
 -- What is read off the faces, one place or one curve more.
-use Rattle.std.proofs.Common.{◌≡◌, Bool, true, false, ℕ, zero, suc, ◌+◌, ◌<◌, ◌≤◌, Option, Some, None, List, length, replicate, set, slice_index, arith, refl, inl, inr, sym, ◌∙◌, subst, ap}
+use Rattle.std.proofs.Common.{◌≡◌, Bool, true, false, ℕ, zero, suc, ◌+◌, ◌<◌, ◌≤◌, Option, Some}
+use Rattle.std.proofs.Common.{None, List, length, replicate, set, slice_index, arith, refl, inl}
+use Rattle.std.proofs.Common.{inr, sym, ◌∙◌, subst, ap}
 use Rattle.std.proofs.lemmas.Bool.{cases_lt}
 use Rattle.std.proofs.lemmas.List.{get_or-set_other, get_or-set_same, length-set}
 use Rattle.fault_lists.specs.declared.faces.CurveFaces.{CurveFaces}
@@ -8,7 +10,8 @@ use Rattle.near_pairs.specs.Boxes.{mark_of}
 use Rattle.plane.specs.declared.kinds.Curve.{Curve}
 use Rattle.point_location.specs.declared.places.Place.{Place}
 use Rattle.tubes.specs.DrawnEdges.{nth_curve}
-use Rattle.area_faults.specs.RestFaces.{AreCurveFacesTo, AreOpenTo, AreSidesOf, IsOpenedBy, place_at, place_face, sides_at}
+use Rattle.area_faults.specs.RestFaces.{AreCurveFacesTo, AreOpenTo, AreSidesOf, IsOpenedBy}
+use Rattle.area_faults.specs.RestFaces.{place_at, place_face, sides_at}
 
 -- ---- open faces
 all_false : (k n : ℕ) → mark_of (replicate k false) n ≡ false
@@ -16,14 +19,17 @@ all_false zero n = refl
 all_false (suc k) zero = refl
 all_false (suc k) (suc n) = all_false k n
 
-pub none_open : (faces : List ℕ) (count : ℕ) (places : List Place) (first : ℕ) (marks : List Bool) → length marks ≡ count → marks ≡ replicate count false → AreOpenTo faces count places first first marks
+pub none_open : (faces : List ℕ) (count : ℕ) (places : List Place) (first : ℕ) (marks : List Bool)
+    → length marks ≡ count → marks ≡ replicate count false
+    → AreOpenTo faces count places first first marks
 none_open faces count places first marks size e = record {
   size = size;
   opened = λ j n a b. absurd (omega (arith, a, b));
   only = λ n t. absurd (let q : true ≡ false = sym t ∙ ap (λ (ms : List Bool). mark_of ms n) e ∙ all_false count n in cc);
 }
 
-pub open_more : (faces : List ℕ) (count : ℕ) (places : List Place) (first k : ℕ) (old new : List Bool) (p : Place) → place_at places k ≡ p → first ≤ k → IsOpenedBy faces p old new
+pub open_more : (faces : List ℕ) (count : ℕ) (places : List Place) (first k : ℕ) (old new : List Bool) (p : Place)
+    → place_at places k ≡ p → first ≤ k → IsOpenedBy faces p old new
     → AreOpenTo faces count places first k old → AreOpenTo faces count places first (k + 1) new
 open_more faces count places first k old new p here l is a = record {
   size = is.size ∙ a.size;
@@ -38,7 +44,9 @@ open_more faces count places first k old new p here l is a = record {
 }
 
 -- ---- the faces of curves
-pub no_curves : (curves : List Curve) (kept faces : List ℕ) (fs : List (Option CurveFaces)) (n : ℕ) → n ≡ length curves → fs ≡ replicate n None → length fs ≡ n → AreCurveFacesTo curves kept faces 0 fs
+pub no_curves : (curves : List Curve) (kept faces : List ℕ) (fs : List (Option CurveFaces)) (n : ℕ)
+    → n ≡ length curves → fs ≡ replicate n None → length fs ≡ n
+    → AreCurveFacesTo curves kept faces 0 fs
 no_curves curves kept faces fs n e q size = record {
   size = size ∙ e;
   each = λ m l. absurd (omega (arith, l));
@@ -50,7 +58,8 @@ no_curves curves kept faces fs n e q size = record {
     all_none (suc k) zero = refl
     all_none (suc k) (suc i) = all_none k i
 
-pub curve_more : (curves : List Curve) (kept faces : List ℕ) (k : ℕ) (old new : List (Option CurveFaces)) (g : CurveFaces) → k < length kept → slice_index kept k < length curves → IsRising kept
+pub curve_more : (curves : List Curve) (kept faces : List ℕ) (k : ℕ) (old new : List (Option CurveFaces)) (g : CurveFaces)
+    → k < length kept → slice_index kept k < length curves → IsRising kept
     → new ≡ set old (slice_index kept k) (Some g) → AreSidesOf (nth_curve curves (slice_index kept k)) faces k g → AreCurveFacesTo curves kept faces k old → AreCurveFacesTo curves kept faces (k + 1) new
 curve_more curves kept faces k old new g l there rising e sides a =
     let n = slice_index kept k in

@@ -1,5 +1,7 @@
 -- The rest of a drawing of straights without some curves, in whole and in half units, by the numbers of those that stay.
-use Rattle.std.proofs.Common.{◌≡◌, ◌⊎◌, ◌*ℤ◌, [], ◌∷◌, Bool, true, false, ℕ, ◌<◌, List, length, slice_index, ℤ, pos, ◌≤ℤ◌, arith, refl, inl, inr, sym, ◌∙◌, subst, ap, All}
+use Rattle.std.proofs.Common.{◌≡◌, ◌⊎◌, ◌*ℤ◌, [], ◌∷◌, Bool, true, false, ℕ, ◌<◌, List, length}
+use Rattle.std.proofs.Common.{slice_index, ℤ, pos, ◌≤ℤ◌, arith, refl, inl, inr, sym, ◌∙◌, subst, ap}
+use Rattle.std.proofs.Common.{All}
 use Rattle.std.proofs.lemmas.Bool.{cases_lt}
 use Rattle.std.proofs.lemmas.List.{get_or-map, length-map}
 use Rattle.plane.specs.declared.kinds.Curve.{Curve}
@@ -81,10 +83,12 @@ module _ (d : Plan) (out : ℕ → Bool) (kept : List ℕ) (known : (m : ℕ) �
   pub inside : (k : ℕ) → k < length (rest_plan d kept).curves → k < length kept
   inside k l = let n = rest_count in omega (arith, l, n)
 
-  pub rest_curve : (k : ℕ) → k < length (rest_plan d kept).curves → curve (rest_plan d kept) k ≡ curve d (slice_index kept k)
+  pub rest_curve : (k : ℕ) → k < length (rest_plan d kept).curves
+      → curve (rest_plan d kept) k ≡ curve d (slice_index kept k)
   rest_curve k l = get_or-map (λ (i : ℕ). curve d i) kept k 0 _ (inside k l)
 
-  pub once : (k l : ℕ) → k < length kept → l < length kept → slice_index kept k ≡ slice_index kept l → k ≡ l
+  pub once : (k l : ℕ) → k < length kept → l < length kept → slice_index kept k ≡ slice_index kept l
+      → k ≡ l
   once k l m n q = elim (cases_lt k l) [
     | inl b ↦ absurd (let s = rising k l b n in omega (arith, s, q))
     | inr b ↦ elim (cases_lt l k) [
@@ -111,12 +115,14 @@ module _ (d : Plan) (out : ℕ → Bool) (kept : List ℕ) (known : (m : ℕ) �
   }
 
   module _ (straights : (i : ℕ) → i < length d.curves → (curve d i).kind ≡ kind.Straight) where
-    pub rest_straights : (k : ℕ) → k < length (rest_plan d kept).curves → (curve (rest_plan d kept) k).kind ≡ kind.Straight
+    pub rest_straights : (k : ℕ) → k < length (rest_plan d kept).curves
+        → (curve (rest_plan d kept) k).kind ≡ kind.Straight
     rest_straights k l = ap (λ (c : Curve). c.kind) (rest_curve k l) ∙ straights (slice_index kept k) (known k (inside k l))
 
     module _ (pairs : (i j : ℕ) → IsBadPair d i j → (out i ≡ true) × (out j ≡ true)) where
       -- a curve that stays meets no other badly
-      never : (i m : ℕ) → i < length d.curves → m < length kept → (i ≡ slice_index kept m → ⊥) → StraightsMeet (curve d i) (curve d (slice_index kept m)) → ⊥
+      never : (i m : ℕ) → i < length d.curves → m < length kept → (i ≡ slice_index kept m → ⊥)
+          → StraightsMeet (curve d i) (curve d (slice_index kept m)) → ⊥
       never i m l n differ meet =
           let j = slice_index kept m in
           elim (cases_lt i j) [
@@ -139,7 +145,8 @@ module _ (d : Plan) (out : ℕ → Bool) (kept : List ℕ) (known : (m : ℕ) �
       )
 
       -- no two edges of the rest in half units are bad
-      pub none_bad : (E : ℕ → Edge) → AreEdgesOf E (half_plan (rest_plan d kept)) → (a b : ℕ) → a < length kept → b < length kept → (a ≡ b → ⊥) → Bad (E a) (E b) → ⊥
+      pub none_bad : (E : ℕ → Edge) → AreEdgesOf E (half_plan (rest_plan d kept)) → (a b : ℕ)
+          → a < length kept → b < length kept → (a ≡ b → ⊥) → Bad (E a) (E b) → ⊥
       none_bad E edges a b l m differ bad =
           let ra : a < length r.curves = (let z = rest_count in omega (arith, l, z)) in
           let rb : b < length r.curves = (let z = rest_count in omega (arith, m, z)) in
@@ -159,7 +166,8 @@ module _ (d : Plan) (out : ℕ → Bool) (kept : List ℕ) (known : (m : ℕ) �
     pub wide : (i : ℕ) → i < length d.curves → out i ≡ true → (curve d i).from ≡ (curve d i).to → ⊥
     wide i l left = (is_drawn i l).distinct
 
-    pub is_right : ((i : ℕ) → i < length d.curves → (curve d i).kind ≡ kind.Straight) → IsRightOf low.x (rest_plan d kept)
+    pub is_right : ((i : ℕ) → i < length d.curves → (curve d i).kind ≡ kind.Straight)
+        → IsRightOf low.x (rest_plan d kept)
     is_right straights = record {
       straight = rest_straights straights;
       from = λ k l. subst (λ (c : Curve). low.x ≤ℤ c.from.x) (sym (rest_curve k l)) (is_drawn (slice_index kept k) (known k (inside k l))).from.left;

@@ -15,7 +15,8 @@ use Rattle.plane.specs.Rule.Plans.{Plan, curve}
 use Rattle.plane.specs.Runs.Steps.{Step}
 use Rattle.plane.proofs.FaceLemmas.PointFaces.{some_inner_crossing}
 use Rattle.plane.proofs.FewerCurves.Paths.{joined_self}
-use Rattle.plane.proofs.HalfUnits.HalvedCrossings.{IsHalfEdge, half_edge, halved_crossing, halved_misses}
+use Rattle.plane.proofs.HalfUnits.HalvedCrossings.{IsHalfEdge, half_edge, halved_crossing}
+use Rattle.plane.proofs.HalfUnits.HalvedCrossings.{halved_misses}
 use Rattle.area_faults.proofs.DoubledCrossings.{doubled_crossing}
 use Rattle.area_faults.proofs.PlaceNumbers.{above_number, below_number}
 use Rattle.area_faults.proofs.RestNumbers.{IsAt, near, halved_at}
@@ -35,7 +36,8 @@ module _ (r e : Plan) (double : IsDoubled r e) (straights : (k : ℕ) → k < le
   pub half_of_edge : (g : Edge) × IsHalfEdge g (E k) (curve r k)
   half_of_edge = half_edge (E k) (curve r k) (subst (λ (c : Curve). IsEdgeOf (E k) c) (double.curves k l) (on.edges.edge k there))
 
-  pub some_crossing : (g : Edge) → IsHalfEdge g (E k) (curve r k) → (p : Vector) × (q : Vector) × IsCrossedBy r e E steps on face k g p q
+  pub some_crossing : (g : Edge) → IsHalfEdge g (E k) (curve r k)
+      → (p : Vector) × (q : Vector) × IsCrossedBy r e E steps on face k g p q
   some_crossing g half =
       let (p, q, x, miss) = some_inner_crossing (pos 0) e E steps on k there in (
         halved p,
@@ -48,7 +50,9 @@ module _ (r e : Plan) (double : IsDoubled r e) (straights : (k : ℕ) → k < le
         },
       )
 
-  pub any_crossing : (g : Edge) → IsHalfEdge g (E k) (curve r k) → (p q : Vector) → CrossesCurve r g k p q → IsAt r e E steps on face p (face (over k)) × IsAt r e E steps on face q (face (under k))
+  pub any_crossing : (g : Edge) → IsHalfEdge g (E k) (curve r k) → (p q : Vector)
+      → CrossesCurve r g k p q
+      → IsAt r e E steps on face p (face (over k)) × IsAt r e E steps on face q (face (under k))
   any_crossing g half p q x =
       let y = doubled_crossing r e double straights k l g (E k) half p q x in (
         near (doubled p) y.p_place y.p_off (above_number e E steps on face faces k (doubled p) (doubled q) there y) (joined_self e (doubled p) y.p_place y.p_off),

@@ -1,5 +1,6 @@
 -- Quotients rounded down, and that a meeting place in whole units lies between the ends.
-use Rattle.std.proofs.Common.{◌≡◌, ℕ, ◌/◌, ◌-◌, ◌^◌, ℤ, pos, negsuc, ◌+ℤ◌, ◌*ℤ◌, ◌-ℤ◌, ◌<ℤ◌, ◌≤ℤ◌, [], ◌∷◌, refl, sym, subst, arith, FitsSigned, w64}
+use Rattle.std.proofs.Common.{◌≡◌, ℕ, ◌/◌, ◌-◌, ◌^◌, ℤ, pos, negsuc, ◌+ℤ◌, ◌*ℤ◌, ◌-ℤ◌, ◌<ℤ◌, ◌≤ℤ◌}
+use Rattle.std.proofs.Common.{[], ◌∷◌, refl, sym, subst, arith, FitsSigned, w64}
 use Rattle.std.specs.Int.{int_div_euclid, w128}
 use Rattle.std.proofs.lemmas.Int.{ints}
 use Rattle.std.proofs.Sketches.{bounds}
@@ -34,13 +35,15 @@ floor_within m (pos a) (pos d) h w = let l = div-le_self a d in omega (arith, in
 floor_within m (negsuc a) (pos d) h w = let l = div-le_self a d in omega (arith, ints, w, l)
 floor_within m n (negsuc d) h w = absurd (omega (arith, ints, h))
 
-pub rounded_least : (from s t q m : ℤ) → pos 0 <ℤ t → q ≡ int_div_euclid s t → m ≡ from +ℤ q → (m *ℤ t) ≤ℤ ((from *ℤ t) +ℤ s)
+pub rounded_least : (from s t q m : ℤ) → pos 0 <ℤ t → q ≡ int_div_euclid s t → m ≡ from +ℤ q
+    → (m *ℤ t) ≤ℤ ((from *ℤ t) +ℤ s)
 rounded_least from s t q m h e f =
     let l = subst (λ (x : ℤ). (x *ℤ t) ≤ℤ s) (sym e) (floor_least s t h) in
     let i = ring (times (plus (at 0) (at 1)) (at 2)) (plus (times (at 0) (at 2)) (times (at 1) (at 2))) (vars (from ∷ q ∷ t ∷ [])) refl in
     subst (λ (x : ℤ). (x *ℤ t) ≤ℤ ((from *ℤ t) +ℤ s)) (sym f) (omega (arith, ints, l, i))
 
-pub rounded_most : (from s t q m : ℤ) → pos 0 <ℤ t → q ≡ int_div_euclid s t → m ≡ from +ℤ q → ((from *ℤ t) +ℤ s) <ℤ ((m +ℤ pos 1) *ℤ t)
+pub rounded_most : (from s t q m : ℤ) → pos 0 <ℤ t → q ≡ int_div_euclid s t → m ≡ from +ℤ q
+    → ((from *ℤ t) +ℤ s) <ℤ ((m +ℤ pos 1) *ℤ t)
 rounded_most from s t q m h e f =
     let l = subst (λ (x : ℤ). s <ℤ ((x +ℤ pos 1) *ℤ t)) (sym e) (floor_most s t h) in
     let i = ring (times (plus (plus (at 0) (at 1)) (num (pos 1))) (at 2)) (plus (times (at 0) (at 2)) (times (plus (at 1) (num (pos 1))) (at 2))) (vars (from ∷ q ∷ t ∷ [])) refl in
@@ -67,7 +70,9 @@ wide = record { low = record { x = pos 0 -ℤ pos (2 ^ 63); y = pos 0 -ℤ pos (
 point_wide : (p : Point) → FitsSigned w64 p.x → FitsSigned w64 p.y → InBox wide (point p)
 point_wide p fx fy = omega (arith, ints, bounds, fx, fy)
 
-pub unit_fits : (a b m : Point) (z : Vector) → FitsSigned w64 a.x → FitsSigned w64 a.y → FitsSigned w64 b.x → FitsSigned w64 b.y → Place z → IsOnStraight (point a) (point b) z → IsInUnit m z → FitsSigned w64 m.x × FitsSigned w64 m.y
+pub unit_fits : (a b m : Point) (z : Vector) → FitsSigned w64 a.x → FitsSigned w64 a.y
+    → FitsSigned w64 b.x → FitsSigned w64 b.y → Place z → IsOnStraight (point a) (point b) z
+    → IsInUnit m z → FitsSigned w64 m.x × FitsSigned w64 m.y
 unit_fits a b m z ax ay bx by Z on u =
     let box = straight_in_box wide z a b Z (point_wide a ax ay) (point_wide b bx by) on in (
       (let l = unit_least z.n z.x m.x wide.low.x Z box.left u.right in let k = unit_most z.n z.x m.x wide.high.x Z box.right u.left in fits_in w64 m.x (omega (arith, ints, l, k))),

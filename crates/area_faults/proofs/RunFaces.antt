@@ -1,5 +1,7 @@
 -- The faces of a mesh of a run: half-edges have numbers below their count, each of which is some half-edge's or 0.
-use Rattle.std.proofs.Common.{◌≡◌, ℕ, zero, suc, ◌*◌, ◌<◌, ◌≤◌, List, [], ◌∷◌, ◌++◌, length, max, take, get_or, slice_index, ℤ, arith, refl, inl, inr, sym, ◌∙◌, subst, ap, add-one}
+use Rattle.std.proofs.Common.{◌≡◌, ℕ, zero, suc, ◌*◌, ◌<◌, ◌≤◌, List, [], ◌∷◌, ◌++◌, length, max}
+use Rattle.std.proofs.Common.{take, get_or, slice_index, ℤ, arith, refl, inl, inr, sym, ◌∙◌, subst}
+use Rattle.std.proofs.Common.{ap, add-one}
 use Rattle.std.proofs.lemmas.Bool.{cases_lt}
 use Rattle.std.proofs.lemmas.List.{take_all, take_more}
 use Rattle.area_search.specs.Settled.Meshing.{HasEdges}
@@ -38,7 +40,8 @@ greatest_more (m ∷ ns) n = (let k = greatest_more ns n in omega (arith, k))
 
 -- numbers that are given in order leave none out
 module _ (ns : List ℕ) (numbered : (h : ℕ) → h < length ns → IsNumbered ns h) where
-  given : (h n : ℕ) → h ≤ length ns → 0 < n → n ≤ greatest (take h ns) → (i : ℕ) × (i < length ns) × (slice_index ns i ≡ n)
+  given : (h n : ℕ) → h ≤ length ns → 0 < n → n ≤ greatest (take h ns)
+      → (i : ℕ) × (i < length ns) × (slice_index ns i ≡ n)
   given zero n l p q = absurd (omega (arith, p, q))
   given (suc h) n l p q =
       let b : h < length ns = omega (arith, l) in
@@ -55,7 +58,8 @@ module _ (ns : List ℕ) (numbered : (h : ℕ) → h < length ns → IsNumbered 
       at_most (inl e) = omega (arith, e)
       at_most (inr k) = greatest_has (take h ns) (slice_index ns h) k
 
-  pub all_given : (n : ℕ) → 0 < n → n < suc (greatest ns) → (i : ℕ) × (i < length ns) × (slice_index ns i ≡ n)
+  pub all_given : (n : ℕ) → 0 < n → n < suc (greatest ns)
+      → (i : ℕ) × (i < length ns) × (slice_index ns i ≡ n)
   all_given n p q = given (length ns) n (omega arith) p (let e = ap greatest (take_all (length ns) ns (omega arith)) in omega (arith, q, e))
 
 -- ---- the faces of a run

@@ -1,9 +1,11 @@
 -- Faces depend on what is left out by its values at the curves alone.
-use Rattle.std.proofs.Common.{◌≡◌, ◌⊎◌, inl, inr, ℕ, ◌<◌, Bool, true, Option, Some, None, length, sym, ◌∙◌, arith}
+use Rattle.std.proofs.Common.{◌≡◌, ◌⊎◌, inl, inr, ℕ, ◌<◌, Bool, true, Option, Some, None, length}
+use Rattle.std.proofs.Common.{sym, ◌∙◌, arith}
 use Rattle.plane.specs.Rule.LeftOut.{IsClosed, IsOpen, IsRestOf}
 use Rattle.plane.specs.Rule.Places.{Vector}
 use Rattle.plane.specs.Rule.Plans.{Plan}
-use Rattle.fault_lists.specs.DrawingFaces.{AreCurveFaces, AreDrawingFaces, HasCurveFaces, HasFaces, IsPointPlace, face_count, faces_of, place_of}
+use Rattle.fault_lists.specs.DrawingFaces.{AreCurveFaces, AreDrawingFaces, HasCurveFaces, HasFaces}
+use Rattle.fault_lists.specs.DrawingFaces.{IsPointPlace, face_count, faces_of, place_of}
 use Rattle.fault_lists.specs.declared.faces.CurveFaces.{CurveFaces}
 use Rattle.fault_lists.specs.declared.faces.DrawingFaces.{DrawingFaces}
 use Rattle.fault_lists.specs.declared.faces.PointPlace.{PointPlace}
@@ -28,7 +30,9 @@ module _ (d : Plan) (out other : ℕ → Bool) (same : (i : ℕ) → i < length 
       points = rest.points;
     }
       where
-        by : (i : ℕ) → i < length d.curves → (out i ≡ true) ⊎ ((k : ℕ) × (k < length r.curves) × (rest.number k ≡ i)) → (other i ≡ true) ⊎ ((k : ℕ) × (k < length r.curves) × (rest.number k ≡ i))
+        by : (i : ℕ) → i < length d.curves
+            → (out i ≡ true) ⊎ ((k : ℕ) × (k < length r.curves) × (rest.number k ≡ i))
+            → (other i ≡ true) ⊎ ((k : ℕ) × (k < length r.curves) × (rest.number k ≡ i))
         by i l (inl o) = inl (over i l o)
         by i l (inr k) = inr k
 
@@ -54,7 +58,8 @@ module _ (d : Plan) (out other : ℕ → Bool) (same : (i : ℕ) → i < length 
     }
 
     module _ (count : ℕ) (at : ℕ → Vector) where
-      point_over : (j : ℕ) (p : PointPlace) → IsPointPlace d r out count at j p → IsPointPlace d r other count at j p
+      point_over : (j : ℕ) (p : PointPlace) → IsPointPlace d r out count at j p
+          → IsPointPlace d r other count at j p
       point_over j (OnCurve i) x = record {
         on = x.on;
         kept = λ o. x.kept (back i x.on.curve_there o);
@@ -62,7 +67,8 @@ module _ (d : Plan) (out other : ℕ → Bool) (same : (i : ℕ) → i < length 
       }
       point_over j (InFace n) x = x
 
-      faces_over : (k : ℕ) (f : CurveFaces) → HasCurveFaces d r out rest count at k f → HasCurveFaces d r other rest_over count at k f
+      faces_over : (k : ℕ) (f : CurveFaces) → HasCurveFaces d r out rest count at k f
+          → HasCurveFaces d r other rest_over count at k f
       unfolding rest_over
       faces_over k f x = record {
         p = x.p;
@@ -73,12 +79,14 @@ module _ (d : Plan) (out other : ℕ → Bool) (same : (i : ℕ) → i < length 
         stays = λ a b. x.stays (closed_back x.p a) (closed_back x.q b);
       }
 
-      curve_over : (i : ℕ) (f : Option CurveFaces) → i < length d.curves → AreCurveFaces d r out rest count at i f → AreCurveFaces d r other rest_over count at i f
+      curve_over : (i : ℕ) (f : Option CurveFaces) → i < length d.curves
+          → AreCurveFaces d r out rest count at i f → AreCurveFaces d r other rest_over count at i f
       unfolding rest_over
       curve_over i None l o = over i l o
       curve_over i (Some f) l x = ((λ o. x.0 (back i l o)), (x.1.0, x.1.1, x.1.2, faces_over x.1.0 f x.1.3))
 
-    drawing_over : (f : DrawingFaces) → AreDrawingFaces d r out rest f → AreDrawingFaces d r other rest_over f
+    drawing_over : (f : DrawingFaces) → AreDrawingFaces d r out rest f
+        → AreDrawingFaces d r other rest_over f
     drawing_over f x = record {
       at = x.at;
       places = x.places;

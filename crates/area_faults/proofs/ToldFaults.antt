@@ -1,5 +1,6 @@
 -- What is told by marks, pairs and faces.
-use Rattle.std.proofs.Common.{◌≡◌, inl, inr, ℕ, ◌<◌, Bool, true, false, List, [], length, get_or, refl, sym, ◌∙◌, ap, subst, arith}
+use Rattle.std.proofs.Common.{◌≡◌, inl, inr, ℕ, ◌<◌, Bool, true, false, List, [], length, get_or}
+use Rattle.std.proofs.Common.{refl, sym, ◌∙◌, ap, subst, arith}
 use Rattle.std.specs.List.{Contains}
 use Rattle.std.proofs.lemmas.List.Elements.{Contains-get_or}
 use Rattle.plane.specs.Rule.BadPairs.{IsBadPair}
@@ -19,7 +20,8 @@ clash : {P : Type 0} → false ≡ true → P
 clash e = cc
 
 -- ---- pairs of curves
-pub met_below : (d : Plan) (ms lent : List MeetingAt) (n : ℕ) → lent ≡ ms → n ≡ length d.curves → AreMeetings d ms
+pub met_below : (d : Plan) (ms lent : List MeetingAt) (n : ℕ) → lent ≡ ms → n ≡ length d.curves
+    → AreMeetings d ms
     → (k : ℕ) (x : MeetingAt) → k < length lent → AreBelow n (get_or lent k x)
 met_below d ms lent n e f a k x l =
     let p = a.bad (get_or lent k x) (subst (λ (xs : List MeetingAt). Contains xs (get_or lent k x)) e (Contains-get_or lent k x l)) in
@@ -27,7 +29,8 @@ met_below d ms lent n e f a k x l =
     let t = p.there in
     record { first = omega (arith, o, t, f); second = omega (arith, t, f) }
 
-pub both_out : (d : Plan) (ms lent : List MeetingAt) (n : ℕ) (marks seen : List Bool) → lent ≡ ms → n ≡ length d.curves → seen ≡ marks → AreMeetings d ms
+pub both_out : (d : Plan) (ms lent : List MeetingAt) (n : ℕ) (marks seen : List Bool) → lent ≡ ms
+    → n ≡ length d.curves → seen ≡ marks → AreMeetings d ms
     → AreLeftOut n lent false (mark_of marks) → (i j : ℕ) → IsBadPair d i j → (mark_of seen i ≡ true) × (mark_of seen j ≡ true)
 both_out d ms lent n marks seen e f g a out i j p =
     let (m, c, q) = a.all i j p in
@@ -38,7 +41,8 @@ both_out d ms lent n marks seen e f g a out i j p =
       ap (λ (bs : List Bool). mark_of bs j) g ∙ (out j (omega (arith, t, f))).1 (inl (m, b, inr q.1)),
     )
 
-pub out_of_curves : (d : Plan) (ms lent : List MeetingAt) (n : ℕ) (marks : List Bool) → lent ≡ ms → n ≡ length d.curves → AreLeftOut n lent false (mark_of marks)
+pub out_of_curves : (d : Plan) (ms lent : List MeetingAt) (n : ℕ) (marks : List Bool) → lent ≡ ms
+    → n ≡ length d.curves → AreLeftOut n lent false (mark_of marks)
     → AreLeftOut (length d.curves) ms false (mark_of marks)
 out_of_curves d ms lent n marks e f h = subst (λ (k : ℕ). AreLeftOut k ms false (mark_of marks)) f (subst (λ (xs : List MeetingAt). AreLeftOut n xs false (mark_of marks)) e h)
 
@@ -46,19 +50,23 @@ pub some_of_all : (d : Plan) (ms : List MeetingAt) → AreMeetings d ms → AreS
 some_of_all d ms a = record { each = λ m c. record { bad = a.bad m c; near = a.near m c }; rise = a.rise }
 
 -- ---- pairs of a point and a curve
-pub points_below : (d : Plan) (marks : List Bool) (pairs lent : List OnAt) (n : ℕ) → lent ≡ pairs → n ≡ length d.points → ArePairsOn d marks pairs
+pub points_below : (d : Plan) (marks : List Bool) (pairs lent : List OnAt) (n : ℕ) → lent ≡ pairs
+    → n ≡ length d.points → ArePairsOn d marks pairs
     → (k : ℕ) (x : OnAt) → k < length lent → HasPointBelow n (get_or lent k x)
 points_below d marks pairs lent n e f a k x l =
     let t = (a.on (get_or lent k x) (subst (λ (xs : List OnAt). Contains xs (get_or lent k x)) e (Contains-get_or lent k x l))).on.point_there in
     omega (arith, t, f)
 
-pub pairs_for : (d : Plan) (marks seen : List Bool) (pairs lent : List OnAt) → seen ≡ marks → lent ≡ pairs → ArePairsOn d seen pairs → ArePairsFor d (mark_of marks) lent
+pub pairs_for : (d : Plan) (marks seen : List Bool) (pairs lent : List OnAt) → seen ≡ marks
+    → lent ≡ pairs → ArePairsOn d seen pairs → ArePairsFor d (mark_of marks) lent
 pairs_for d marks seen pairs lent e f a = record {
   lie = λ o c. (a.on o (subst (λ (xs : List OnAt). Contains xs o) f c)).on;
   all = λ j i on m. subst (λ (xs : List OnAt). Contains xs (record { point = j; curve = i })) (sym f) (a.all j i (record { on = on; mark_is = ap (λ (bs : List Bool). mark_of bs i) e ∙ m }));
 }
 
-pub pairs_for_all : (d : Plan) (marks seen : List Bool) (pairs lent : List OnAt) (n : ℕ) → seen ≡ marks → lent ≡ pairs → n ≡ length d.curves → ((i : ℕ) → i < n → mark_of marks i ≡ true) → ArePairsOn d seen pairs → ArePairsFor d (λ i. true) lent
+pub pairs_for_all : (d : Plan) (marks seen : List Bool) (pairs lent : List OnAt) (n : ℕ)
+    → seen ≡ marks → lent ≡ pairs → n ≡ length d.curves → ((i : ℕ) → i < n → mark_of marks i ≡ true)
+    → ArePairsOn d seen pairs → ArePairsFor d (λ i. true) lent
 pairs_for_all d marks seen pairs lent n e f g every a = record {
   lie = λ o c. (a.on o (subst (λ (xs : List OnAt). Contains xs o) f c)).on;
   all = λ j i on m. subst (λ (xs : List OnAt). Contains xs (record { point = j; curve = i })) (sym f)
@@ -78,7 +86,8 @@ no_pairs d pairs e = record {
 pub all_out : (d : Plan) (ms : List MeetingAt) → AreLeftOut (length d.curves) ms true (λ i. true)
 all_out d ms i l = ((λ e. inr refl), (λ e. refl))
 
-pub none_out : (d : Plan) (ms : List MeetingAt) → ms ≡ [] → AreLeftOut (length d.curves) ms false (λ i. false)
+pub none_out : (d : Plan) (ms : List MeetingAt) → ms ≡ []
+    → AreLeftOut (length d.curves) ms false (λ i. false)
 none_out d ms e i l = ((λ q. clash q), (λ q. elim q [ inl m ↦ absurd (none m.0 (subst (λ (xs : List MeetingAt). Contains xs m.0) e m.1)) | inr f ↦ clash f ]))
   where
     none : (m : MeetingAt) → Contains [] m → ⊥

@@ -1,5 +1,7 @@
 -- The edges of the curves that are not marked, and what a sweep of them shows.
-use Rattle.std.proofs.Common.{◌≡◌, ◌↔◌, inl, inr, Bool, true, false, IsTrue, ℕ, zero, suc, ◌+◌, ◌<◌, ◌≤◌, List, [], ◌∷◌, ◌++◌, length, get_or, replicate, refl, arith, ap, sym, ◌∙◌, subst, All}
+use Rattle.std.proofs.Common.{◌≡◌, ◌↔◌, inl, inr, Bool, true, false, IsTrue, ℕ, zero, suc, ◌+◌, ◌<◌}
+use Rattle.std.proofs.Common.{◌≤◌, List, [], ◌∷◌, ◌++◌, length, get_or, replicate, refl, arith, ap}
+use Rattle.std.proofs.Common.{sym, ◌∙◌, subst, All}
 use Rattle.std.proofs.lemmas.List.{length-append, length-replicate, get_or_append_left}
 use Rattle.std.proofs.Math.Seq.{get_or-append_seam}
 use Rattle.plane.specs.declared.kinds.Point.{Point}
@@ -10,7 +12,8 @@ use Rattle.plane.specs.declared.kinds.Edge.{Edge}
 use Rattle.plane.specs.Forms.Meets.{Bad}
 use Rattle.plane.specs.Forms.Segments.{IsEdgeOf}
 use Rattle.plane.specs.Forms.Vectors.{Before}
-use Rattle.plane.specs.Rule.BadPairs.{AreBad, StraightsMeet, straights_meet, end_meets, crossed, one_arc, IsBadPair}
+use Rattle.plane.specs.Rule.BadPairs.{AreBad, StraightsMeet, straights_meet, end_meets, crossed}
+use Rattle.plane.specs.Rule.BadPairs.{one_arc, IsBadPair}
 use Rattle.plane.specs.Rule.Plans.{Plan, curve}
 use Rattle.plane.specs.Rule.Windows.{IsDrawn, IsInside, IsNarrow}
 use Rattle.plane.proofs.Covers.CurveEdges.{bad_edges_is}
@@ -22,13 +25,15 @@ use Rattle.meetings.specs.CurvePairs.{AreBothStraight}
 use Rattle.meetings.specs.StraightEdges.{curve_of}
 use Rattle.meetings.proofs.BadCurves.{not_half_arc}
 use Rattle.meetings.proofs.Choices.{clash, last}
-use Rattle.area_faults.specs.MeetingMarks.{AreMeetingMarks, AreMoreMarks, AreUnmarkedTo, HasArcMarks, IsCurveEdge}
+use Rattle.area_faults.specs.MeetingMarks.{AreMeetingMarks, AreMoreMarks, AreUnmarkedTo}
+use Rattle.area_faults.specs.MeetingMarks.{HasArcMarks, IsCurveEdge}
 
 abbrev number_of : List ℕ → ℕ → ℕ
 number_of numbers m = get_or numbers m 0
 
 -- what is not unmarked is marked
-pub refuted_mark : (marks : List Bool) (i : ℕ) (r : Bool) → (IsTrue r ↔ (mark_of marks i ≡ false)) → r ≡ false → mark_of marks i ≡ true
+pub refuted_mark : (marks : List Bool) (i : ℕ) (r : Bool) → (IsTrue r ↔ (mark_of marks i ≡ false))
+    → r ≡ false → mark_of marks i ≡ true
 refuted_mark marks i r h f = by (mark_of marks i) (λ e. clash (sym f ∙ h.1 e))
   where
     by : (b : Bool) → (b ≡ false → b ≡ true) → b ≡ true
@@ -36,7 +41,8 @@ refuted_mark marks i r h f = by (mark_of marks i) (λ e. clash (sym f ∙ h.1 e)
     by false g = g refl
 
 -- ---- one curve more
-pub none_yet : (curves : List Curve) (marks : List Bool) (edges : List Edge) (numbers : List ℕ) → edges ≡ [] → numbers ≡ [] → AreUnmarkedTo curves marks 0 edges numbers
+pub none_yet : (curves : List Curve) (marks : List Bool) (edges : List Edge) (numbers : List ℕ)
+    → edges ≡ [] → numbers ≡ [] → AreUnmarkedTo curves marks 0 edges numbers
 none_yet curves marks edges numbers e f =
     let s = ap length e in
     let t = ap length f in
@@ -47,11 +53,13 @@ none_yet curves marks edges numbers e f =
       whole = λ i l. absurd (omega (arith, l));
     }
 
-kept : (curves : List Curve) (k : ℕ) (e : Edge) (n : ℕ) → IsCurveEdge curves k e n → IsCurveEdge curves (k + 1) e n
+kept : (curves : List Curve) (k : ℕ) (e : Edge) (n : ℕ) → IsCurveEdge curves k e n
+    → IsCurveEdge curves (k + 1) e n
 kept curves k e n s = record { known = (let l = s.known in omega (arith, l)); sorted = s.sorted; ends = s.ends }
 
 module _ (curves : List Curve) (marks : List Bool) (k : ℕ) (edges : List Edge) (numbers : List ℕ) (a : AreUnmarkedTo curves marks k edges numbers) where
-  pub passed_over : mark_of marks k ≡ true → (edges2 : List Edge) (numbers2 : List ℕ) → edges2 ≡ edges → numbers2 ≡ numbers → AreUnmarkedTo curves marks (k + 1) edges2 numbers2
+  pub passed_over : mark_of marks k ≡ true → (edges2 : List Edge) (numbers2 : List ℕ)
+      → edges2 ≡ edges → numbers2 ≡ numbers → AreUnmarkedTo curves marks (k + 1) edges2 numbers2
   passed_over t edges2 numbers2 q r = subst (λ (es : List Edge). AreUnmarkedTo curves marks (k + 1) es numbers2) (sym q) (subst (λ (ns : List ℕ). AreUnmarkedTo curves marks (k + 1) edges ns) (sym r) (record {
     size = a.size;
     few = (let f = a.few in omega (arith, f));
@@ -78,7 +86,8 @@ module _ (curves : List Curve) (marks : List Bool) (k : ℕ) (edges : List Edge)
     number_back : (m : ℕ) → m ≡ length edges → number_of more m ≡ k
     number_back m l = ap (λ ns. number_of ns m) r ∙ ap (λ (j : ℕ). number_of (numbers ++ k ∷ []) j) (l ∙ sym a.size) ∙ get_or-append_seam numbers k [] 0
 
-    pub one_more : Before e.low e.high → IsEdgeOf e (curve_of curves k) → AreUnmarkedTo curves marks (k + 1) new more
+    pub one_more : Before e.low e.high → IsEdgeOf e (curve_of curves k)
+        → AreUnmarkedTo curves marks (k + 1) new more
     one_more b ends = record {
       size = (let z = a.size in let x = new_size in let y = more_size in omega (arith, x, y, z));
       few = (let f = a.few in let x = new_size in omega (arith, f, x));
@@ -95,7 +104,9 @@ module _ (curves : List Curve) (marks : List Bool) (k : ℕ) (edges : List Edge)
         at_end : (m : ℕ) → m < length new → length edges ≤ m → m ≡ length edges
         at_end m l g = let x = new_size in omega (arith, l, g, x)
 
-pub all_curves : (curves : List Curve) (marks : List Bool) (k : ℕ) (edges : List Edge) (numbers : List ℕ) → length curves ≤ k → k ≤ length curves → AreUnmarkedTo curves marks k edges numbers → AreUnmarkedTo curves marks (length curves) edges numbers
+pub all_curves : (curves : List Curve) (marks : List Bool) (k : ℕ) (edges : List Edge) (numbers : List ℕ)
+    → length curves ≤ k → k ≤ length curves → AreUnmarkedTo curves marks k edges numbers
+    → AreUnmarkedTo curves marks (length curves) edges numbers
 all_curves curves marks k edges numbers l m a = subst (λ (n : ℕ). AreUnmarkedTo curves marks n edges numbers) (omega (arith, l, m)) a
 
 -- ---- the edges of a window
@@ -103,11 +114,13 @@ module _ (low high : Point) (curves : List Curve) (marks : List Bool) (edges : L
   pub all_sorted : AreSorted edges
   all_sorted m l = (a.each m l).sorted
 
-  both_inside : (e : Edge) (c : Curve) → IsDrawn low high c → IsEdgeOf e c → IsInside low high e.low × IsInside low high e.high
+  both_inside : (e : Edge) (c : Curve) → IsDrawn low high c → IsEdgeOf e c
+      → IsInside low high e.low × IsInside low high e.high
   both_inside e c d (inl q) = (subst (IsInside low high) (sym q.0) d.from, subst (IsInside low high) (sym q.1) d.to)
   both_inside e c d (inr q) = (subst (IsInside low high) (sym q.0) d.to, subst (IsInside low high) (sym q.1) d.from)
 
-  inside : All (IsDrawn low high) curves → (m : ℕ) → m < length edges → IsInside low high (edge_of edges m).low × IsInside low high (edge_of edges m).high
+  inside : All (IsDrawn low high) curves → (m : ℕ) → m < length edges
+      → IsInside low high (edge_of edges m).low × IsInside low high (edge_of edges m).high
   inside drawn m l = let s = a.each m l in both_inside (edge_of edges m) (curve_of curves (number_of numbers m)) (drawn (number_of numbers m) _ s.known) s.ends
 
   pub all_close : IsNarrow low high → All (IsDrawn low high) curves → AreAllClose edges
@@ -128,7 +141,8 @@ by_kind {P} c f g = by c.kind f g
     by kind.Straight f g = f refl
     by kind.HalfArc f g = g refl
 
-by_mark : {P : Type 0} (marks : List Bool) (i : ℕ) → (mark_of marks i ≡ true → P) → (mark_of marks i ≡ false → P) → P
+by_mark : {P : Type 0} (marks : List Bool) (i : ℕ) → (mark_of marks i ≡ true → P)
+    → (mark_of marks i ≡ false → P) → P
 by_mark {P} marks i f g = by (mark_of marks i) f g
   where
     by : (b : Bool) → (b ≡ true → P) → (b ≡ false → P) → P
@@ -137,10 +151,12 @@ by_mark {P} marks i f g = by (mark_of marks i) f g
 
 module _ (d : Plan) (marks : List Bool) (edges : List Edge) (numbers : List ℕ) (arcs : HasArcMarks d marks) (e : AreUnmarkedTo d.curves marks (length d.curves) edges numbers) where
   -- a curve that is not marked is a straight
-  straight : (i : ℕ) → i < length d.curves → mark_of marks i ≡ false → (curve d i).kind ≡ kind.Straight
+  straight : (i : ℕ) → i < length d.curves → mark_of marks i ≡ false
+      → (curve d i).kind ≡ kind.Straight
   straight i l f = by_kind (curve d i) (λ (s : (curve d i).kind ≡ kind.Straight). s) (λ (h : (curve d i).kind ≡ kind.HalfArc). clash (sym f ∙ arcs.half_arc i l h))
 
-  pub marks_are_enough : ((a b : ℕ) → a < length edges → b < length edges → (a ≡ b → ⊥) → Bad (edge_of edges a) (edge_of edges b) → ⊥) → AreMeetingMarks d marks
+  pub marks_are_enough : ((a b : ℕ) → a < length edges → b < length edges → (a ≡ b → ⊥) → Bad (edge_of edges a) (edge_of edges b) → ⊥)
+      → AreMeetingMarks d marks
   marks_are_enough clear = record {
     size = arcs.size;
     pairs = λ i j p. by_mark marks i (λ (m : mark_of marks i ≡ true). inl m) (λ (f : mark_of marks i ≡ false). by_mark marks j (λ (m : mark_of marks j ≡ true). inr m) (λ (g : mark_of marks j ≡ false). absurd (none i j p f g)));
@@ -162,10 +178,12 @@ module _ (d : Plan) (marks : List Bool) (edges : List Edge) (numbers : List ℕ)
           ((bad_edges_is (edge_of edges m) (edge_of edges n) (curve d i) (curve d j) ends_m ends_n si sj).1 h)
 
 -- ---- marks
-pub more_arc_marks : (d : Plan) (before after : List Bool) → HasArcMarks d before → AreMoreMarks before after → HasArcMarks d after
+pub more_arc_marks : (d : Plan) (before after : List Bool) → HasArcMarks d before
+    → AreMoreMarks before after → HasArcMarks d after
 more_arc_marks d before after a m = record { size = m.size ∙ a.size; half_arc = λ i l h. m.kept i (a.half_arc i l h) }
 
-pub all_are_enough : (d : Plan) (n : ℕ) (marks : List Bool) → n ≡ length d.curves → marks ≡ replicate n true → AreMeetingMarks d marks
+pub all_are_enough : (d : Plan) (n : ℕ) (marks : List Bool) → n ≡ length d.curves
+    → marks ≡ replicate n true → AreMeetingMarks d marks
 all_are_enough d n marks e f = record {
   size = ap length f ∙ length-replicate n true ∙ e;
   pairs = λ i j p. inr (ap (λ ms. mark_of ms j) f ∙ all n j (let t = p.there in omega (arith, t, e)));
@@ -181,7 +199,9 @@ pub record AreMoreTo (first : List Bool) (k : ℕ) (marks : List Bool) : Type 0 
   pub size : length marks ≡ k
   pub kept : (i : ℕ) → i < k → mark_of first i ≡ true → mark_of marks i ≡ true
 
-pub more_one : (first : List Bool) (k : ℕ) (marks new : List Bool) (b : Bool) → AreMoreTo first k marks → new ≡ marks ++ b ∷ [] → (mark_of first k ≡ true → b ≡ true) → AreMoreTo first (k + 1) new
+pub more_one : (first : List Bool) (k : ℕ) (marks new : List Bool) (b : Bool)
+    → AreMoreTo first k marks → new ≡ marks ++ b ∷ [] → (mark_of first k ≡ true → b ≡ true)
+    → AreMoreTo first (k + 1) new
 more_one first k marks new b a q h = record {
   size = (let s = ap length q ∙ length-append marks (b ∷ []) in let z = a.size in omega (arith, s, z));
   kept = λ i l t. by_lt i k
@@ -195,7 +215,8 @@ more_one first k marks new b a q h = record {
     back : (i : ℕ) → i ≡ k → mark_of new i ≡ b
     back i m = ap (λ ms. mark_of ms i) q ∙ ap (λ (j : ℕ). mark_of (marks ++ b ∷ []) j) (m ∙ sym a.size) ∙ get_or-append_seam marks b [] false
 
-pub more_all : (first : List Bool) (k : ℕ) (marks : List Bool) → length first ≤ k → k ≤ length first → AreMoreTo first k marks → AreMoreMarks first marks
+pub more_all : (first : List Bool) (k : ℕ) (marks : List Bool) → length first ≤ k → k ≤ length first
+    → AreMoreTo first k marks → AreMoreMarks first marks
 more_all first k marks l m a = record {
   size = (let z = a.size in omega (arith, z, l, m));
   kept = λ i t. a.kept i (omega (arith, l, there first i t)) t;

@@ -1,5 +1,6 @@
 -- Small words on numbers.
-use Rattle.std.proofs.Common.{◌≡◌, ℕ, zero, suc, ◌+◌, ◌<◌, ◌≤◌, List, [], ◌∷◌, ◌++◌, length, get_or, length-append, ap, refl, sym, subst, ◌∙◌, arith}
+use Rattle.std.proofs.Common.{◌≡◌, ℕ, zero, suc, ◌+◌, ◌<◌, ◌≤◌, List, [], ◌∷◌, ◌++◌, length, get_or}
+use Rattle.std.proofs.Common.{length-append, ap, refl, sym, subst, ◌∙◌, arith}
 
 -- below k + 1: below k, or k
 pub less_or : (j k : ℕ) (P : Type 0) → j < k + 1 → (j < k → P) → (j ≡ k → P) → P
@@ -20,7 +21,8 @@ pub funext : {A B : Type 0} (f g : A → B) → ((x : A) → f x ≡ g x) → f 
 funext f g e = λ i. λ x. e x i
 
 -- ---- a list with one entry more
-front_entry : {X : Type 0} (xs : List X) (x y : X) (j : ℕ) → j < length xs → get_or (xs ++ x ∷ []) j y ≡ get_or xs j y
+front_entry : {X : Type 0} (xs : List X) (x y : X) (j : ℕ) → j < length xs
+    → get_or (xs ++ x ∷ []) j y ≡ get_or xs j y
 front_entry [] x y j l = absurd (omega (arith, l))
 front_entry (z ∷ xs) x y zero l = refl
 front_entry (z ∷ xs) x y (suc j) l = front_entry xs x y j (omega (arith, l))
@@ -29,10 +31,12 @@ last_entry : {X : Type 0} (xs : List X) (x y : X) → get_or (xs ++ x ∷ []) (l
 last_entry [] x y = refl
 last_entry (z ∷ xs) x y = last_entry xs x y
 
-pub one_more_size : {X : Type 0} (xs ys : List X) (x : X) (k : ℕ) → length xs ≡ k → ys ≡ xs ++ x ∷ [] → length ys ≡ k + 1
+pub one_more_size : {X : Type 0} (xs ys : List X) (x : X) (k : ℕ) → length xs ≡ k
+    → ys ≡ xs ++ x ∷ [] → length ys ≡ k + 1
 one_more_size xs ys x k n e = (let a = length-append xs (x ∷ []) in let b = ap length e in omega (arith, a, b, n))
 
-pub one_more : {X : Type 0} (P : ℕ → X → Type 0) (xs ys : List X) (x y : X) (k : ℕ) → length xs ≡ k → ys ≡ xs ++ x ∷ []
+pub one_more : {X : Type 0} (P : ℕ → X → Type 0) (xs ys : List X) (x y : X) (k : ℕ) → length xs ≡ k
+    → ys ≡ xs ++ x ∷ []
     → ((j : ℕ) → j < k → P j (get_or xs j y)) → P k x → (j : ℕ) → j < k + 1 → P j (get_or ys j y)
 one_more P xs ys x y k n e h p j l = less_or j k (P j (get_or ys j y)) l
     (λ m. subst (P j) (sym (ap (λ (zs : List _). get_or zs j y) e ∙ front_entry xs x y j (omega (arith, m, n)))) (h j m))

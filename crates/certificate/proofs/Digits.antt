@@ -1,5 +1,6 @@
 -- Runs of digits.
-use Rattle.std.proofs.Common.{◌≡◌, ℕ, zero, suc, ◌+◌, ◌-◌, ◌*◌, ◌^◌, ◌<◌, ◌≤◌, min, Bool, true, false, cond, ◌&&◌, List, [], ◌∷◌, length, take, get_or, refl, arith}
+use Rattle.std.proofs.Common.{◌≡◌, ℕ, zero, suc, ◌+◌, ◌-◌, ◌*◌, ◌^◌, ◌<◌, ◌≤◌, min, Bool, true}
+use Rattle.std.proofs.Common.{false, cond, ◌&&◌, List, [], ◌∷◌, length, take, get_or, refl, arith}
 use Rattle.std.specs.Char.{is_ascii_digit, digit_value}
 use Rattle.std.specs.Str.{all_ascii_digits}
 use Rattle.std.specs.Str.Parse.{digits_value}
@@ -13,16 +14,19 @@ both_true true b h = (refl, h)
 both_true false b h = absurd (cc)
 
 -- the digits at the front are digits
-front_by_first : (c : ℕ) (bytes : List ℕ) (b : Bool) → is_ascii_digit c ≡ b → all_ascii_digits (take (prefix_len is_ascii_digit bytes) bytes) ≡ true
+front_by_first : (c : ℕ) (bytes : List ℕ) (b : Bool) → is_ascii_digit c ≡ b
+    → all_ascii_digits (take (prefix_len is_ascii_digit bytes) bytes) ≡ true
     → all_ascii_digits (take (cond b (1 + prefix_len is_ascii_digit bytes) 0) (c ∷ bytes)) ≡ true
 front_by_first c bytes true e h = grind (arith, common_steps)
 front_by_first c bytes false e h = refl
 
-pub front_is_digits : (bytes : List ℕ) → all_ascii_digits (take (prefix_len is_ascii_digit bytes) bytes) ≡ true
+pub front_is_digits : (bytes : List ℕ)
+    → all_ascii_digits (take (prefix_len is_ascii_digit bytes) bytes) ≡ true
 front_is_digits [] = refl
 front_is_digits (c ∷ bytes) = front_by_first c bytes (is_ascii_digit c) refl (front_is_digits bytes)
 
-digit_at : (ds : List ℕ) (i : ℕ) → all_ascii_digits ds ≡ true → i < length ds → is_ascii_digit (get_or ds i 0) ≡ true
+digit_at : (ds : List ℕ) (i : ℕ) → all_ascii_digits ds ≡ true → i < length ds
+    → is_ascii_digit (get_or ds i 0) ≡ true
 digit_at [] i h l = absurd (omega arith)
 digit_at (d ∷ ds) zero h l = (both_true _ _ h).0
 digit_at (d ∷ ds) (suc i) h l = digit_at ds i (both_true _ _ h).1 (omega arith)
@@ -31,13 +35,15 @@ digit_bounds : (c : ℕ) → is_ascii_digit c ≡ true → (48 ≤ c) × (c ≤ 
 digit_bounds c h = grind (arith, nat_tests)
 
 -- a digit, as the code reads it
-pub digit_low : (ds : List ℕ) (i : ℕ) → all_ascii_digits ds ≡ true → i < length ds → 48 ≤ get_or ds i 0
+pub digit_low : (ds : List ℕ) (i : ℕ) → all_ascii_digits ds ≡ true → i < length ds
+    → 48 ≤ get_or ds i 0
 digit_low ds i h l = (digit_bounds _ (digit_at ds i h l)).0
 
 value_of_digit : (c : ℕ) → is_ascii_digit c ≡ true → digit_value c ≡ c - 48
 value_of_digit c h = grind (arith, nat_tests)
 
-pub value_more : (ds : List ℕ) (i v : ℕ) → all_ascii_digits ds ≡ true → i < length ds → v ≡ min (digits_value 10 (take i ds)) (2 ^ 32)
+pub value_more : (ds : List ℕ) (i v : ℕ) → all_ascii_digits ds ≡ true → i < length ds
+    → v ≡ min (digits_value 10 (take i ds)) (2 ^ 32)
     → min (v * 10 + (get_or ds i 0 - 48)) (2 ^ 32) ≡ min (digits_value 10 (take (i + 1) ds)) (2 ^ 32)
 value_more ds i v h l e =
     let d : digit_value (get_or ds i 0) ≡ get_or ds i 0 - 48 = value_of_digit (get_or ds i 0) (digit_at ds i h l) in

@@ -1,5 +1,7 @@
 -- The first bad line: what reading stops at is what the definition names.
-use Rattle.std.proofs.Common.{◌≡◌, ℕ, zero, suc, ◌+◌, ◌^◌, ◌<◌, replicate, Bool, true, false, not, cond, nat_eq, List, [], ◌∷◌, ◌++◌, length, Some, Result, Ok, Err, refl, sym, ap, subst, ◌∙◌, append_assoc, arith}
+use Rattle.std.proofs.Common.{◌≡◌, ℕ, zero, suc, ◌+◌, ◌^◌, ◌<◌, replicate, Bool, true, false, not}
+use Rattle.std.proofs.Common.{cond, nat_eq, List, [], ◌∷◌, ◌++◌, length, Some, Result, Ok, Err}
+use Rattle.std.proofs.Common.{refl, sym, ap, subst, ◌∙◌, append_assoc, arith}
 use Rattle.std.specs.Prelude.{codes, IfErr}
 use Rattle.std.specs.Fmt.{decimal}
 use Rattle.std.specs.Char.{is_ascii_digit}
@@ -17,25 +19,43 @@ use Rattle.certificate.specs.declared.forms.Version.{Version}
 use Rattle.certificate.specs.declared.forms.Version.TheVariants.{One, Two}
 use Rattle.certificate.specs.declared.fault.CertFault.{CertFault}
 use Rattle.certificate.specs.declared.fault.CertFault.TheVariants as faults
-use Rattle.certificate.specs.Spelling.{Plain, line, is_name_byte, IsName, link_word, side_word, bent_word, CanSay, FitsLink, FitsHalf, FitsEdge, FitsPlace, Fits, AreSpelt, event_line, edge_line, place_line, certificate_text, Spells}
-use Rattle.certificate.specs.Parts.{Line, Title, version_at, areas_at, title_at, sizes_at, event_at, edge_at, place_at, end_at}
-use Rattle.certificate.specs.Reading.{Text, Lines, line_at, many_at, plain, certificate_at, if_ended, list_of, Gives}
-use Rattle.certificate.specs.FirstBad.{lf_count, first_lines, Begin, IsFirstBad, IsFault, bad_line, bad_number, too_short, out_of_memory}
+use Rattle.certificate.specs.Spelling.{Plain, line, is_name_byte, IsName, link_word, side_word}
+use Rattle.certificate.specs.Spelling.{bent_word, CanSay, FitsLink, FitsHalf, FitsEdge, FitsPlace}
+use Rattle.certificate.specs.Spelling.{Fits, AreSpelt, event_line, edge_line, place_line}
+use Rattle.certificate.specs.Spelling.{certificate_text, Spells}
+use Rattle.certificate.specs.Parts.{Line, Title, version_at, areas_at, title_at, sizes_at, event_at}
+use Rattle.certificate.specs.Parts.{edge_at, place_at, end_at}
+use Rattle.certificate.specs.Reading.{Text, Lines, line_at, many_at, plain, certificate_at}
+use Rattle.certificate.specs.Reading.{if_ended, list_of, Gives}
+use Rattle.certificate.specs.FirstBad.{lf_count, first_lines, Begin, IsFirstBad, IsFault, bad_line}
+use Rattle.certificate.specs.FirstBad.{bad_number, too_short, out_of_memory}
 use Rattle.certificate.proofs.Digits.{both_true}
 use Rattle.certificate.proofs.PartLaws.{decimal_digits, each_digit}
-use Rattle.certificate.proofs.FormLaws.{size_words, FitsSizes, version_words, version_gave, version_is, areas_gave, areas_is, title_gave, title_is, sizes_gave, sizes_is, event_gave, event_is, edge_gave, edge_is, place_gave, place_is, end_gave, end_is}
-use Rattle.certificate.proofs.TextLaws.{from, then_ok, ok_is, line_is, line_some, IsRead, event_read, edge_read, place_read, same_sizes, many_is, FitsIn, all_fit, all_said, all_fit_in, certificate_read, list_is}
+use Rattle.certificate.proofs.FormLaws.{size_words, FitsSizes, version_words, version_gave}
+use Rattle.certificate.proofs.FormLaws.{version_is, areas_gave, areas_is, title_gave, title_is}
+use Rattle.certificate.proofs.FormLaws.{sizes_gave, sizes_is, event_gave, event_is, edge_gave}
+use Rattle.certificate.proofs.FormLaws.{edge_is, place_gave, place_is, end_gave, end_is}
+use Rattle.certificate.proofs.TextLaws.{from, then_ok, ok_is, line_is, line_some, IsRead}
+use Rattle.certificate.proofs.TextLaws.{event_read, edge_read, place_read, same_sizes, many_is}
+use Rattle.certificate.proofs.TextLaws.{FitsIn, all_fit, all_said, all_fit_in, certificate_read}
+use Rattle.certificate.proofs.TextLaws.{list_is}
 use Rattle.certificate.proofs.FirstLines.{AreLines, IsInner, inner_lines, last_line}
-use Rattle.certificate.proofs.Stops.{IsReported, reported_line, reported_number, reported_short, Stopped, Went, Det, det_of_read, then_err, ok_no_err, err_is, line_stops, line_went, both_texts, Both, first_stops, second_stops, map_stops, both_went, map_went, both_det, AreSo, all_same, many_stops, many_went}
+use Rattle.certificate.proofs.Stops.{IsReported, reported_line, reported_number, reported_short}
+use Rattle.certificate.proofs.Stops.{Stopped, Went, Det, det_of_read, then_err, ok_no_err, err_is}
+use Rattle.certificate.proofs.Stops.{line_stops, line_went, both_texts, Both, first_stops}
+use Rattle.certificate.proofs.Stops.{second_stops, map_stops, both_went, map_went, both_det, AreSo}
+use Rattle.certificate.proofs.Stops.{all_same, many_stops, many_went}
 
 -- ---- each kind of line is one line
 
-words_lines : (words : List (List ℕ)) → AllByRecursion (AllByRecursion IsInner) words → AreLines 1 (line words)
+words_lines : (words : List (List ℕ)) → AllByRecursion (AllByRecursion IsInner) words
+    → AreLines 1 (line words)
 words_lines [] h = last_line
 words_lines (w ∷ []) h = inner_lines zero w (10 ∷ []) h.0 last_line
 words_lines (w ∷ n ∷ words) h = inner_lines zero w (32 ∷ line (n ∷ words)) h.0 (inner_lines zero (32 ∷ []) (line (n ∷ words)) (refl, tt) (words_lines (n ∷ words) h.1))
 
-digits_inner : (ds : List ℕ) → AllByRecursion (λ c. is_ascii_digit c ≡ true) ds → AllByRecursion IsInner ds
+digits_inner : (ds : List ℕ) → AllByRecursion (λ c. is_ascii_digit c ≡ true) ds
+    → AllByRecursion IsInner ds
 digits_inner [] h = tt
 digits_inner (d ∷ ds) h = let k = h.0 in let e : nat_eq d 10 ≡ false = grind (arith, nat_tests) in (e, digits_inner ds h.1)
 
@@ -46,7 +66,8 @@ not_true : (b : Bool) → not b ≡ true → b ≡ false
 not_true true h = absurd (cc)
 not_true false h = refl
 
-name_inner : (name : List ℕ) → AllByRecursion (λ c. is_name_byte c ≡ true) name → AllByRecursion IsInner name
+name_inner : (name : List ℕ) → AllByRecursion (λ c. is_name_byte c ≡ true) name
+    → AllByRecursion IsInner name
 name_inner [] h = tt
 name_inner (c ∷ name) h = (not_true (nat_eq c 10) (both_true (not (nat_eq c 32)) (not (nat_eq c 10)) h.0).1, name_inner name h.1)
 
@@ -246,7 +267,8 @@ edge_det = det_of_read (line_at edge_at) edge_line FitsEdge edge_read
 place_det : Det place_line FitsPlace
 place_det = det_of_read (line_at place_at) place_line FitsPlace place_read
 
-many_det : {A : Type 0} (one : Text → Lines A) (text : A → List ℕ) (P : A → Type 0) → ((x : A) (n : ℕ) (rest : List ℕ) → P x → IsRead one (text x ++ rest) n x rest)
+many_det : {A : Type 0} (one : Text → Lines A) (text : A → List ℕ) (P : A → Type 0)
+    → ((x : A) (n : ℕ) (rest : List ℕ) → P x → IsRead one (text x ++ rest) n x rest)
     → (k : ℕ) → Det (flat_map text) (AreSo P k)
 many_det {A = A} one text P is k = det_of_read (many_at one k) (flat_map text) (AreSo P k)
     (λ xs n rest p. let r = many_is one text P is xs n rest p.1 in (r.0, ap (λ (m : ℕ). many_at one m (from (flat_map text xs ++ rest) n)) (sym p.0) ∙ r.1))
@@ -254,7 +276,8 @@ many_det {A = A} one text P is k = det_of_read (many_at one k) (flat_map text) (
 areas_det : Det areas_text IsShortNumber
 areas_det = det_of_read (line_at areas_at) areas_text IsShortNumber (λ x n rest p. read_line areas_at (λ m. codes "AREAS" ∷ decimal m ∷ []) x n rest (areas_is x rest p))
 
-version_read : (x : Version) (n : ℕ) (rest : List ℕ) → IsVersion x → IsRead (line_at version_at) (version_text x ++ rest) n x rest
+version_read : (x : Version) (n : ℕ) (rest : List ℕ) → IsVersion x
+    → IsRead (line_at version_at) (version_text x ++ rest) n x rest
 version_read x n rest p = read_line version_at version_words x n rest (version_is x rest)
 
 version_det : Det version_text IsVersion
@@ -262,54 +285,68 @@ version_det = det_of_read (line_at version_at) version_text IsVersion version_re
 
 -- ---- what each line went over
 
-title_went : (t : Text) (x : Title) (u : Text) → line_at title_at t ≡ Ok (x, u) → Went title_text FitsTitle t x u
+title_went : (t : Text) (x : Title) (u : Text) → line_at title_at t ≡ Ok (x, u)
+    → Went title_text FitsTitle t x u
 title_went = line_went title_at title_text FitsTitle (λ bytes y rest h. let g = title_gave bytes y rest h in (g.0, (g.1, g.2, g.3))) title_lines
 
-sizes_went : (v : Version) (t : Text) (x : Sizes) (u : Text) → line_at (sizes_at v) t ≡ Ok (x, u) → Went (sizes_text v) (FitsSizes v) t x u
+sizes_went : (v : Version) (t : Text) (x : Sizes) (u : Text) → line_at (sizes_at v) t ≡ Ok (x, u)
+    → Went (sizes_text v) (FitsSizes v) t x u
 sizes_went v = line_went (sizes_at v) (sizes_text v) (FitsSizes v) (sizes_gave v) (sizes_lines v)
 
-event_went : (t : Text) (x : ℕ) (u : Text) → line_at event_at t ≡ Ok (x, u) → Went event_line IsShortNumber t x u
+event_went : (t : Text) (x : ℕ) (u : Text) → line_at event_at t ≡ Ok (x, u)
+    → Went event_line IsShortNumber t x u
 event_went = line_went event_at event_line IsShortNumber event_gave event_lines
 
-edge_went : (t : Text) (x : HalfNote × HalfNote) (u : Text) → line_at edge_at t ≡ Ok (x, u) → Went edge_line FitsEdge t x u
+edge_went : (t : Text) (x : HalfNote × HalfNote) (u : Text) → line_at edge_at t ≡ Ok (x, u)
+    → Went edge_line FitsEdge t x u
 edge_went = line_went edge_at edge_line FitsEdge edge_gave edge_lines
 
-place_went : (t : Text) (x : PointPlace) (u : Text) → line_at place_at t ≡ Ok (x, u) → Went place_line FitsPlace t x u
+place_went : (t : Text) (x : PointPlace) (u : Text) → line_at place_at t ≡ Ok (x, u)
+    → Went place_line FitsPlace t x u
 place_went = line_went place_at place_line FitsPlace place_gave place_lines
 
-end_went : (t : Text) (x : Unit {0}) (u : Text) → line_at end_at t ≡ Ok (x, u) → Went end_text IsAny t x u
+end_went : (t : Text) (x : Unit {0}) (u : Text) → line_at end_at t ≡ Ok (x, u)
+    → Went end_text IsAny t x u
 end_went = line_went end_at end_text IsAny (λ bytes y rest h. (end_gave bytes y rest h, tt)) end_lines
 
-areas_went : (t : Text) (x : ℕ) (u : Text) → line_at areas_at t ≡ Ok (x, u) → Went areas_text IsShortNumber t x u
+areas_went : (t : Text) (x : ℕ) (u : Text) → line_at areas_at t ≡ Ok (x, u)
+    → Went areas_text IsShortNumber t x u
 areas_went = line_went areas_at areas_text IsShortNumber areas_gave areas_lines
 
-version_went : (t : Text) (x : Version) (u : Text) → line_at version_at t ≡ Ok (x, u) → Went version_text IsVersion t x u
+version_went : (t : Text) (x : Version) (u : Text) → line_at version_at t ≡ Ok (x, u)
+    → Went version_text IsVersion t x u
 version_went = line_went version_at version_text IsVersion (λ bytes y rest h. (version_gave bytes y rest h, tt)) version_lines
 
 -- ---- where each line stops
 
-title_stops : (t : Text) (e : CertFault) → line_at title_at t ≡ Err e → Stopped title_text FitsTitle t e
+title_stops : (t : Text) (e : CertFault) → line_at title_at t ≡ Err e
+    → Stopped title_text FitsTitle t e
 title_stops = line_stops title_at title_text FitsTitle some_title (some_name, some_name, some_name) (λ y rest p. title_is y rest p.0 p.1 p.2) title_lines
 
-sizes_stops : (v : Version) (t : Text) (e : CertFault) → line_at (sizes_at v) t ≡ Err e → Stopped (sizes_text v) (FitsSizes v) t e
+sizes_stops : (v : Version) (t : Text) (e : CertFault) → line_at (sizes_at v) t ≡ Err e
+    → Stopped (sizes_text v) (FitsSizes v) t e
 sizes_stops v = line_stops (sizes_at v) (sizes_text v) (FitsSizes v) no_sizes (none_fit v) (sizes_is v) (sizes_lines v)
 
-event_stops : (t : Text) (e : CertFault) → line_at event_at t ≡ Err e → Stopped event_line IsShortNumber t e
+event_stops : (t : Text) (e : CertFault) → line_at event_at t ≡ Err e
+    → Stopped event_line IsShortNumber t e
 event_stops = line_stops event_at event_line IsShortNumber 0 (omega arith) event_is event_lines
 
 edge_stops : (t : Text) (e : CertFault) → line_at edge_at t ≡ Err e → Stopped edge_line FitsEdge t e
 edge_stops = line_stops edge_at edge_line FitsEdge (some_note, some_note) (note_fits, note_fits) edge_is edge_lines
 
-place_stops : (t : Text) (e : CertFault) → line_at place_at t ≡ Err e → Stopped place_line FitsPlace t e
+place_stops : (t : Text) (e : CertFault) → line_at place_at t ≡ Err e
+    → Stopped place_line FitsPlace t e
 place_stops = line_stops place_at place_line FitsPlace (Cell 0) (omega arith) place_is place_lines
 
 end_stops : (t : Text) (e : CertFault) → line_at end_at t ≡ Err e → Stopped end_text IsAny t e
 end_stops = line_stops end_at end_text IsAny tt tt (λ y rest p. end_is rest) end_lines
 
-areas_stops : (t : Text) (e : CertFault) → line_at areas_at t ≡ Err e → Stopped areas_text IsShortNumber t e
+areas_stops : (t : Text) (e : CertFault) → line_at areas_at t ≡ Err e
+    → Stopped areas_text IsShortNumber t e
 areas_stops = line_stops areas_at areas_text IsShortNumber 0 (omega arith) areas_is areas_lines
 
-version_stops : (t : Text) (e : CertFault) → line_at version_at t ≡ Err e → Stopped version_text IsVersion t e
+version_stops : (t : Text) (e : CertFault) → line_at version_at t ≡ Err e
+    → Stopped version_text IsVersion t e
 version_stops = line_stops version_at version_text IsVersion Two tt (λ y rest p. version_is y rest) version_lines
 
 -- ---- a certificate
@@ -320,7 +357,8 @@ notes_at n = many_at (line_at edge_at) n
 abbrev places_at : ℕ → Text → Lines (List PointPlace)
 places_at n = many_at (line_at place_at) n
 
-parts_stop : (v : Version) (t : Text) (e : CertFault) → certificate_at v t ≡ Err e → Stopped (text1 v) (Good1 v) t e
+parts_stop : (v : Version) (t : Text) (e : CertFault) → certificate_at v t ≡ Err e
+    → Stopped (text1 v) (Good1 v) t e
 unfolding certificate_at
 parts_stop v t e h =
     then_err (line_at title_at t) _ e _ h (λ i. first_stops title_text (λ x. text2 v) FitsTitle (λ x. Good2 v) (λ x p. some2 v) t e (title_stops t e i)) (λ title i1 e1.
@@ -342,7 +380,8 @@ parts_stop v t e h =
     (many_went (line_at place_at) place_line FitsPlace place_went c.points edges.1 places.0 places.1 i5) (
     then_err (line_at end_at places.1) _ e _ e5 (λ i. end_stops places.1 e i) (λ end i6 e6. ok_no_err (plain title.0 sizes.0 positions.0 edges.0 places.0, end.1) e _ e6)))))))))))
 
-there : (v : Version) (x : Title × Parts2) → Good1 v x → (c : Plain) × FitsIn v c × (certificate_text v c ≡ text1 v x)
+there : (v : Version) (x : Title × Parts2) → Good1 v x
+    → (c : Plain) × FitsIn v c × (certificate_text v c ≡ text1 v x)
 there v (title, (sizes, (positions, (edges, (places, end))))) ((topic, table, attribute), (fit, (events, (notes, (points, any))))) =
     let made = plain title sizes positions edges places in (
       made,
@@ -374,7 +413,8 @@ parts_of c = (
   (sizes_of c, (c.positions, (c.edges, (c.places, tt)))),
 )
 
-back : (v : Version) (c : Plain) → FitsIn v c → (x : Title × Parts2) × Good1 v x × (text1 v x ≡ certificate_text v c)
+back : (v : Version) (c : Plain) → FitsIn v c
+    → (x : Title × Parts2) × Good1 v x × (text1 v x ≡ certificate_text v c)
 back v c (f, said) = (
   parts_of c,
   (
@@ -385,10 +425,12 @@ back v c (f, said) = (
       (same_sizes v c (sizes_of c) refl refl refl refl refl),
 )
 
-certificate_stops : (v : Version) (t : Text) (e : CertFault) → certificate_at v t ≡ Err e → Stopped (certificate_text v) (FitsIn v) t e
+certificate_stops : (v : Version) (t : Text) (e : CertFault) → certificate_at v t ≡ Err e
+    → Stopped (certificate_text v) (FitsIn v) t e
 certificate_stops v t e h = map_stops (text1 v) (certificate_text v) (Good1 v) (FitsIn v) (there v) (back v) t e (parts_stop v t e h)
 
-parts_went : (v : Version) (t : Text) (c : Plain) (u : Text) → certificate_at v t ≡ Ok (c, u) → Went (certificate_text v) (FitsIn v) t c u
+parts_went : (v : Version) (t : Text) (c : Plain) (u : Text) → certificate_at v t ≡ Ok (c, u)
+    → Went (certificate_text v) (FitsIn v) t c u
 unfolding certificate_at there
 parts_went v t c u h =
     then_ok (line_at title_at t) _ (c, u) _ h (λ title i1 e1.
@@ -430,7 +472,8 @@ abbrev GoodTop : Top → Type 0
 GoodTop = Both IsVersion GoodList
 
 -- the list of a text, and the parts of a list's text
-spelt_there : (bytes : List ℕ) (x : Top) → GoodTop x → bytes ≡ top_text x → AreSpelt x.1.1 × Spells bytes x.1.1
+spelt_there : (bytes : List ℕ) (x : Top) → GoodTop x → bytes ≡ top_text x
+    → AreSpelt x.1.1 × Spells bytes x.1.1
 spelt_there bytes (v, (n, cs)) (any, (few, (size, fits))) e = (
   (subst (λ (m : ℕ). m < 2 ^ 32) (sym size) few, all_fit v cs fits),
   record {
@@ -440,7 +483,8 @@ spelt_there bytes (v, (n, cs)) (any, (few, (size, fits))) e = (
   },
 )
 
-spelt_back : (bytes : List ℕ) (cs : List Plain) → AreSpelt cs → Spells bytes cs → (x : Top) × GoodTop x × (top_text x ≡ bytes)
+spelt_back : (bytes : List ℕ) (cs : List Plain) → AreSpelt cs → Spells bytes cs
+    → (x : Top) × GoodTop x × (top_text x ≡ bytes)
 spelt_back bytes cs (few, fits) s = (
   (s.version, (length cs, cs)),
   (tt, (few, (refl, all_fit_in s.version cs fits s.said))),
@@ -461,13 +505,15 @@ top_det = both_det version_text list_text IsVersion GoodList version_det
     (λ v. both_det areas_text (λ n. certificates_text v) IsShortNumber (AreSo (FitsIn v)) areas_det (list_det v))
 
 -- no more stands after a whole list
-no_more : (bytes z : List ℕ) (cs ds : List Plain) → AreSpelt cs → AreSpelt ds → Spells bytes cs → Spells (bytes ++ z) ds → z ≡ []
+no_more : (bytes z : List ℕ) (cs ds : List Plain) → AreSpelt cs → AreSpelt ds → Spells bytes cs
+    → Spells (bytes ++ z) ds → z ≡ []
 no_more bytes z cs ds p q s t =
     let a = spelt_back (bytes ++ z) ds q t in
     let b = spelt_back bytes cs p s in
     sym (top_det a.0 b.0 [] z a.1 b.1 (append-nil (top_text a.0) ∙ a.2 ∙ ap (λ (x : List ℕ). x ++ z) (sym b.2))).1
 
-reported_fault : (bytes : List ℕ) (e : CertFault) → list_of bytes ≡ Err e → Stopped top_text GoodTop (from bytes 1) e → IsFault bytes e
+reported_fault : (bytes : List ℕ) (e : CertFault) → list_of bytes ≡ Err e
+    → Stopped top_text GoodTop (from bytes 1) e → IsFault bytes e
 reported_fault bytes e h (k, s, told) = by_report e told h
   where
     begin : Begin (first_lines k bytes)
@@ -498,7 +544,8 @@ reported_fault bytes e h (k, s, told) = by_report e told h
         }))
 
 -- what stands after a whole list is a bad line
-surplus : (bytes : List ℕ) (x : Top) (u : Text) (e : CertFault) → Went top_text GoodTop (from bytes 1) x u → if_ended x.1.1 u ≡ Err e → IsFault bytes e
+surplus : (bytes : List ℕ) (x : Top) (u : Text) (e : CertFault)
+    → Went top_text GoodTop (from bytes 1) x u → if_ended x.1.1 u ≡ Err e → IsFault bytes e
 surplus bytes x u e w h = by_rest u.rest refl
   where
     cs : List Plain
@@ -556,7 +603,8 @@ first_bad bytes e h =
     (both_went areas_text (λ n. text) IsShortNumber (AreSo (FitsIn v)) version.1 areas.0 areas.1 list.0 list.1 w2 w3) in
     surplus bytes (v, (areas.0, list.0)) list.1 e w e3)))
 
-pub is_first_bad : {V : Type 0} (views : V → List Plain) (bytes : List ℕ) (r : Result V CertFault) → Gives views r (list_of bytes) → IfErr r (IsFault bytes)
+pub is_first_bad : {V : Type 0} (views : V → List Plain) (bytes : List ℕ) (r : Result V CertFault)
+    → Gives views r (list_of bytes) → IfErr r (IsFault bytes)
 is_first_bad views bytes (Ok v) h = tt
 is_first_bad views bytes (Err faults.Memory) h = out_of_memory
 is_first_bad views bytes (Err (faults.Line n)) h = first_bad bytes (faults.Line n) h

@@ -1,5 +1,7 @@
 -- The lines: what is found is written there, and what is written there is found.
-use Rattle.std.proofs.Common.{◌≡◌, ℕ, ◌^◌, ◌<◌, zero, suc, Bool, true, false, cond, nat_eq, nat_lt, List, [], ◌∷◌, ◌++◌, length, Option, Some, None, refl, sym, ap, subst, ◌∙◌, append_assoc, arith}
+use Rattle.std.proofs.Common.{◌≡◌, ℕ, ◌^◌, ◌<◌, zero, suc, Bool, true, false, cond, nat_eq, nat_lt}
+use Rattle.std.proofs.Common.{List, [], ◌∷◌, ◌++◌, length, Option, Some, None, refl, sym, ap, subst}
+use Rattle.std.proofs.Common.{◌∙◌, append_assoc, arith}
 use Rattle.std.specs.Prelude.{codes}
 use Rattle.std.specs.Fmt.{decimal}
 use Rattle.std.proofs.lemmas.Bool.{eqb-true, ltb-true}
@@ -11,13 +13,22 @@ use Rattle.certificate.specs.declared.forms.Counts.{Counts}
 use Rattle.certificate.specs.declared.forms.Sizes.{Sizes}
 use Rattle.certificate.specs.declared.forms.Version.{Version}
 use Rattle.certificate.specs.declared.forms.Version.TheVariants.{One, Two}
-use Rattle.certificate.specs.Spelling.{line, IsName, FitsEdge, FitsPlace, CanSay, event_line, edge_line, place_line, side_word, link_word, bent_word, version_word}
-use Rattle.certificate.specs.Parts.{◌>>=◌, Line, after_word, name_at, number_at, half_at, both_notes, edge_at, numbered_at, event_at, side_at, tube, tube_at, cell, cell_at, place_after, place_at, Title, title_at, counts_of, bent_at, are_sizes, if_sizes, sizes_at, if_known, version_at, areas_at, end_at}
+use Rattle.certificate.specs.Spelling.{line, IsName, FitsEdge, FitsPlace, CanSay, event_line}
+use Rattle.certificate.specs.Spelling.{edge_line, place_line, side_word, link_word, bent_word}
+use Rattle.certificate.specs.Spelling.{version_word}
+use Rattle.certificate.specs.Parts.{◌>>=◌, Line, after_word, name_at, number_at, half_at}
+use Rattle.certificate.specs.Parts.{both_notes, edge_at, numbered_at, event_at, side_at, tube}
+use Rattle.certificate.specs.Parts.{tube_at, cell, cell_at, place_after, place_at, Title, title_at}
+use Rattle.certificate.specs.Parts.{counts_of, bent_at, are_sizes, if_sizes, sizes_at, if_known}
+use Rattle.certificate.specs.Parts.{version_at, areas_at, end_at}
 use Rattle.std.specs.Char.{is_ascii_digit}
 use Rattle.std.specs.Str.{all_ascii_digits}
 use Rattle.std.proofs.lemmas.Fmt.{decimal_digit, decimal_nonempty}
 use Rattle.certificate.proofs.Digits.{both_true}
-use Rattle.certificate.proofs.PartLaws.{pair_is, no_value, decimal_digits, then, some_is, chose, after_word_gave, after_word_is, name_gave, name_is, number_gave, number_is, half_onto, half_gave, half_is, side_gave, side_is}
+use Rattle.certificate.proofs.PartLaws.{pair_is, no_value, decimal_digits, then, some_is, chose}
+use Rattle.certificate.proofs.PartLaws.{after_word_gave, after_word_is, name_gave, name_is}
+use Rattle.certificate.proofs.PartLaws.{number_gave, number_is, half_onto, half_gave, half_is}
+use Rattle.certificate.proofs.PartLaws.{side_gave, side_is}
 
 -- words, and what follows their line
 abbrev pub line_onto : List (List ℕ) → List ℕ → List ℕ
@@ -30,12 +41,15 @@ line_then [] rest = refl
 line_then (word ∷ []) rest = append_assoc word (codes "\n") rest
 line_then (word ∷ next ∷ words) rest = append_assoc word (32 ∷ line (next ∷ words)) rest ∙ ap (λ (r : List ℕ). word ++ (32 ∷ r)) (line_then (next ∷ words) rest)
 
-pub with_line : (bytes : List ℕ) (words : List (List ℕ)) (rest : List ℕ) → bytes ≡ line_onto words rest → bytes ≡ line words ++ rest
+pub with_line : (bytes : List ℕ) (words : List (List ℕ)) (rest : List ℕ)
+    → bytes ≡ line_onto words rest → bytes ≡ line words ++ rest
 with_line bytes words rest e = e ∙ sym (line_then words rest)
 
 -- ---- a number after a word
 
-numbered_gave : (word bytes : List ℕ) (n : ℕ) (rest : List ℕ) → numbered_at word bytes ≡ Some (Some n, rest) → (bytes ≡ word ++ (decimal n ++ (10 ∷ rest))) × (n < 2 ^ 32)
+numbered_gave : (word bytes : List ℕ) (n : ℕ) (rest : List ℕ)
+    → numbered_at word bytes ≡ Some (Some n, rest)
+    → (bytes ≡ word ++ (decimal n ++ (10 ∷ rest))) × (n < 2 ^ 32)
 unfolding numbered_at
 numbered_gave word bytes n rest e =
     then (after_word word bytes) _ (Some n, rest) _ e (λ a i1 e1.
@@ -48,24 +62,29 @@ numbered_gave word bytes n rest e =
     let g3 = after_word_gave (codes "\n") m.1 b i3 in
     (cc (g1, g2.0, g3, ends), g2.1))))
 
-numbered_is : (word : List ℕ) (n : ℕ) (rest : List ℕ) → n < 2 ^ 32 → numbered_at word (word ++ (decimal n ++ (10 ∷ rest))) ≡ Some (Some n, rest)
+numbered_is : (word : List ℕ) (n : ℕ) (rest : List ℕ) → n < 2 ^ 32
+    → numbered_at word (word ++ (decimal n ++ (10 ∷ rest))) ≡ Some (Some n, rest)
 unfolding numbered_at
 numbered_is word n rest f = rw (after_word_is word (decimal n ++ (10 ∷ rest)), number_is n 10 rest f refl) refl
 
 -- ---- events
 
-pub event_gave : (bytes : List ℕ) (n : ℕ) (rest : List ℕ) → event_at bytes ≡ Some (Some n, rest) → (bytes ≡ event_line n ++ rest) × (n < 2 ^ 32)
+pub event_gave : (bytes : List ℕ) (n : ℕ) (rest : List ℕ) → event_at bytes ≡ Some (Some n, rest)
+    → (bytes ≡ event_line n ++ rest) × (n < 2 ^ 32)
 event_gave bytes n rest e = let g = numbered_gave (codes "V ") bytes n rest e in (with_line bytes (codes "V" ∷ decimal n ∷ []) rest g.0, g.1)
 
-pub event_is : (n : ℕ) (rest : List ℕ) → n < 2 ^ 32 → event_at (event_line n ++ rest) ≡ Some (Some n, rest)
+pub event_is : (n : ℕ) (rest : List ℕ) → n < 2 ^ 32
+    → event_at (event_line n ++ rest) ≡ Some (Some n, rest)
 event_is n rest f = ap event_at (line_then (codes "V" ∷ decimal n ∷ []) rest) ∙ numbered_is (codes "V ") n rest f
 
 -- ---- the number of certificates
 
-pub areas_gave : (bytes : List ℕ) (n : ℕ) (rest : List ℕ) → areas_at bytes ≡ Some (Some n, rest) → (bytes ≡ line (codes "AREAS" ∷ decimal n ∷ []) ++ rest) × (n < 2 ^ 32)
+pub areas_gave : (bytes : List ℕ) (n : ℕ) (rest : List ℕ) → areas_at bytes ≡ Some (Some n, rest)
+    → (bytes ≡ line (codes "AREAS" ∷ decimal n ∷ []) ++ rest) × (n < 2 ^ 32)
 areas_gave bytes n rest e = let g = numbered_gave (codes "AREAS ") bytes n rest e in (with_line bytes (codes "AREAS" ∷ decimal n ∷ []) rest g.0, g.1)
 
-pub areas_is : (n : ℕ) (rest : List ℕ) → n < 2 ^ 32 → areas_at (line (codes "AREAS" ∷ decimal n ∷ []) ++ rest) ≡ Some (Some n, rest)
+pub areas_is : (n : ℕ) (rest : List ℕ) → n < 2 ^ 32
+    → areas_at (line (codes "AREAS" ∷ decimal n ∷ []) ++ rest) ≡ Some (Some n, rest)
 areas_is n rest f = ap areas_at (line_then (codes "AREAS" ∷ decimal n ∷ []) rest) ∙ numbered_is (codes "AREAS ") n rest f
 
 -- ---- edges
@@ -73,14 +92,16 @@ areas_is n rest f = ap areas_at (line_then (codes "AREAS" ∷ decimal n ∷ []) 
 abbrev edge_words : HalfNote × HalfNote → List (List ℕ)
 edge_words e = codes "E" ∷ decimal e.0.label ∷ link_word e.0.link ∷ decimal e.0.rank ∷ decimal e.1.label ∷ link_word e.1.link ∷ decimal e.1.rank ∷ []
 
-both_made : (below above : Option HalfNote) (e : HalfNote × HalfNote) → both_notes below above ≡ Some e → (below ≡ Some e.0) × (above ≡ Some e.1)
+both_made : (below above : Option HalfNote) (e : HalfNote × HalfNote)
+    → both_notes below above ≡ Some e → (below ≡ Some e.0) × (above ≡ Some e.1)
 both_made below above e h =
     then below _ e _ h (λ b i f.
     then above _ e _ f (λ a j g.
     let q = some_is (b, a) e g in
     (i ∙ ap (λ (x : HalfNote × HalfNote). Some x.0) q, j ∙ ap (λ (x : HalfNote × HalfNote). Some x.1) q)))
 
-pub edge_gave : (bytes : List ℕ) (e : HalfNote × HalfNote) (rest : List ℕ) → edge_at bytes ≡ Some (Some e, rest) → (bytes ≡ edge_line e ++ rest) × FitsEdge e
+pub edge_gave : (bytes : List ℕ) (e : HalfNote × HalfNote) (rest : List ℕ)
+    → edge_at bytes ≡ Some (Some e, rest) → (bytes ≡ edge_line e ++ rest) × FitsEdge e
 unfolding edge_at
 edge_gave bytes e rest h =
     then (after_word (codes "E ") bytes) _ (Some e, rest) _ h (λ a i1 e1.
@@ -98,7 +119,8 @@ edge_gave bytes e rest h =
     let g5 = after_word_gave (codes "\n") above.1 c i5 in
     (with_line bytes (edge_words e) rest (cc (g1, g2.0, g3, g4.0, g5, ends)), (g2.1, g4.1)))))))
 
-pub edge_is : (e : HalfNote × HalfNote) (rest : List ℕ) → FitsEdge e → edge_at (edge_line e ++ rest) ≡ Some (Some e, rest)
+pub edge_is : (e : HalfNote × HalfNote) (rest : List ℕ) → FitsEdge e
+    → edge_at (edge_line e ++ rest) ≡ Some (Some e, rest)
 unfolding edge_at
 edge_is e rest f =
     ap edge_at (line_then (edge_words e) rest)
@@ -112,15 +134,18 @@ cell_words n = codes "P" ∷ decimal n ∷ []
 abbrev tube_words : ℕ → Bool → List (List ℕ)
 tube_words n inside = codes "P" ∷ codes "T" ∷ decimal n ∷ side_word inside ∷ []
 
-cell_made : (o : Option ℕ) (p : PointPlace) → cell o ≡ Some p → (n : ℕ) × (o ≡ Some n) × (Cell n ≡ p)
+cell_made : (o : Option ℕ) (p : PointPlace) → cell o ≡ Some p
+    → (n : ℕ) × (o ≡ Some n) × (Cell n ≡ p)
 cell_made None p e = absurd (cc)
 cell_made (Some n) p e = (n, refl, some_is (Cell n) p e)
 
-tube_made : (o : Option ℕ) (inside : Bool) (p : PointPlace) → tube o inside ≡ Some p → (n : ℕ) × (o ≡ Some n) × (Tube n inside ≡ p)
+tube_made : (o : Option ℕ) (inside : Bool) (p : PointPlace) → tube o inside ≡ Some p
+    → (n : ℕ) × (o ≡ Some n) × (Tube n inside ≡ p)
 tube_made None inside p e = absurd (cc)
 tube_made (Some n) inside p e = (n, refl, some_is (Tube n inside) p e)
 
-cell_gave : (bytes : List ℕ) (p : PointPlace) (rest : List ℕ) → cell_at bytes ≡ Some (Some p, rest) → (bytes ≡ place_line p ++ rest) × FitsPlace p
+cell_gave : (bytes : List ℕ) (p : PointPlace) (rest : List ℕ) → cell_at bytes ≡ Some (Some p, rest)
+    → (bytes ≡ place_line p ++ rest) × FitsPlace p
 unfolding cell_at
 cell_gave bytes p rest e =
     then (numbered_at (codes "P ") bytes) _ (Some p, rest) _ e (λ m i1 e1.
@@ -131,7 +156,8 @@ cell_gave bytes p rest e =
     let g = numbered_gave (codes "P ") bytes k.0 rest (i1 ∙ ap (λ (x : Option ℕ × List ℕ). Some x) o) in
     subst (λ (x : PointPlace). (bytes ≡ place_line x ++ rest) × FitsPlace x) k.2 (with_line bytes (cell_words k.0) rest g.0, g.1))
 
-tube_gave : (bytes start : List ℕ) (p : PointPlace) (rest : List ℕ) → bytes ≡ codes "P T " ++ start → tube_at start ≡ Some (Some p, rest) → (bytes ≡ place_line p ++ rest) × FitsPlace p
+tube_gave : (bytes start : List ℕ) (p : PointPlace) (rest : List ℕ) → bytes ≡ codes "P T " ++ start
+    → tube_at start ≡ Some (Some p, rest) → (bytes ≡ place_line p ++ rest) × FitsPlace p
 unfolding tube_at
 tube_gave bytes start p rest w e =
     then (number_at start) _ (Some p, rest) _ e (λ curve i1 e1.
@@ -147,30 +173,37 @@ tube_gave bytes start p rest w e =
     let g4 = after_word_gave (codes "\n") side.1 b i4 in
     subst (λ (x : PointPlace). (bytes ≡ place_line x ++ rest) × FitsPlace x) k.2 (with_line bytes (tube_words k.0 side.0) rest (cc (w, g1.0, g2, g3, g4, ends)), g1.1)))))
 
-place_by : (bytes : List ℕ) (o : Option (List ℕ)) (p : PointPlace) (rest : List ℕ) → after_word (codes "P T ") bytes ≡ o → place_after bytes o ≡ Some (Some p, rest) → (bytes ≡ place_line p ++ rest) × FitsPlace p
+place_by : (bytes : List ℕ) (o : Option (List ℕ)) (p : PointPlace) (rest : List ℕ)
+    → after_word (codes "P T ") bytes ≡ o → place_after bytes o ≡ Some (Some p, rest)
+    → (bytes ≡ place_line p ++ rest) × FitsPlace p
 place_by bytes None p rest o e = cell_gave bytes p rest e
 place_by bytes (Some start) p rest o e = tube_gave bytes start p rest (after_word_gave (codes "P T ") bytes start o) e
 
-pub place_gave : (bytes : List ℕ) (p : PointPlace) (rest : List ℕ) → place_at bytes ≡ Some (Some p, rest) → (bytes ≡ place_line p ++ rest) × FitsPlace p
+pub place_gave : (bytes : List ℕ) (p : PointPlace) (rest : List ℕ)
+    → place_at bytes ≡ Some (Some p, rest) → (bytes ≡ place_line p ++ rest) × FitsPlace p
 place_gave bytes p rest e = place_by bytes (after_word (codes "P T ") bytes) p rest refl e
 
 -- a digit is no T
-no_tube : (ds rest : List ℕ) → all_ascii_digits ds ≡ true → 0 < length ds → after_word (codes "P T ") (80 ∷ 32 ∷ (ds ++ rest)) ≡ None
+no_tube : (ds rest : List ℕ) → all_ascii_digits ds ≡ true → 0 < length ds
+    → after_word (codes "P T ") (80 ∷ 32 ∷ (ds ++ rest)) ≡ None
 no_tube [] rest h l = absurd (omega arith)
 no_tube (d ∷ ds) rest h l =
     let k = (both_true (is_ascii_digit d) (all_ascii_digits ds) h).0 in
     let e : nat_eq d 84 ≡ false = grind (arith, nat_tests) in
     rw e refl
 
-cell_is : (n : ℕ) (rest : List ℕ) → n < 2 ^ 32 → cell_at (80 ∷ 32 ∷ (decimal n ++ (10 ∷ rest))) ≡ Some (Some (Cell n), rest)
+cell_is : (n : ℕ) (rest : List ℕ) → n < 2 ^ 32
+    → cell_at (80 ∷ 32 ∷ (decimal n ++ (10 ∷ rest))) ≡ Some (Some (Cell n), rest)
 unfolding cell_at
 cell_is n rest f = ap (λ (o : Line ℕ). (o >>= λ m. Some (cell m.0, m.1))) (numbered_is (codes "P ") n rest f)
 
-tube_is : (n : ℕ) (inside : Bool) (rest : List ℕ) → n < 2 ^ 32 → tube_at (decimal n ++ (32 ∷ (side_word inside ++ (10 ∷ rest)))) ≡ Some (Some (Tube n inside), rest)
+tube_is : (n : ℕ) (inside : Bool) (rest : List ℕ) → n < 2 ^ 32
+    → tube_at (decimal n ++ (32 ∷ (side_word inside ++ (10 ∷ rest)))) ≡ Some (Some (Tube n inside), rest)
 unfolding tube_at
 tube_is n inside rest f = rw (number_is n 32 (side_word inside ++ (10 ∷ rest)) f refl, side_is inside (10 ∷ rest)) refl
 
-pub place_is : (p : PointPlace) (rest : List ℕ) → FitsPlace p → place_at (place_line p ++ rest) ≡ Some (Some p, rest)
+pub place_is : (p : PointPlace) (rest : List ℕ) → FitsPlace p
+    → place_at (place_line p ++ rest) ≡ Some (Some p, rest)
 place_is (Cell n) rest f =
     ap place_at (line_then (cell_words n) rest)
     ∙ ap (place_after (line_onto (cell_words n) rest)) (no_tube (decimal n) (10 ∷ rest) (decimal_digits n f) (decimal_nonempty n (omega arith)))
@@ -204,7 +237,8 @@ title_gave bytes t rest e =
     subst (λ (x : Title). (bytes ≡ line (codes "AREA" ∷ x.topic ∷ x.table ∷ x.attribute ∷ []) ++ rest) × IsName x.topic × IsName x.table × IsName x.attribute) same
     (with_line bytes (codes "AREA" ∷ topic.0 ∷ table.0 ∷ attribute.0 ∷ []) rest (cc (g1, g2.0, g3, g4.0, g5, g6.0, g7, ends)), g2.1, g4.1, g6.1))))))))
 
-pub title_is : (t : Title) (rest : List ℕ) → IsName t.topic → IsName t.table → IsName t.attribute → title_at (line (codes "AREA" ∷ t.topic ∷ t.table ∷ t.attribute ∷ []) ++ rest) ≡ Some (Some t, rest)
+pub title_is : (t : Title) (rest : List ℕ) → IsName t.topic → IsName t.table → IsName t.attribute
+    → title_at (line (codes "AREA" ∷ t.topic ∷ t.table ∷ t.attribute ∷ []) ++ rest) ≡ Some (Some t, rest)
 unfolding title_at
 title_is t rest f g h =
     ap title_at (line_then (codes "AREA" ∷ t.topic ∷ t.table ∷ t.attribute ∷ []) rest)
@@ -227,7 +261,8 @@ pub record FitsSizes (v : Version) (s : Sizes) : Type 0 where
   pub events : s.counts.events < 2 ^ 32
   pub points : s.counts.points < 2 ^ 32
 
-counts_made : (edges events points : Option ℕ) (c : Counts) → counts_of edges events points ≡ Some c → (edges ≡ Some c.edges) × (events ≡ Some c.events) × (points ≡ Some c.points)
+counts_made : (edges events points : Option ℕ) (c : Counts) → counts_of edges events points ≡ Some c
+    → (edges ≡ Some c.edges) × (events ≡ Some c.events) × (points ≡ Some c.points)
 counts_made edges events points c h =
     then edges _ c _ h (λ e i f.
     then events _ c _ f (λ v j g.
@@ -278,7 +313,8 @@ abbrev IsFlag : Version → ℕ → Type 0
 IsFlag One flag = flag ≡ 0
 IsFlag Two flag = flag < 2 ^ 32
 
-bent_gave : (v : Version) (bytes : List ℕ) (n : ℕ) (rest : List ℕ) → bent_at v bytes ≡ Some (Some n, rest)
+bent_gave : (v : Version) (bytes : List ℕ) (n : ℕ) (rest : List ℕ)
+    → bent_at v bytes ≡ Some (Some n, rest)
     → (bytes ≡ bent_onto v n rest) × IsFlag v n
 bent_gave One bytes n rest e =
     let p = some_is (Some 0, bytes) (Some n, rest) e in
@@ -308,7 +344,8 @@ says : (v : Version) (n : ℕ) (b : Bool) → IsFlag v n → nat_eq n 1 ≡ b �
 says One n b h e = sym e ∙ ap (λ (i : ℕ). nat_eq i 1) h
 says Two n b h e = tt
 
-pub sizes_gave : (v : Version) (bytes : List ℕ) (s : Sizes) (rest : List ℕ) → sizes_at v bytes ≡ Some (Some s, rest)
+pub sizes_gave : (v : Version) (bytes : List ℕ) (s : Sizes) (rest : List ℕ)
+    → sizes_at v bytes ≡ Some (Some s, rest)
     → (bytes ≡ line (size_words v s) ++ rest) × FitsSizes v s
 unfolding sizes_at
 sizes_gave v bytes s rest h =
@@ -389,7 +426,8 @@ sizes_two level false c rest f =
       t,
     ) refl
 
-pub sizes_is : (v : Version) (s : Sizes) (rest : List ℕ) → FitsSizes v s → sizes_at v (line (size_words v s) ++ rest) ≡ Some (Some s, rest)
+pub sizes_is : (v : Version) (s : Sizes) (rest : List ℕ) → FitsSizes v s
+    → sizes_at v (line (size_words v s) ++ rest) ≡ Some (Some s, rest)
 sizes_is One s rest f =
     sizes_one s.level s.counts rest (record { level = f.level; bent = refl; edges = f.edges; events = f.events; points = f.points })
     ∙ ap (λ (b : Bool). Some (Some (record { level = s.level; bent = b; counts = s.counts }), rest)) (sym f.bent)
@@ -404,7 +442,8 @@ abbrev number_of : Version → ℕ
 number_of One = 1
 number_of Two = 2
 
-known_made : (o : Option ℕ) (bytes : List ℕ) (v : Version) (rest : List ℕ) → if_known o bytes ≡ Some (Some v, rest) → (o ≡ Some (number_of v)) × (bytes ≡ rest)
+known_made : (o : Option ℕ) (bytes : List ℕ) (v : Version) (rest : List ℕ)
+    → if_known o bytes ≡ Some (Some v, rest) → (o ≡ Some (number_of v)) × (bytes ≡ rest)
 known_made None bytes v rest e = absurd (no_value bytes rest v e)
 known_made (Some m) bytes v rest e = by_first (nat_eq m 1) refl e
   where
@@ -420,11 +459,13 @@ known_made (Some m) bytes v rest e = by_first (nat_eq m 1) refl e
         let c = chose (nat_eq m 2) (Some Two, bytes) (Some v, rest) k in
         was Two (ap (λ (x : Option Version × List ℕ). Some x) c.1) (eqb-true m 2 c.0)
 
-version_onto : (v : Version) (rest : List ℕ) → line (version_words v) ++ rest ≡ codes "ITFCERT " ++ (decimal (number_of v) ++ (10 ∷ rest))
+version_onto : (v : Version) (rest : List ℕ)
+    → line (version_words v) ++ rest ≡ codes "ITFCERT " ++ (decimal (number_of v) ++ (10 ∷ rest))
 version_onto One rest = ap (λ (d : List ℕ). codes "ITFCERT " ++ (d ++ (10 ∷ rest))) (sym (decimal_digit 1 (omega arith)))
 version_onto Two rest = ap (λ (d : List ℕ). codes "ITFCERT " ++ (d ++ (10 ∷ rest))) (sym (decimal_digit 2 (omega arith)))
 
-pub version_gave : (bytes : List ℕ) (v : Version) (rest : List ℕ) → version_at bytes ≡ Some (Some v, rest) → bytes ≡ line (version_words v) ++ rest
+pub version_gave : (bytes : List ℕ) (v : Version) (rest : List ℕ)
+    → version_at bytes ≡ Some (Some v, rest) → bytes ≡ line (version_words v) ++ rest
 unfolding version_at
 version_gave bytes v rest e =
     then (numbered_at (codes "ITFCERT ") bytes) _ (Some v, rest) _ e (λ m i1 e1.
@@ -440,13 +481,15 @@ known : (v : Version) (rest : List ℕ) → if_known (Some (number_of v)) rest �
 known One rest = refl
 known Two rest = refl
 
-pub version_is : (v : Version) (rest : List ℕ) → version_at (line (version_words v) ++ rest) ≡ Some (Some v, rest)
+pub version_is : (v : Version) (rest : List ℕ)
+    → version_at (line (version_words v) ++ rest) ≡ Some (Some v, rest)
 unfolding version_at
 version_is v rest = ap version_at (version_onto v rest) ∙ ap (λ (o : Line ℕ). (o >>= λ m. if_known m.0 m.1)) (numbered_is (codes "ITFCERT ") (number_of v) rest (number_fits v)) ∙ known v rest
 
 -- ---- the end
 
-pub end_gave : (bytes : List ℕ) (u : Unit {0}) (rest : List ℕ) → end_at bytes ≡ Some (Some u, rest) → bytes ≡ line (codes "END" ∷ []) ++ rest
+pub end_gave : (bytes : List ℕ) (u : Unit {0}) (rest : List ℕ) → end_at bytes ≡ Some (Some u, rest)
+    → bytes ≡ line (codes "END" ∷ []) ++ rest
 unfolding end_at
 end_gave bytes u rest e =
     then (after_word (codes "END\n") bytes) _ (Some u, rest) _ e (λ a i1 e1.

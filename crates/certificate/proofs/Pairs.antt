@@ -4,21 +4,25 @@ use Rattle.std.specs.List.{AllByRecursion}
 use Rattle.certificate.specs.declared.notes.HalfNote.{HalfNote}
 use Rattle.certificate.specs.Spelling.{pairs, ArePaired, FitsHalf, FitsEdge}
 
-pub all_more : {X : Type 0} (P : X → Type 0) (xs : List X) (x : X) → AllByRecursion P xs → P x → AllByRecursion P (xs ++ (x ∷ []))
+pub all_more : {X : Type 0} (P : X → Type 0) (xs : List X) (x : X) → AllByRecursion P xs → P x
+    → AllByRecursion P (xs ++ (x ∷ []))
 all_more P [] x h k = (k, tt)
 all_more P (y ∷ xs) x h k = (h.0, all_more P xs x h.1 k)
 
-pub pairs_more : (notes : List HalfNote) (below above : HalfNote) → ArePaired notes → pairs ((notes ++ (below ∷ [])) ++ (above ∷ [])) ≡ pairs notes ++ (below, above) ∷ []
+pub pairs_more : (notes : List HalfNote) (below above : HalfNote) → ArePaired notes
+    → pairs ((notes ++ (below ∷ [])) ++ (above ∷ [])) ≡ pairs notes ++ (below, above) ∷ []
 pairs_more [] below above h = refl
 pairs_more (a ∷ []) below above h = absurd h
 pairs_more (a ∷ b ∷ notes) below above h = ap (λ (es : List (HalfNote × HalfNote)). (a, b) ∷ es) (pairs_more notes below above h)
 
-pub paired_more : (notes : List HalfNote) (below above : HalfNote) → ArePaired notes → ArePaired ((notes ++ (below ∷ [])) ++ (above ∷ []))
+pub paired_more : (notes : List HalfNote) (below above : HalfNote) → ArePaired notes
+    → ArePaired ((notes ++ (below ∷ [])) ++ (above ∷ []))
 paired_more [] below above h = tt
 paired_more (a ∷ []) below above h = absurd h
 paired_more (a ∷ b ∷ notes) below above h = paired_more notes below above h
 
-pub pairs_fit : (notes : List HalfNote) → AllByRecursion FitsHalf notes → AllByRecursion FitsEdge (pairs notes)
+pub pairs_fit : (notes : List HalfNote) → AllByRecursion FitsHalf notes
+    → AllByRecursion FitsEdge (pairs notes)
 pairs_fit [] h = tt
 pairs_fit (a ∷ []) h = tt
 pairs_fit (a ∷ b ∷ notes) h = ((h.0, h.1.0), pairs_fit notes h.1.1)

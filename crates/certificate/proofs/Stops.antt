@@ -1,5 +1,7 @@
 -- Where reading stops: the lines before the bad one begin some text, and those up to it begin none.
-use Rattle.std.proofs.Common.{◌≡◌, ℕ, zero, suc, ◌+◌, ◌<◌, ◌≤◌, Bool, true, false, cond, nat_eq, List, [], ◌∷◌, ◌++◌, length, replicate, Some, None, Result, Ok, Err, refl, sym, ap, subst, ◌∙◌, append_assoc, arith}
+use Rattle.std.proofs.Common.{◌≡◌, ℕ, zero, suc, ◌+◌, ◌<◌, ◌≤◌, Bool, true, false, cond, nat_eq}
+use Rattle.std.proofs.Common.{List, [], ◌∷◌, ◌++◌, length, replicate, Some, None, Result, Ok, Err}
+use Rattle.std.proofs.Common.{refl, sym, ap, subst, ◌∙◌, append_assoc, arith}
 use Rattle.std.specs.List.{flat_map, AllByRecursion}
 use Rattle.std.proofs.lemmas.List.{append-nil, nil_from_length, length-append, length-replicate}
 use Rattle.std.proofs.lemmas.List.Concat.{flat_map-cons}
@@ -9,7 +11,8 @@ use Rattle.certificate.specs.declared.fault.CertFault.TheVariants as faults
 use Rattle.certificate.specs.Parts.{Line}
 use Rattle.certificate.specs.Reading.{Text, ◌>>=◌, Lines, if_formed, line_at, many_at}
 use Rattle.certificate.specs.FirstBad.{lf_count, first_lines}
-use Rattle.certificate.proofs.FirstLines.{behind_lines, first_of_first, AreLines, no_lines, more_lines}
+use Rattle.certificate.proofs.FirstLines.{behind_lines, first_of_first, AreLines, no_lines}
+use Rattle.certificate.proofs.FirstLines.{more_lines}
 use Rattle.certificate.proofs.PartLaws.{pair_is}
 use Rattle.certificate.proofs.TextLaws.{then_ok, ok_is, from, line_is, line_gave, not_short, IsRead}
 
@@ -19,13 +22,17 @@ pub record Stops {A : Type 0} (text : A → List ℕ) (P : A → Type 0) (bytes 
   pub rest : List ℕ
   pub begins : text some ≡ first_lines k bytes ++ rest
   pub whole : k ≤ lf_count bytes
-  pub none : k < lf_count bytes → (y : A) → P y → (more z : List ℕ) → text y ++ more ≡ first_lines (suc k) bytes ++ z → ⊥
+  pub none : k < lf_count bytes → (y : A) → P y → (more z : List ℕ)
+      → text y ++ more ≡ first_lines (suc k) bytes ++ z → ⊥
 
 -- what is reported of the line after the first k ones, where the first has the number n
 pub data IsReported (bytes : List ℕ) (k n : ℕ) : CertFault → Type 0 where
-  reported_line : (m : ℕ) → m ≡ n + k → length (first_lines k bytes) < length bytes → IsReported bytes k n (faults.Line m)
-  reported_number : (m : ℕ) → m ≡ n + k → length (first_lines k bytes) < length bytes → IsReported bytes k n (faults.Number m)
-  reported_short : (m : ℕ) → m ≡ n + k → first_lines k bytes ≡ bytes → IsReported bytes k n (faults.Short m)
+  reported_line : (m : ℕ) → m ≡ n + k → length (first_lines k bytes) < length bytes
+      → IsReported bytes k n (faults.Line m)
+  reported_number : (m : ℕ) → m ≡ n + k → length (first_lines k bytes) < length bytes
+      → IsReported bytes k n (faults.Number m)
+  reported_short : (m : ℕ) → m ≡ n + k → first_lines k bytes ≡ bytes
+      → IsReported bytes k n (faults.Short m)
 
 abbrev pub Stopped : {A : Type 0} → (A → List ℕ) → (A → Type 0) → Text → CertFault → Type 0
 Stopped text P t e = (k : ℕ) × Stops text P t.rest k × IsReported t.rest k t.line e
@@ -42,7 +49,8 @@ pub record Went {A : Type 0} (text : A → List ℕ) (P : A → Type 0) (t : Tex
 abbrev pub Det : {A : Type 0} → (A → List ℕ) → (A → Type 0) → Type 0
 Det {A = A} text P = (x y : A) (a b : List ℕ) → P x → P y → text x ++ a ≡ text y ++ b → (x ≡ y) × (a ≡ b)
 
-pub det_of_read : {A : Type 0} (one : Text → Lines A) (text : A → List ℕ) (P : A → Type 0) → ((x : A) (n : ℕ) (rest : List ℕ) → P x → IsRead one (text x ++ rest) n x rest) → Det text P
+pub det_of_read : {A : Type 0} (one : Text → Lines A) (text : A → List ℕ) (P : A → Type 0)
+    → ((x : A) (n : ℕ) (rest : List ℕ) → P x → IsRead one (text x ++ rest) n x rest) → Det text P
 det_of_read {A = A} one text P is x y a b p q e =
     let f = is x 1 a p in
     let g = is y 1 b q in
@@ -55,7 +63,8 @@ failed A e = Err e
 pub err_is : (A : Type 0) (d e : CertFault) → failed A d ≡ Err e → d ≡ e
 err_is A d e h = cc
 
-pub then_err : {A B : Type 0} (r : Result A CertFault) (f : A → Result B CertFault) (e : CertFault) (P : Type 0) → (r >>= f) ≡ Err e → (r ≡ Err e → P) → ((x : A) → r ≡ Ok x → f x ≡ Err e → P) → P
+pub then_err : {A B : Type 0} (r : Result A CertFault) (f : A → Result B CertFault) (e : CertFault) (P : Type 0)
+    → (r >>= f) ≡ Err e → (r ≡ Err e → P) → ((x : A) → r ≡ Ok x → f x ≡ Err e → P) → P
 then_err (Ok x) f e P h bad good = good x refl h
 then_err {A = A} {B = B} (Err d) f e P h bad good = bad (ap (λ (x : CertFault). failed A x) (err_is B d e h))
 
@@ -68,18 +77,22 @@ some_byte : (bytes : List ℕ) → 0 < lf_count bytes → 0 < length bytes
 some_byte [] h = absurd (omega (arith, h))
 some_byte (c ∷ bytes) h = omega arith
 
-reported_at_front : {A : Type 0} (form : List ℕ → Line A) (t : Text) (e : CertFault) → line_at form t ≡ Err e → IsReported t.rest zero t.line e
+reported_at_front : {A : Type 0} (form : List ℕ → Line A) (t : Text) (e : CertFault)
+    → line_at form t ≡ Err e → IsReported t.rest zero t.line e
 reported_at_front {A = A} form t e h = by_length (nat_eq (length t.rest) 0) refl h
   where
     here : t.line ≡ t.line + zero
     here = omega arith
 
-    formed : (o : Line A) → 0 < length t.rest → if_formed t.line o ≡ Err e → IsReported t.rest zero t.line e
+    formed : (o : Line A) → 0 < length t.rest → if_formed t.line o ≡ Err e
+        → IsReported t.rest zero t.line e
     formed None l k = subst (IsReported t.rest zero t.line) (err_is (A × Text) (faults.Line t.line) e k) (reported_line t.line here l)
     formed (Some (None, rest)) l k = subst (IsReported t.rest zero t.line) (err_is (A × Text) (faults.Number t.line) e k) (reported_number t.line here l)
     formed (Some (Some x, rest)) l k = ok_no_err (x, from rest (t.line + 1)) e _ k
 
-    by_length : (b : Bool) → nat_eq (length t.rest) 0 ≡ b → cond b (Err (faults.Short t.line)) (if_formed t.line (form t.rest)) ≡ Err e → IsReported t.rest zero t.line e
+    by_length : (b : Bool) → nat_eq (length t.rest) 0 ≡ b
+        → cond b (Err (faults.Short t.line)) (if_formed t.line (form t.rest)) ≡ Err e
+        → IsReported t.rest zero t.line e
     by_length true l k = subst (IsReported t.rest zero t.line) (err_is (A × Text) (faults.Short t.line) e k) (reported_short t.line here (sym (nil_from_length t.rest (eqb-true (length t.rest) 0 l))))
     by_length false l k = formed (form t.rest) (positive (length t.rest) l) k
       where
@@ -87,7 +100,8 @@ reported_at_front {A = A} form t e h = by_length (nat_eq (length t.rest) 0) refl
         positive zero z = absurd (cc)
         positive (suc n) z = omega arith
 
-pub line_stops : {A : Type 0} (form : List ℕ → Line A) (text : A → List ℕ) (P : A → Type 0) (x : A) → P x
+pub line_stops : {A : Type 0} (form : List ℕ → Line A) (text : A → List ℕ) (P : A → Type 0) (x : A)
+    → P x
     → ((y : A) (rest : List ℕ) → P y → form (text y ++ rest) ≡ Some (Some y, rest)) → ((y : A) → P y → AreLines 1 (text y))
     → (t : Text) (e : CertFault) → line_at form t ≡ Err e → Stopped text P t e
 line_stops {A = A} form text P x p is are t e h = (
@@ -96,7 +110,8 @@ line_stops {A = A} form text P x p is are t e h = (
   reported_at_front form t e h,
 )
   where
-    none : zero < lf_count t.rest → (y : A) → P y → (more z : List ℕ) → text y ++ more ≡ first_lines 1 t.rest ++ z → ⊥
+    none : zero < lf_count t.rest → (y : A) → P y → (more z : List ℕ)
+        → text y ++ more ≡ first_lines 1 t.rest ++ z → ⊥
     none l y q more z g =
         let same : text y ≡ first_lines 1 t.rest =
         sym ((are y q).front zero 1 more refl ∙ append-nil (text y)) ∙ ap (first_lines 1) g ∙ first_of_first 1 t.rest z (omega (arith, l)) in
@@ -105,7 +120,8 @@ line_stops {A = A} form text P x p is are t e h = (
         let formed : form t.rest ≡ Some (Some y, r.0) = ap form whole ∙ is y r.0 q in
         ok_no_err (y, from r.0 (t.line + 1)) e ⊥ (sym (line_is form t.rest t.line y r.0 (some_byte t.rest l) formed) ∙ h)
 
-line_next : {A : Type 0} (form : List ℕ → Line A) (t : Text) (x : A) (u : Text) → line_at form t ≡ Ok (x, u) → u.line ≡ t.line + 1
+line_next : {A : Type 0} (form : List ℕ → Line A) (t : Text) (x : A) (u : Text)
+    → line_at form t ≡ Ok (x, u) → u.line ≡ t.line + 1
 line_next {A = A} form t x u h = formed (form t.rest) (not_short (nat_eq (length t.rest) 0) (faults.Short t.line) (if_formed t.line (form t.rest)) (x, u) h).1
   where
     formed : (o : Line A) → if_formed t.line o ≡ Ok (x, u) → u.line ≡ t.line + 1
@@ -129,7 +145,8 @@ both_texts a b x = a x.0 ++ b x.0 x.1
 abbrev pub Both : {A B : Type 0} → (A → Type 0) → (A → B → Type 0) → A × B → Type 0
 Both P Q x = P x.0 × Q x.0 x.1
 
-pub first_stops : {A B : Type 0} (a : A → List ℕ) (b : A → B → List ℕ) (P : A → Type 0) (Q : A → B → Type 0) → ((x : A) → P x → (y : B) × Q x y) → (t : Text) (e : CertFault)
+pub first_stops : {A B : Type 0} (a : A → List ℕ) (b : A → B → List ℕ) (P : A → Type 0) (Q : A → B → Type 0)
+    → ((x : A) → P x → (y : B) × Q x y) → (t : Text) (e : CertFault)
     → Stopped a P t e → Stopped (both_texts a b) (Both P Q) t e
 first_stops {A = A} {B = B} a b P Q others t e s =
     let k = s.0 in
@@ -146,7 +163,9 @@ first_stops {A = A} {B = B} a b P Q others t e s =
       s.2,
     )
 
-reported_later : (rest : List ℕ) (text lines : List ℕ) (a k n m : ℕ) (e : CertFault) → AreLines a lines → text ≡ lines ++ rest → m ≡ n + a → IsReported rest k m e → IsReported text (a + k) n e
+reported_later : (rest : List ℕ) (text lines : List ℕ) (a k n m : ℕ) (e : CertFault)
+    → AreLines a lines → text ≡ lines ++ rest → m ≡ n + a → IsReported rest k m e
+    → IsReported text (a + k) n e
 reported_later rest text lines a k n m e l h i (reported_line j f g) =
     reported_line j (omega (arith, f, i)) (subst (λ (x : List ℕ). length (first_lines (a + k) x) < length x) (sym h) (omega (arith, g, ap length (l.front k (a + k) rest refl), length-append lines (first_lines k rest), length-append lines rest)))
 reported_later rest text lines a k n m e l h i (reported_number j f g) =
@@ -154,7 +173,8 @@ reported_later rest text lines a k n m e l h i (reported_number j f g) =
 reported_later rest text lines a k n m e l h i (reported_short j f g) =
     reported_short j (omega (arith, f, i)) (ap (first_lines (a + k)) h ∙ l.front k (a + k) rest refl ∙ ap (λ (x : List ℕ). lines ++ x) g ∙ sym h)
 
-pub second_stops : {A B : Type 0} (a : A → List ℕ) (b : A → B → List ℕ) (P : A → Type 0) (Q : A → B → Type 0) → Det a P → (t : Text) (x : A) (u : Text) (e : CertFault)
+pub second_stops : {A B : Type 0} (a : A → List ℕ) (b : A → B → List ℕ) (P : A → Type 0) (Q : A → B → Type 0)
+    → Det a P → (t : Text) (x : A) (u : Text) (e : CertFault)
     → Went a P t x u → Stopped (b x) (Q x) u e → Stopped (both_texts a b) (Both P Q) t e
 second_stops {A = A} {B = B} a b P Q det t x u e w s =
     let n = w.lines in
@@ -205,7 +225,8 @@ both_went a b P Q t x u y v f g = record {
   next = omega (arith, f.next, g.next);
 }
 
-pub map_went : {A B : Type 0} (a : A → List ℕ) (b : B → List ℕ) (P : A → Type 0) (Q : B → Type 0) (t : Text) (x : A) (y : B) (u : Text) → Q y → b y ≡ a x → Went a P t x u → Went b Q t y u
+pub map_went : {A B : Type 0} (a : A → List ℕ) (b : B → List ℕ) (P : A → Type 0) (Q : B → Type 0) (t : Text) (x : A) (y : B) (u : Text)
+    → Q y → b y ≡ a x → Went a P t x u → Went b Q t y u
 map_went a b P Q t x y u q e w = record {
   parts = w.parts ∙ ap (λ (z : List ℕ). z ++ u.rest) (sym e);
   good = q;
@@ -214,7 +235,8 @@ map_went a b P Q t x y u q e w = record {
   next = w.next;
 }
 
-pub both_det : {A B : Type 0} (a : A → List ℕ) (b : A → B → List ℕ) (P : A → Type 0) (Q : A → B → Type 0) → Det a P → ((x : A) → Det (b x) (Q x)) → Det (both_texts a b) (Both P Q)
+pub both_det : {A B : Type 0} (a : A → List ℕ) (b : A → B → List ℕ) (P : A → Type 0) (Q : A → B → Type 0)
+    → Det a P → ((x : A) → Det (b x) (Q x)) → Det (both_texts a b) (Both P Q)
 both_det {A = A} a b P Q first second (x, y) (v, w) m n p q e =
     let d = first x v (b x y ++ m) (b v w ++ n) p.0 q.0 (sym (append_assoc (a x) (b x y) m) ∙ e ∙ append_assoc (a v) (b v w) n) in
     let f = second v y w m n (subst (λ (z : A). Q z y) d.0 p.1) q.1 (ap (λ (z : A). b z y ++ m) (sym d.0) ∙ d.1) in
@@ -237,11 +259,13 @@ to_list : {A : Type 0} (text : A → List ℕ) (P : A → Type 0) (n : ℕ) (t :
 to_list {A = A} text P n t e s = map_stops (both_texts text (λ x. flat_map text)) (flat_map text) (Both P (λ x xs. AreSo P n xs)) (AreSo P (suc n))
     (λ x p. (x.0 ∷ x.1, (ap suc p.1.0, (p.0, p.1.1)), flat_map-cons text x.0 x.1)) back t e s
   where
-    back : (ys : List A) → AreSo P (suc n) ys → (x : A × List A) × Both P (λ x xs. AreSo P n xs) x × (both_texts text (λ z. flat_map text) x ≡ flat_map text ys)
+    back : (ys : List A) → AreSo P (suc n) ys
+        → (x : A × List A) × Both P (λ x xs. AreSo P n xs) x × (both_texts text (λ z. flat_map text) x ≡ flat_map text ys)
     back [] q = absurd (omega (arith, q.0))
     back (y ∷ ys) q = ((y, ys), (q.1.0, (omega (arith, q.0), q.1.1)), sym (flat_map-cons text y ys))
 
-pub many_stops : {A : Type 0} (one : Text → Lines A) (text : A → List ℕ) (P : A → Type 0) (x : A) → P x → Det text P
+pub many_stops : {A : Type 0} (one : Text → Lines A) (text : A → List ℕ) (P : A → Type 0) (x : A)
+    → P x → Det text P
     → ((t : Text) (e : CertFault) → one t ≡ Err e → Stopped text P t e) → ((t : Text) (y : A) (u : Text) → one t ≡ Ok (y, u) → Went text P t y u)
     → (n : ℕ) (t : Text) (e : CertFault) → many_at one n t ≡ Err e → Stopped (flat_map text) (AreSo P n) t e
 unfolding many_at

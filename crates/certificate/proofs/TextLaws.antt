@@ -1,5 +1,7 @@
 -- A whole text: the list that is read is spelt there, and the list that is spelt there is read.
-use Rattle.std.proofs.Common.{◌≡◌, ℕ, zero, suc, ◌+◌, ◌^◌, ◌<◌, Bool, true, false, cond, nat_eq, List, [], ◌∷◌, ◌++◌, length, Option, Some, None, Result, Ok, Err, refl, sym, ap, subst, ◌∙◌, append_assoc, arith}
+use Rattle.std.proofs.Common.{◌≡◌, ℕ, zero, suc, ◌+◌, ◌^◌, ◌<◌, Bool, true, false, cond, nat_eq}
+use Rattle.std.proofs.Common.{List, [], ◌∷◌, ◌++◌, length, Option, Some, None, Result, Ok, Err}
+use Rattle.std.proofs.Common.{refl, sym, ap, subst, ◌∙◌, append_assoc, arith}
 use Rattle.std.specs.Prelude.{codes, IfOk}
 use Rattle.std.specs.Fmt.{decimal}
 use Rattle.std.specs.List.{flat_map, AllByRecursion}
@@ -16,10 +18,17 @@ use Rattle.certificate.specs.declared.forms.Version.{Version}
 use Rattle.certificate.specs.declared.forms.Version.TheVariants.{One, Two}
 use Rattle.certificate.specs.declared.fault.CertFault.{CertFault}
 use Rattle.certificate.specs.declared.fault.CertFault.TheVariants as faults
-use Rattle.certificate.specs.Spelling.{Plain, line, event_line, edge_line, place_line, title_line, side_word, sizes_line, certificate_text, text_in, CanSay, Spells, Fits, FitsEdge, FitsPlace, AreSpelt}
-use Rattle.certificate.specs.Parts.{Line, Title, version_at, areas_at, title_at, sizes_at, event_at, edge_at, place_at, end_at}
-use Rattle.certificate.specs.Reading.{Text, ◌>>=◌, Lines, if_spelt, if_formed, line_at, many_at, plain, certificate_at, if_ended, list_of, Gives}
-use Rattle.certificate.proofs.FormLaws.{size_words, FitsSizes, version_words, version_gave, version_is, areas_gave, areas_is, title_gave, title_is, sizes_gave, sizes_is, event_gave, event_is, edge_gave, edge_is, place_gave, place_is, end_gave, end_is}
+use Rattle.certificate.specs.Spelling.{Plain, line, event_line, edge_line, place_line, title_line}
+use Rattle.certificate.specs.Spelling.{side_word, sizes_line, certificate_text, text_in, CanSay}
+use Rattle.certificate.specs.Spelling.{Spells, Fits, FitsEdge, FitsPlace, AreSpelt}
+use Rattle.certificate.specs.Parts.{Line, Title, version_at, areas_at, title_at, sizes_at, event_at}
+use Rattle.certificate.specs.Parts.{edge_at, place_at, end_at}
+use Rattle.certificate.specs.Reading.{Text, ◌>>=◌, Lines, if_spelt, if_formed, line_at, many_at}
+use Rattle.certificate.specs.Reading.{plain, certificate_at, if_ended, list_of, Gives}
+use Rattle.certificate.proofs.FormLaws.{size_words, FitsSizes, version_words, version_gave}
+use Rattle.certificate.proofs.FormLaws.{version_is, areas_gave, areas_is, title_gave, title_is}
+use Rattle.certificate.proofs.FormLaws.{sizes_gave, sizes_is, event_gave, event_is, edge_gave}
+use Rattle.certificate.proofs.FormLaws.{edge_is, place_gave, place_is, end_gave, end_is}
 
 abbrev done : {A : Type 0} → A → Result A CertFault
 done x = Ok x
@@ -27,11 +36,13 @@ done x = Ok x
 pub ok_is : {A : Type 0} (x y : A) → done x ≡ done y → x ≡ y
 ok_is x y e = cc
 
-pub then_ok : {A B : Type 0} (r : Result A CertFault) (f : A → Result B CertFault) (y : B) (P : Type 0) → (r >>= f) ≡ Ok y → ((x : A) → r ≡ Ok x → f x ≡ Ok y → P) → P
+pub then_ok : {A B : Type 0} (r : Result A CertFault) (f : A → Result B CertFault) (y : B) (P : Type 0)
+    → (r >>= f) ≡ Ok y → ((x : A) → r ≡ Ok x → f x ≡ Ok y → P) → P
 then_ok (Ok x) f y P h k = k x refl h
 then_ok (Err e) f y P h k = absurd (cc)
 
-pub step_is : {A B : Type 0} (r : Result A CertFault) (x : A) (f : A → Result B CertFault) (z : Result B CertFault) → r ≡ Ok x → f x ≡ z → (r >>= f) ≡ z
+pub step_is : {A B : Type 0} (r : Result A CertFault) (x : A) (f : A → Result B CertFault) (z : Result B CertFault)
+    → r ≡ Ok x → f x ≡ z → (r >>= f) ≡ z
 step_is {A = A} r x f z e h = ap (λ (o : Result A CertFault). o >>= f) e ∙ h
 
 abbrev pub from : List ℕ → ℕ → Text
@@ -39,23 +50,27 @@ from rest line = record { rest = rest; line = line }
 
 -- ---- one line
 
-spelt_gave : {A : Type 0} (n : ℕ) (o : Option A) (rest : List ℕ) (x : A) (u : Text) → if_spelt n o rest ≡ Ok (x, u) → (o ≡ Some x) × (rest ≡ u.rest)
+spelt_gave : {A : Type 0} (n : ℕ) (o : Option A) (rest : List ℕ) (x : A) (u : Text)
+    → if_spelt n o rest ≡ Ok (x, u) → (o ≡ Some x) × (rest ≡ u.rest)
 spelt_gave n None rest x u e = absurd (cc)
 spelt_gave {A = A} n (Some y) rest x u e =
     let p = ok_is (y, from rest (n + 1)) (x, u) e in
     (ap (λ (z : A × Text). Some z.0) p, ap (λ (z : A × Text). z.1.rest) p)
 
-formed_gave : {A : Type 0} (n : ℕ) (o : Line A) (x : A) (u : Text) → if_formed n o ≡ Ok (x, u) → o ≡ Some (Some x, u.rest)
+formed_gave : {A : Type 0} (n : ℕ) (o : Line A) (x : A) (u : Text) → if_formed n o ≡ Ok (x, u)
+    → o ≡ Some (Some x, u.rest)
 formed_gave n None x u e = absurd (cc)
 formed_gave {A = A} n (Some y) x u e =
     let s = spelt_gave n y.0 y.1 x u e in
     ap (λ (z : Option A). Some (z, y.1)) s.0 ∙ ap (λ (r : List ℕ). Some (Some x, r)) s.1
 
-pub not_short : {A : Type 0} (b : Bool) (e : CertFault) (r : Lines A) (y : A × Text) → cond b (Err e) r ≡ Ok y → (b ≡ false) × (r ≡ Ok y)
+pub not_short : {A : Type 0} (b : Bool) (e : CertFault) (r : Lines A) (y : A × Text)
+    → cond b (Err e) r ≡ Ok y → (b ≡ false) × (r ≡ Ok y)
 not_short true e r y h = absurd (cc)
 not_short false e r y h = (refl, h)
 
-pub line_gave : {A : Type 0} (form : List ℕ → Line A) (t : Text) (x : A) (u : Text) → line_at form t ≡ Ok (x, u) → form t.rest ≡ Some (Some x, u.rest)
+pub line_gave : {A : Type 0} (form : List ℕ → Line A) (t : Text) (x : A) (u : Text)
+    → line_at form t ≡ Ok (x, u) → form t.rest ≡ Some (Some x, u.rest)
 line_gave form t x u e = formed_gave t.line (form t.rest) x u (not_short (nat_eq (length t.rest) 0) (faults.Short t.line) (if_formed t.line (form t.rest)) (x, u) e).1
 
 line_long : (words : List (List ℕ)) → 0 < length (line words)
@@ -66,7 +81,9 @@ line_long (word ∷ next ∷ words) = omega (arith, length-append word (32 ∷ l
 pub line_some : (words : List (List ℕ)) (rest : List ℕ) → 0 < length (line words ++ rest)
 line_some words rest = omega (arith, length-append (line words) rest, line_long words)
 
-pub line_is : {A : Type 0} (form : List ℕ → Line A) (bytes : List ℕ) (n : ℕ) (x : A) (rest : List ℕ) → 0 < length bytes → form bytes ≡ Some (Some x, rest) → line_at form (from bytes n) ≡ Ok (x, from rest (n + 1))
+pub line_is : {A : Type 0} (form : List ℕ → Line A) (bytes : List ℕ) (n : ℕ) (x : A) (rest : List ℕ)
+    → 0 < length bytes → form bytes ≡ Some (Some x, rest)
+    → line_at form (from bytes n) ≡ Ok (x, from rest (n + 1))
 line_is {A = A} form bytes n x rest l h =
     let e : nat_eq (length bytes) 0 ≡ false = grind (arith, nat_tests) in
     ap (λ (b : Bool). cond b (Err (faults.Short n)) (if_formed n (form bytes))) e ∙ ap (λ (o : Line A). if_formed n o) h
@@ -76,7 +93,8 @@ line_is {A = A} form bytes n x rest l h =
 joined : (a b x y z : List ℕ) → a ≡ x ++ b → b ≡ y ++ z → a ≡ (x ++ y) ++ z
 joined a b x y z e f = e ∙ ap (λ (t : List ℕ). x ++ t) f ∙ sym (append_assoc x y z)
 
-many_gave : {A : Type 0} (one : Text → Lines A) (text : A → List ℕ) (P : A → Type 0) → ((t : Text) (x : A) (u : Text) → one t ≡ Ok (x, u) → (t.rest ≡ text x ++ u.rest) × P x)
+many_gave : {A : Type 0} (one : Text → Lines A) (text : A → List ℕ) (P : A → Type 0)
+    → ((t : Text) (x : A) (u : Text) → one t ≡ Ok (x, u) → (t.rest ≡ text x ++ u.rest) × P x)
     → (n : ℕ) (t : Text) (xs : List A) (u : Text) → many_at one n t ≡ Ok (xs, u) → (t.rest ≡ flat_map text xs ++ u.rest) × (length xs ≡ n) × AllByRecursion P xs
 unfolding many_at
 many_gave {A = A} one text P gave zero t xs u e =
@@ -95,7 +113,8 @@ many_gave {A = A} one text P gave (suc n) t xs u e =
 abbrev pub IsRead : {A : Type 0} → (Text → Lines A) → List ℕ → ℕ → A → List ℕ → Type 0
 IsRead one bytes n x rest = (m : ℕ) × (one (from bytes n) ≡ Ok (x, from rest m))
 
-pub many_is : {A : Type 0} (one : Text → Lines A) (text : A → List ℕ) (P : A → Type 0) → ((x : A) (n : ℕ) (rest : List ℕ) → P x → IsRead one (text x ++ rest) n x rest)
+pub many_is : {A : Type 0} (one : Text → Lines A) (text : A → List ℕ) (P : A → Type 0)
+    → ((x : A) (n : ℕ) (rest : List ℕ) → P x → IsRead one (text x ++ rest) n x rest)
     → (xs : List A) (n : ℕ) (rest : List ℕ) → AllByRecursion P xs → IsRead (many_at one (length xs)) (flat_map text xs ++ rest) n xs rest
 unfolding many_at
 many_is one text P is [] n rest h = (n, refl)
@@ -111,34 +130,44 @@ many_is one text P is (x ∷ xs) n rest h =
 
 -- ---- the lines of each kind
 
-pub events_gave : (n : ℕ) (t : Text) (xs : List ℕ) (u : Text) → many_at (line_at event_at) n t ≡ Ok (xs, u) → (t.rest ≡ flat_map event_line xs ++ u.rest) × (length xs ≡ n) × AllByRecursion (λ n. n < 2 ^ 32) xs
+pub events_gave : (n : ℕ) (t : Text) (xs : List ℕ) (u : Text)
+    → many_at (line_at event_at) n t ≡ Ok (xs, u)
+    → (t.rest ≡ flat_map event_line xs ++ u.rest) × (length xs ≡ n) × AllByRecursion (λ n. n < 2 ^ 32) xs
 events_gave = many_gave (line_at event_at) event_line (λ n. n < 2 ^ 32) (λ t x u e. event_gave t.rest x u.rest (line_gave event_at t x u e))
 
-pub edges_gave : (n : ℕ) (t : Text) (xs : List (HalfNote × HalfNote)) (u : Text) → many_at (line_at edge_at) n t ≡ Ok (xs, u) → (t.rest ≡ flat_map edge_line xs ++ u.rest) × (length xs ≡ n) × AllByRecursion FitsEdge xs
+pub edges_gave : (n : ℕ) (t : Text) (xs : List (HalfNote × HalfNote)) (u : Text)
+    → many_at (line_at edge_at) n t ≡ Ok (xs, u)
+    → (t.rest ≡ flat_map edge_line xs ++ u.rest) × (length xs ≡ n) × AllByRecursion FitsEdge xs
 edges_gave = many_gave (line_at edge_at) edge_line FitsEdge (λ t x u e. edge_gave t.rest x u.rest (line_gave edge_at t x u e))
 
-pub places_gave : (n : ℕ) (t : Text) (xs : List PointPlace) (u : Text) → many_at (line_at place_at) n t ≡ Ok (xs, u) → (t.rest ≡ flat_map place_line xs ++ u.rest) × (length xs ≡ n) × AllByRecursion FitsPlace xs
+pub places_gave : (n : ℕ) (t : Text) (xs : List PointPlace) (u : Text)
+    → many_at (line_at place_at) n t ≡ Ok (xs, u)
+    → (t.rest ≡ flat_map place_line xs ++ u.rest) × (length xs ≡ n) × AllByRecursion FitsPlace xs
 places_gave = many_gave (line_at place_at) place_line FitsPlace (λ t x u e. place_gave t.rest x u.rest (line_gave place_at t x u e))
 
-pub event_read : (x n : ℕ) (rest : List ℕ) → x < 2 ^ 32 → IsRead (line_at event_at) (event_line x ++ rest) n x rest
+pub event_read : (x n : ℕ) (rest : List ℕ) → x < 2 ^ 32
+    → IsRead (line_at event_at) (event_line x ++ rest) n x rest
 event_read x n rest f = (n + 1, line_is event_at (event_line x ++ rest) n x rest (line_some (codes "V" ∷ decimal x ∷ []) rest) (event_is x rest f))
 
 pub edge_some : (e : HalfNote × HalfNote) (rest : List ℕ) → 0 < length (edge_line e ++ rest)
 edge_some e rest = omega arith
 
-pub edge_read : (x : HalfNote × HalfNote) (n : ℕ) (rest : List ℕ) → FitsEdge x → IsRead (line_at edge_at) (edge_line x ++ rest) n x rest
+pub edge_read : (x : HalfNote × HalfNote) (n : ℕ) (rest : List ℕ) → FitsEdge x
+    → IsRead (line_at edge_at) (edge_line x ++ rest) n x rest
 edge_read x n rest f = (n + 1, line_is edge_at (edge_line x ++ rest) n x rest (edge_some x rest) (edge_is x rest f))
 
 place_some : (p : PointPlace) (rest : List ℕ) → 0 < length (place_line p ++ rest)
 place_some (Cell n) rest = line_some (codes "P" ∷ decimal n ∷ []) rest
 place_some (Tube n inside) rest = line_some (codes "P" ∷ codes "T" ∷ decimal n ∷ side_word inside ∷ []) rest
 
-pub place_read : (x : PointPlace) (n : ℕ) (rest : List ℕ) → FitsPlace x → IsRead (line_at place_at) (place_line x ++ rest) n x rest
+pub place_read : (x : PointPlace) (n : ℕ) (rest : List ℕ) → FitsPlace x
+    → IsRead (line_at place_at) (place_line x ++ rest) n x rest
 place_read x n rest f = (n + 1, line_is place_at (place_line x ++ rest) n x rest (place_some x rest) (place_is x rest f))
 
 -- ---- a certificate
 
-pub same_sizes : (v : Version) (c : Plain) (s : Sizes) → c.level ≡ s.level → c.bent ≡ s.bent → length c.edges ≡ s.counts.edges → length c.positions ≡ s.counts.events
+pub same_sizes : (v : Version) (c : Plain) (s : Sizes) → c.level ≡ s.level → c.bent ≡ s.bent
+    → length c.edges ≡ s.counts.edges → length c.positions ≡ s.counts.events
     → length c.places ≡ s.counts.points → line (size_words v s) ≡ sizes_line v c
 same_sizes One c s l b i j k = rw (l, i, j, k) refl
 same_sizes Two c s l b i j k = rw (l, b, i, j, k) refl
@@ -147,7 +176,8 @@ same_sizes Two c s l b i j k = rw (l, b, i, j, k) refl
 abbrev pub FitsIn : Version → Plain → Type 0
 FitsIn v c = Fits c × CanSay v c.bent
 
-pub certificate_gave : (v : Version) (t : Text) (c : Plain) (u : Text) → certificate_at v t ≡ Ok (c, u) → (t.rest ≡ certificate_text v c ++ u.rest) × FitsIn v c
+pub certificate_gave : (v : Version) (t : Text) (c : Plain) (u : Text)
+    → certificate_at v t ≡ Ok (c, u) → (t.rest ≡ certificate_text v c ++ u.rest) × FitsIn v c
 unfolding certificate_at
 certificate_gave v t c u e =
     then_ok (line_at title_at t) _ (c, u) _ e (λ title i1 e1.
@@ -184,10 +214,12 @@ certificate_gave v t c u e =
     } in
     subst (λ (y : Plain × Text). (t.rest ≡ certificate_text v y.0 ++ y.1.rest) × FitsIn v y.0) p (r1, (fits, g2.1.bent))))))))
 
-pub regroup : (a b c d e f rest : List ℕ) → (a ++ (b ++ (c ++ (d ++ (e ++ f))))) ++ rest ≡ a ++ (b ++ (c ++ (d ++ (e ++ (f ++ rest)))))
+pub regroup : (a b c d e f rest : List ℕ)
+    → (a ++ (b ++ (c ++ (d ++ (e ++ f))))) ++ rest ≡ a ++ (b ++ (c ++ (d ++ (e ++ (f ++ rest)))))
 regroup a b c d e f rest = simp append_assoc
 
-pub certificate_read : (v : Version) (c : Plain) (n : ℕ) (rest : List ℕ) → FitsIn v c → IsRead (certificate_at v) (certificate_text v c ++ rest) n c rest
+pub certificate_read : (v : Version) (c : Plain) (n : ℕ) (rest : List ℕ) → FitsIn v c
+    → IsRead (certificate_at v) (certificate_text v c ++ rest) n c rest
 unfolding certificate_at
 certificate_read v c n rest (f, said) =
     let title : Title = record { topic = c.topic; table = c.table; attribute = c.attribute } in
@@ -219,36 +251,45 @@ certificate_read v c n rest (f, said) =
 
 -- ---- the whole text
 
-ended_gave : (cs : List Plain) (t : Text) (ds : List Plain) → if_ended cs t ≡ Ok ds → (cs ≡ ds) × (t.rest ≡ [])
+ended_gave : (cs : List Plain) (t : Text) (ds : List Plain) → if_ended cs t ≡ Ok ds
+    → (cs ≡ ds) × (t.rest ≡ [])
 ended_gave cs t ds e = by_end (nat_eq (length t.rest) 0) refl e
   where
-    by_end : (b : Bool) → nat_eq (length t.rest) 0 ≡ b → cond b (Ok cs) (Err (faults.Line t.line)) ≡ Ok ds → (cs ≡ ds) × (t.rest ≡ [])
+    by_end : (b : Bool) → nat_eq (length t.rest) 0 ≡ b
+        → cond b (Ok cs) (Err (faults.Line t.line)) ≡ Ok ds → (cs ≡ ds) × (t.rest ≡ [])
     by_end true h e = (ok_is cs ds e, nil_from_length t.rest (eqb-true (length t.rest) 0 h))
     by_end false h e = absurd (cc)
 
-all_first : {A : Type 0} (P Q : A → Type 0) (xs : List A) → AllByRecursion (λ x. P x × Q x) xs → AllByRecursion P xs
+all_first : {A : Type 0} (P Q : A → Type 0) (xs : List A) → AllByRecursion (λ x. P x × Q x) xs
+    → AllByRecursion P xs
 all_first P Q [] h = tt
 all_first P Q (x ∷ xs) h = (h.0.0, all_first P Q xs h.1)
 
-all_second : {A : Type 0} (P Q : A → Type 0) (xs : List A) → AllByRecursion (λ x. P x × Q x) xs → AllByRecursion Q xs
+all_second : {A : Type 0} (P Q : A → Type 0) (xs : List A) → AllByRecursion (λ x. P x × Q x) xs
+    → AllByRecursion Q xs
 all_second P Q [] h = tt
 all_second P Q (x ∷ xs) h = (h.0.1, all_second P Q xs h.1)
 
-all_both : {A : Type 0} (P Q : A → Type 0) (xs : List A) → AllByRecursion P xs → AllByRecursion Q xs → AllByRecursion (λ x. P x × Q x) xs
+all_both : {A : Type 0} (P Q : A → Type 0) (xs : List A) → AllByRecursion P xs → AllByRecursion Q xs
+    → AllByRecursion (λ x. P x × Q x) xs
 all_both P Q [] h k = tt
 all_both P Q (x ∷ xs) h k = ((h.0, k.0), all_both P Q xs h.1 k.1)
 
 -- certificates that fit, and that a version can say
-pub all_fit : (v : Version) (cs : List Plain) → AllByRecursion (FitsIn v) cs → AllByRecursion Fits cs
+pub all_fit : (v : Version) (cs : List Plain) → AllByRecursion (FitsIn v) cs
+    → AllByRecursion Fits cs
 all_fit v cs h = all_first Fits (λ c. CanSay v c.bent) cs h
 
-pub all_said : (v : Version) (cs : List Plain) → AllByRecursion (FitsIn v) cs → AllByRecursion (λ c. CanSay v c.bent) cs
+pub all_said : (v : Version) (cs : List Plain) → AllByRecursion (FitsIn v) cs
+    → AllByRecursion (λ c. CanSay v c.bent) cs
 all_said v cs h = all_second Fits (λ c. CanSay v c.bent) cs h
 
-pub all_fit_in : (v : Version) (cs : List Plain) → AllByRecursion Fits cs → AllByRecursion (λ c. CanSay v c.bent) cs → AllByRecursion (FitsIn v) cs
+pub all_fit_in : (v : Version) (cs : List Plain) → AllByRecursion Fits cs
+    → AllByRecursion (λ c. CanSay v c.bent) cs → AllByRecursion (FitsIn v) cs
 all_fit_in v cs h k = all_both Fits (λ c. CanSay v c.bent) cs h k
 
-pub list_gave : (bytes : List ℕ) (cs : List Plain) → list_of bytes ≡ Ok cs → AreSpelt cs × Spells bytes cs
+pub list_gave : (bytes : List ℕ) (cs : List Plain) → list_of bytes ≡ Ok cs
+    → AreSpelt cs × Spells bytes cs
 unfolding list_of
 list_gave bytes cs e =
     then_ok (line_at version_at (from bytes 1)) _ cs _ e (λ version i1 e1.
@@ -267,7 +308,8 @@ list_gave bytes cs e =
     let spells : Spells bytes list.0 = record { version = v; said = all_said v list.0 g3.2; is = whole } in
     subst (λ (y : List Plain). AreSpelt y × Spells bytes y) p.0 ((subst (λ (n : ℕ). n < 2 ^ 32) (sym g3.1) g2.1, all_fit v list.0 g3.2), spells))))
 
-text_is : (v : Version) (cs : List Plain) → length cs < 2 ^ 32 → AllByRecursion (FitsIn v) cs → list_of (text_in v cs) ≡ Ok cs
+text_is : (v : Version) (cs : List Plain) → length cs < 2 ^ 32 → AllByRecursion (FitsIn v) cs
+    → list_of (text_in v cs) ≡ Ok cs
 unfolding list_of
 text_is v cs few fits =
     let r2 = flat_map (certificate_text v) cs in
@@ -280,13 +322,16 @@ text_is v cs few fits =
     (step_is (line_at areas_at (from r1 (1 + 1))) (length cs, from r2 (1 + 1 + 1)) _ _ h2
     (step_is (many_at (certificate_at v) (length cs) (from r2 (1 + 1 + 1))) (cs, from [] h3.0) _ _ h4 refl))
 
-pub list_is : (bytes : List ℕ) (cs : List Plain) → AreSpelt cs → Spells bytes cs → list_of bytes ≡ Ok cs
+pub list_is : (bytes : List ℕ) (cs : List Plain) → AreSpelt cs → Spells bytes cs
+    → list_of bytes ≡ Ok cs
 list_is bytes cs f s = ap list_of s.is ∙ text_is s.version cs f.0 (all_fit_in s.version cs f.1 s.said)
 
 -- one text spells one list
-pub one_list : (bytes : List ℕ) (a b : List Plain) → AreSpelt a → AreSpelt b → Spells bytes a → Spells bytes b → a ≡ b
+pub one_list : (bytes : List ℕ) (a b : List Plain) → AreSpelt a → AreSpelt b → Spells bytes a
+    → Spells bytes b → a ≡ b
 one_list bytes a b f g s t = ok_is a b (sym (list_is bytes a f s) ∙ list_is bytes b g t)
 
-pub is_found : {V : Type 0} (views : V → List Plain) (bytes : List ℕ) (r : Result V CertFault) → Gives views r (list_of bytes) → IfOk r (λ v. AreSpelt (views v) × Spells bytes (views v))
+pub is_found : {V : Type 0} (views : V → List Plain) (bytes : List ℕ) (r : Result V CertFault)
+    → Gives views r (list_of bytes) → IfOk r (λ v. AreSpelt (views v) × Spells bytes (views v))
 is_found views bytes (Ok v) given = list_gave bytes (views v) given
 is_found views bytes (Err e) given = tt

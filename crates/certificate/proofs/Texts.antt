@@ -9,7 +9,8 @@ use Rattle.certificate.specs.declared.notes.HalfNote.{HalfNote}
 use Rattle.certificate.specs.declared.notes.PointPlace.{PointPlace}
 use Rattle.certificate.specs.declared.notes.Certificate.{Certificate}
 use Rattle.certificate.specs.declared.forms.Version.TheVariants.{Two}
-use Rattle.certificate.specs.Spelling.{line, link_word, bent_word, edge_line, title_line, sizes_line}
+use Rattle.certificate.specs.Spelling.{line, link_word, bent_word, edge_line, title_line}
+use Rattle.certificate.specs.Spelling.{sizes_line}
 use Rattle.certificate.specs.Spelling.{event_line, place_line}
 use Rattle.certificate.specs.Spelling.{certificate_text, spelling, pairs}
 use Rattle.certificate.specs.Spelling.{view, views}

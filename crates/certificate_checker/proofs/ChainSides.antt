@@ -1,5 +1,7 @@
 -- Half-edges by their numbers, and the sides of edges that face tubes.
-use Rattle.std.proofs.Common.{◌≡◌, ◌↔◌, ℕ, zero, suc, ◌+◌, ◌*◌, ◌/◌, ◌%◌, ◌^◌, ◌<◌, Bool, true, false, List, [], ◌∷◌, length, map, get_or, refl, arith, ap, sym, ◌∙◌, subst}
+use Rattle.std.proofs.Common.{◌≡◌, ◌↔◌, ℕ, zero, suc, ◌+◌, ◌*◌, ◌/◌, ◌%◌, ◌^◌, ◌<◌, Bool, true}
+use Rattle.std.proofs.Common.{false, List, [], ◌∷◌, length, map, get_or, refl, arith, ap, sym, ◌∙◌}
+use Rattle.std.proofs.Common.{subst}
 use Rattle.std.proofs.lemmas.List.{length-map}
 use Rattle.plane.specs.CurveRuns.TubedRuns as runs
 use Rattle.plane.specs.Faces.Halves.{Half, edge_of, half_of, number, over, twin, under}
@@ -45,7 +47,8 @@ pub odd_half : (n : ℕ) → (n % 2 ≡ 0 → ⊥) → half_of n ≡ over (n / 2
 odd_half n z = odd_number (half_of n) n (number_half n) z
 
 -- ---- the side of a half-edge, and the side that faces the tube
-faces_is : (part : runs.Part) (w h : Half) → edge_of w ≡ edge_of h → (facing_of part w ≡ half_side h) ↔ (runs.IsOfTube part × (h ≡ w))
+faces_is : (part : runs.Part) (w h : Half) → edge_of w ≡ edge_of h
+    → (facing_of part w ≡ half_side h) ↔ (runs.IsOfTube part × (h ≡ w))
 faces_is runs.whole w (under f) e = ((λ q. absurd (let x : facing.Neither ≡ facing.Below = q in cc)), (λ x. absurd x.0))
 faces_is runs.whole w (over f) e = ((λ q. absurd (let x : facing.Neither ≡ facing.Above = q in cc)), (λ x. absurd x.0))
 faces_is runs.inner (under d) (under f) e = ((λ q. (tt, ap under (sym e))), (λ x. refl))
@@ -69,11 +72,13 @@ part_one runs.inner runs.outer e = absurd (let x : part.Inner ≡ part.Outer = e
 part_one runs.outer runs.whole e = absurd (let x : part.Outer ≡ part.Straight = e in cc)
 part_one runs.outer runs.inner e = absurd (let x : part.Outer ≡ part.Inner = e in cc)
 
-pub part_is : (o : runs.Owned) (w : Owner) (p : runs.Part) → w ≡ owner_as o → w.part ≡ part_of p → o.part ≡ p
+pub part_is : (o : runs.Owned) (w : Owner) (p : runs.Part) → w ≡ owner_as o → w.part ≡ part_of p
+    → o.part ≡ p
 part_is o w p e q = part_one o.part p (sym (ap (λ (w : Owner). w.part) e) ∙ q)
 
 -- the owner is on that chain of that curve
-pub on_chain : (o : runs.Owned) (w : Owner) (curve : ℕ) (inside : Bool) → w ≡ owner_as o → ((w.curve ≡ curve) × (w.part ≡ part_of (side_part inside))) ↔ ((o.curve ≡ curve) × (o.part ≡ side_part inside))
+pub on_chain : (o : runs.Owned) (w : Owner) (curve : ℕ) (inside : Bool) → w ≡ owner_as o
+    → ((w.curve ≡ curve) × (w.part ≡ part_of (side_part inside))) ↔ ((o.curve ≡ curve) × (o.part ≡ side_part inside))
 on_chain o w curve inside e = (
   (λ x. (sym (ap (λ (w : Owner). w.curve) e) ∙ x.0, part_one o.part (side_part inside) (sym (ap (λ (w : Owner). w.part) e) ∙ x.1))),
   (λ x. (ap (λ (w : Owner). w.curve) e ∙ x.0, ap (λ (w : Owner). w.part) e ∙ ap part_of x.1)),
@@ -87,10 +92,12 @@ twin_back : (h w : Half) → twin h ≡ w → h ≡ twin w
 twin_back (under e) w q = ap twin q
 twin_back (over e) w q = ap twin q
 
-within_over : (part : runs.Part) (w : Half) (e : ℕ) → edge_of w ≡ e → facing_of part w ≡ facing.Above → w ≡ over e
+within_over : (part : runs.Part) (w : Half) (e : ℕ) → edge_of w ≡ e
+    → facing_of part w ≡ facing.Above → w ≡ over e
 within_over part w e q f = let x = (faces_is part w (over e) q).0 f in sym x.1
 
-within_under : (part : runs.Part) (w : Half) (e : ℕ) → runs.IsOfTube part → edge_of w ≡ e → (facing_of part w ≡ facing.Above → ⊥) → w ≡ under e
+within_under : (part : runs.Part) (w : Half) (e : ℕ) → runs.IsOfTube part → edge_of w ≡ e
+    → (facing_of part w ≡ facing.Above → ⊥) → w ≡ under e
 within_under part (under d) e o q n = ap under q
 within_under runs.whole (over d) e o q n = absurd o
 within_under runs.inner (over d) e o q n = absurd (n refl)
@@ -116,27 +123,32 @@ module _ (c : Case) (fit : IsFit c) where
   pub facings_count : length c.facings.now ≡ length s.edges
   facings_count = fit.facings.count ∙ sym edges_count
 
-  pub owner_at : (e : ℕ) (z : Owner) → e < length s.edges → get_or c.owners.now e z ≡ owner_as (owned_of s e)
+  pub owner_at : (e : ℕ) (z : Owner) → e < length s.edges
+      → get_or c.owners.now e z ≡ owner_as (owned_of s e)
   owner_at e z l =
       ap (λ (os : List Owner). get_or os e z) fit.owners
       ∙ mapped (runs.edge_list (drawn_bays d level) 0 d.curves) e (let a = edges_count in let b = edge_count d level in omega (arith, l, a, b))
     where
-      mapped : (os : List runs.Owned) (k : ℕ) → k < length os → get_or (map owner_as os) k z ≡ owner_as (get_or os k runs.no_edge)
+      mapped : (os : List runs.Owned) (k : ℕ) → k < length os
+          → get_or (map owner_as os) k z ≡ owner_as (get_or os k runs.no_edge)
       mapped [] k l = absurd (omega (arith, l))
       mapped (o ∷ os) zero l = refl
       mapped (o ∷ os) (suc k) l = mapped os k (omega (arith, l))
 
-  pub chain_tube : (e : ℕ) (inside : Bool) → (owned_of s e).part ≡ side_part inside → runs.IsOfTube (owned_of s e).part
+  pub chain_tube : (e : ℕ) (inside : Bool) → (owned_of s e).part ≡ side_part inside
+      → runs.IsOfTube (owned_of s e).part
   chain_tube e true q = subst runs.IsOfTube (sym q) tt
   chain_tube e false q = subst runs.IsOfTube (sym q) tt
 
-  pub chain_arc : (e i : ℕ) (inside : Bool) → e < length s.edges → i ≡ (owned_of s e).curve → (owned_of s e).part ≡ side_part inside → IsHalfArc d i
+  pub chain_arc : (e i : ℕ) (inside : Bool) → e < length s.edges → i ≡ (owned_of s e).curve
+      → (owned_of s e).part ≡ side_part inside → IsHalfArc d i
   chain_arc e i inside l q p = subst (IsHalfArc d) (sym q) ((of_half_arc d level e (let a = edges_count in omega (arith, l, a))).0 (chain_tube e inside p))
 
   within_edge : (e : ℕ) → edge_of (within s e) ≡ e
   within_edge e = side_edge (runs.third_is_left (runs.owner d (bays_of s) e)) (owned_of s e).part (runs.runs_on (runs.owner d (bays_of s) e) (edge s e)) e
 
-  pub facing_is : (e : ℕ) (z : Facing) → e < length s.edges → get_or c.facings.now e z ≡ facing_of (owned_of s e).part (within s e)
+  pub facing_is : (e : ℕ) (z : Facing) → e < length s.edges
+      → get_or c.facings.now e z ≡ facing_of (owned_of s e).part (within s e)
   facing_is e z l =
       same c.facings.now e (let a = facings_count in omega (arith, l, a))
       ∙ fit.facings.each e (let a = edges_count in omega (arith, l, a))
@@ -150,7 +162,8 @@ module _ (c : Case) (fit : IsFit c) where
   pub half_there : (n : ℕ) → n < 2 * length s.edges → edge_of (half_of n) < length s.edges
   half_there n l = half_within s n l
 
-  pub facing_half : (n e : ℕ) (z : Facing) → n < 2 * length s.edges → e ≡ edge_of (half_of n) → get_or c.facings.now e z ≡ facing_of (owned_of s (edge_of (half_of n))).part (within s (edge_of (half_of n)))
+  pub facing_half : (n e : ℕ) (z : Facing) → n < 2 * length s.edges → e ≡ edge_of (half_of n)
+      → get_or c.facings.now e z ≡ facing_of (owned_of s (edge_of (half_of n))).part (within s (edge_of (half_of n)))
   facing_half n e z l q = subst (λ (k : ℕ). get_or c.facings.now k z ≡ facing_of (owned_of s (edge_of (half_of n))).part (within s (edge_of (half_of n)))) (sym q) (facing_is (edge_of (half_of n)) z (half_there n l))
 
   module _ (e : ℕ) (f : Facing) (is : f ≡ facing_of (owned_of s e).part (within s e)) where
@@ -160,10 +173,12 @@ module _ (c : Case) (fit : IsFit c) where
     pub above_outside : f ≡ facing.Above → half_of (2 * e) ≡ twin (within s e)
     above_outside q = half_under e ∙ sym (ap twin (within_over (owned_of s e).part (within s e) e (within_edge e) (sym is ∙ q)))
 
-    pub below_within : runs.IsOfTube (owned_of s e).part → (f ≡ facing.Above → ⊥) → half_of (2 * e) ≡ within s e
+    pub below_within : runs.IsOfTube (owned_of s e).part → (f ≡ facing.Above → ⊥)
+        → half_of (2 * e) ≡ within s e
     below_within o n = half_under e ∙ sym (within_under (owned_of s e).part (within s e) e o (within_edge e) (λ q. n (is ∙ q)))
 
-    pub below_outside : runs.IsOfTube (owned_of s e).part → (f ≡ facing.Above → ⊥) → half_of (2 * e + 1) ≡ twin (within s e)
+    pub below_outside : runs.IsOfTube (owned_of s e).part → (f ≡ facing.Above → ⊥)
+        → half_of (2 * e + 1) ≡ twin (within s e)
     below_outside o n = half_over e ∙ sym (ap twin (within_under (owned_of s e).part (within s e) e o (within_edge e) (λ q. n (is ∙ q))))
 
   module _ (h : Half) (f : Facing) (is : f ≡ facing_of (owned_of s (edge_of h)).part (within s (edge_of h))) where
@@ -174,7 +189,9 @@ module _ (c : Case) (fit : IsFit c) where
           (λ y. is ∙ x.1 (y.of_tube, y.is)),
         )
 
-    pub across_is : (curve : ℕ) (inside : Bool) → (owned_of s (edge_of h)).curve ≡ curve → (owned_of s (edge_of h)).part ≡ side_part inside → (f ≡ half_side (twin h)) ↔ LiesOutside s h curve inside
+    pub across_is : (curve : ℕ) (inside : Bool) → (owned_of s (edge_of h)).curve ≡ curve
+        → (owned_of s (edge_of h)).part ≡ side_part inside
+        → (f ≡ half_side (twin h)) ↔ LiesOutside s h curve inside
     across_is curve inside a b =
         let x = faces_is (owned_of s (edge_of h)).part (within s (edge_of h)) (twin h) (within_edge (edge_of h) ∙ sym (twin_edge h)) in (
           (λ q. record { of_curve = a; part = b; is = twin_back h (within s (edge_of h)) (x.0 (sym is ∙ q)).1 }),
@@ -189,12 +206,14 @@ module _ (c : Case) (fit : IsFit c) where
             back (over e) = refl
 
   -- ---- the first edges of chains
-  pub first_inside : (i : ℕ) → IsHalfArc d i → IsFirstOf s true i (runs.first_edge (bays_of s) 0 d.curves i)
+  pub first_inside : (i : ℕ) → IsHalfArc d i
+      → IsFirstOf s true i (runs.first_edge (bays_of s) 0 d.curves i)
   first_inside i h =
       let o = first_inner d level i h (fit.counts.edges.tubes i h) in
       record { there = (let a = o.there in let b = edges_count in omega (arith, a, b)); of_tube = subst runs.IsOfTube (sym o.part) tt; first = refl }
 
-  pub first_outside : (i : ℕ) → IsHalfArc d i → IsFirstOf s false i (runs.first_edge (bays_of s) 0 d.curves i + length (bays_of s i))
+  pub first_outside : (i : ℕ) → IsHalfArc d i
+      → IsFirstOf s false i (runs.first_edge (bays_of s) 0 d.curves i + length (bays_of s i))
   first_outside i h =
       let o = first_outer d level i h in
       record { there = (let a = o.there in let b = edges_count in omega (arith, a, b)); of_tube = subst runs.IsOfTube (sym o.part) tt; first = refl }
@@ -202,7 +221,8 @@ module _ (c : Case) (fit : IsFit c) where
   pub bays_count : (i : ℕ) → IsHalfArc d i → length (bays_of s i) ≡ 2 ^ (level + 1)
   bays_count i h = bay_count d level i (fit.counts.edges.tubes i h)
 
-  pub first_at : (i z : ℕ) → IsHalfArc d i → get_or c.firsts.now i z ≡ runs.first_edge (bays_of s) 0 d.curves i
+  pub first_at : (i z : ℕ) → IsHalfArc d i
+      → get_or c.firsts.now i z ≡ runs.first_edge (bays_of s) 0 d.curves i
   first_at i z h = same c.firsts.now i (let a = fit.firsts.count in let l = h.there in omega (arith, a, l)) ∙ fit.firsts.each i h.there
     where
       same : (ns : List ℕ) (k : ℕ) → k < length ns → get_or ns k z ≡ get_or ns k 0
@@ -210,15 +230,18 @@ module _ (c : Case) (fit : IsFit c) where
       same (n ∷ ns) zero l = refl
       same (n ∷ ns) (suc k) l = same ns k (omega (arith, l))
 
-  pub first_then : (i n : ℕ) (b : Bool) → IsHalfArc d i → b ≡ true → n ≡ runs.first_edge (bays_of s) 0 d.curves i → IsFirstOf s b i n
+  pub first_then : (i n : ℕ) (b : Bool) → IsHalfArc d i → b ≡ true
+      → n ≡ runs.first_edge (bays_of s) 0 d.curves i → IsFirstOf s b i n
   first_then i n b h q e = subst (λ (b : Bool). IsFirstOf s b i n) (sym q) (subst (IsFirstOf s true i) (sym e) (first_inside i h))
 
-  pub first_else : (i n k : ℕ) (b : Bool) → IsHalfArc d i → b ≡ false → n ≡ runs.first_edge (bays_of s) 0 d.curves i → k ≡ 2 ^ (level + 1) → IsFirstOf s b i (n + k)
+  pub first_else : (i n k : ℕ) (b : Bool) → IsHalfArc d i → b ≡ false
+      → n ≡ runs.first_edge (bays_of s) 0 d.curves i → k ≡ 2 ^ (level + 1) → IsFirstOf s b i (n + k)
   first_else i n k b h q e f =
       let g = bays_count i h in
       subst (λ (b : Bool). IsFirstOf s b i (n + k)) (sym q) (subst (IsFirstOf s false i) (omega (arith, e, f, g)) (first_outside i h))
 
-  pub first_few : (i n k : ℕ) → IsHalfArc d i → n ≡ runs.first_edge (bays_of s) 0 d.curves i → k ≡ 2 ^ (level + 1) → (n + k) < 2 ^ 31
+  pub first_few : (i n k : ℕ) → IsHalfArc d i → n ≡ runs.first_edge (bays_of s) 0 d.curves i
+      → k ≡ 2 ^ (level + 1) → (n + k) < 2 ^ 31
   first_few i n k h e f =
       let a = (first_outside i h).there in
       let b = bays_count i h in

@@ -9,10 +9,12 @@ use Rattle.straight_predicates.specs.EdgeLists.{AreAllClose, AreBelow, IsCloseTo
 use Rattle.straight_predicates.specs.Meetings.{AreClose, EdgesAreClose}
 use Rattle.certificate_checker.proofs.PlaneLaws.{has_at}
 
-pub high_close : (edges : List Edge) (e : ℕ) → AreAllClose edges → e < length edges → IsCloseToAll edges (edge_of edges e).high
+pub high_close : (edges : List Edge) (e : ℕ) → AreAllClose edges → e < length edges
+    → IsCloseToAll edges (edge_of edges e).high
 high_close edges e close m = record { ends = λ d l. (close d d l l).first; point = λ d l. (close d e l m).low_high }
 
-map_has : (table : List Timed) (t : Timed) → Has t table → Has t.at (map (λ (t : Timed). t.at) table)
+map_has : (table : List Timed) (t : Timed) → Has t table
+    → Has t.at (map (λ (t : Timed). t.at) table)
 map_has [] t h = absurd h
 map_has (u ∷ table) t (inl e) = inl (ap (λ (w : Timed). w.at) e)
 map_has (u ∷ table) t (inr h) = inr (map_has table t h)
@@ -26,7 +28,9 @@ module _ (edges : List Edge) (table : List Timed) (k : ℕ) (t : IsTimetable (le
       let (d, m, end) = t.events.events (get_or table k no_event).at (map_has table (get_or table k no_event) (has_at table k no_event l)) in
       record { ends = λ e i. (close e e i i).first; point = λ e i. near d e (close e d i m) end }
     where
-      near : (d e : ℕ) → EdgesAreClose (edge_of edges e) (edge_of edges d) → IsEnd (edge_of edges d) (get_or table k no_event).at → AreClose (edge_of edges e).low (get_or table k no_event).at
+      near : (d e : ℕ) → EdgesAreClose (edge_of edges e) (edge_of edges d)
+          → IsEnd (edge_of edges d) (get_or table k no_event).at
+          → AreClose (edge_of edges e).low (get_or table k no_event).at
       near d e c (inl q) = subst (λ p. AreClose (edge_of edges e).low p) q c.low_low
       near d e c (inr q) = subst (λ p. AreClose (edge_of edges e).low p) q c.low_high
 

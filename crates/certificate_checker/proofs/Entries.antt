@@ -1,5 +1,6 @@
 -- Entries of lists, as a program looks them up and adds them, and cases on the order of two numbers.
-use Rattle.std.proofs.Common.{◌≡◌, ℕ, zero, suc, ◌+◌, ◌<◌, ◌≤◌, List, [], ◌∷◌, ◌++◌, length, get_or, refl, arith, sym, subst}
+use Rattle.std.proofs.Common.{◌≡◌, ℕ, zero, suc, ◌+◌, ◌<◌, ◌≤◌, List, [], ◌∷◌, ◌++◌, length, get_or}
+use Rattle.std.proofs.Common.{refl, arith, sym, subst}
 use Rattle.std.proofs.lemmas.List.{get_or_append_left, get_or-append-add}
 
 -- x below y, or not
@@ -10,12 +11,15 @@ by_lt (suc x) zero f g = g (omega arith)
 by_lt (suc x) (suc y) f g = by_lt x y (λ l. f (omega (arith, l))) (λ l. g (omega (arith, l)))
 
 -- an entry that is there does not depend on what stands for those that are not
-pub entry : {X : Type 0} (xs : List X) (k : ℕ) (y z : X) → k < length xs → get_or xs k y ≡ get_or xs k z
+pub entry : {X : Type 0} (xs : List X) (k : ℕ) (y z : X) → k < length xs
+    → get_or xs k y ≡ get_or xs k z
 entry [] k y z l = absurd (omega (arith, l))
 entry (x ∷ xs) zero y z l = refl
 entry (x ∷ xs) (suc k) y z l = entry xs k y z (omega (arith, l))
 
-pub pushed : {X : Type 0} (P : ℕ → X → Type 0) (xs new : List X) (x z : X) (i : ℕ) → length xs ≡ i → new ≡ xs ++ x ∷ [] → ((k : ℕ) → k < i → P k (get_or xs k z)) → P i x → (k : ℕ) → k < i + 1 → P k (get_or new k z)
+pub pushed : {X : Type 0} (P : ℕ → X → Type 0) (xs new : List X) (x z : X) (i : ℕ) → length xs ≡ i
+    → new ≡ xs ++ x ∷ [] → ((k : ℕ) → k < i → P k (get_or xs k z)) → P i x → (k : ℕ) → k < i + 1
+    → P k (get_or new k z)
 pushed P xs new x z i s e f p k l =
     subst (λ ys. P k (get_or ys k z)) (sym e)
     (by_lt k i

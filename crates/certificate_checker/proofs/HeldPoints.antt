@@ -1,5 +1,7 @@
 -- Points of tubes: they are close to the corners, and have a side for the circle.
-use Rattle.std.proofs.Common.{◌≡◌, ◌↔◌, ℕ, ◌<◌, ◌^◌, Bool, true, false, IsTrue, List, [], ◌∷◌, length, get_or, refl, arith, ap, sym, ◌∙◌, subst, ℤ, pos, ◌-ℤ◌, ◌<ℤ◌, ◌≤ℤ◌, ◌*ℤ◌}
+use Rattle.std.proofs.Common.{◌≡◌, ◌↔◌, ℕ, ◌<◌, ◌^◌, Bool, true, false, IsTrue, List, [], ◌∷◌}
+use Rattle.std.proofs.Common.{length, get_or, refl, arith, ap, sym, ◌∙◌, subst, ℤ, pos, ◌-ℤ◌, ◌<ℤ◌}
+use Rattle.std.proofs.Common.{◌≤ℤ◌, ◌*ℤ◌}
 use Rattle.std.proofs.lemmas.Int.{ints}
 use Rattle.plane.specs.Forms.Vectors.{point}
 use Rattle.plane.specs.Lists.{Each}
@@ -32,20 +34,23 @@ use Rattle.certificate_checker.proofs.Entries.{entry}
 use Rattle.tubes.proofs.TubePoints.{tube_near}
 use Rattle.certificate_checker.proofs.PlaneLaws.{place_point, tube_has_sides}
 
-corner_close : (low high from p at : Point) → IsNarrow low high → IsInside low high from → IsInside low high at → AreNear (2 ^ 28) from p → AreClose p at
+corner_close : (low high from p at : Point) → IsNarrow low high → IsInside low high from
+    → IsInside low high at → AreNear (2 ^ 28) from p → AreClose p at
 corner_close low high from p at n i j c = record {
   x = close low.x high.x from.x at.x p.x n.x i.left i.right j.left j.right c.x;
   y = close low.y high.y from.y at.y p.y n.y i.bottom i.top j.bottom j.top c.y;
 }
   where
-    close : (l h v w p : ℤ) → (h -ℤ l) <ℤ pos (2 ^ 40) → l ≤ℤ v → v ≤ℤ h → l ≤ℤ w → w ≤ℤ h → IsNear (2 ^ 28) v p → IsNear (2 ^ 41) p w
+    close : (l h v w p : ℤ) → (h -ℤ l) <ℤ pos (2 ^ 40) → l ≤ℤ v → v ≤ℤ h → l ≤ℤ w → w ≤ℤ h
+        → IsNear (2 ^ 28) v p → IsNear (2 ^ 41) p w
     close l h v w p n a b c d e = record { above = omega (arith, ints, n, a, b, c, d, e.above, e.below); below = omega (arith, ints, n, a, b, c, d, e.above, e.below) }
 
 module _ (w : Window2) (c : Curve) (at : Point) (drawn : IsDrawn w.low w.high c) (inside : IsInside w.low w.high at) where
   abbrev h : HalfArc
   h = arc c
 
-  corners_close : (ps : List Point) → Each (AreNear (2 ^ 28) c.from) ps → Each (λ p. AreClose p at) ps
+  corners_close : (ps : List Point) → Each (AreNear (2 ^ 28) c.from) ps
+      → Each (λ p. AreClose p at) ps
   corners_close [] e = tt
   corners_close (p ∷ ps) e = (corner_close w.low w.high c.from p at w.narrow drawn.from inside e.0, corners_close ps e.1)
 
@@ -80,7 +85,8 @@ no_tube h level t n = n t.0 t.1 t.2
 pub sided_near : (h : HalfArc) (p : Point) → HasSide h (point p) → AreNear (2 ^ 32) h.from p
 sided_near h p s = record { x = near h.from.x p.x s.right s.left; y = near h.from.y p.y s.above s.below }
   where
-    near : (a b : ℤ) → (b -ℤ (a *ℤ pos 1)) <ℤ (pos (2 ^ 28) *ℤ pos 1) → (pos 0 -ℤ (b -ℤ (a *ℤ pos 1))) <ℤ (pos (2 ^ 28) *ℤ pos 1) → IsNear (2 ^ 32) a b
+    near : (a b : ℤ) → (b -ℤ (a *ℤ pos 1)) <ℤ (pos (2 ^ 28) *ℤ pos 1)
+        → (pos 0 -ℤ (b -ℤ (a *ℤ pos 1))) <ℤ (pos (2 ^ 28) *ℤ pos 1) → IsNear (2 ^ 32) a b
     near a b r l = record { above = omega (arith, ints, r, l); below = omega (arith, ints, r, l) }
 
 pub inside_is : (s : Side) (z : ℤ) → HasSign s z → (s ≡ side.Inside) ↔ IsOnSide true z
@@ -94,14 +100,16 @@ outside_is side.On z h = ((λ q. absurd (let e : side.On ≡ side.Outside = q in
 outside_is side.Outside z h = ((λ q. h), (λ x. refl))
 
 -- ---- where a point is placed
-pub held_is : (d : Plan) (level i : ℕ) (inside : Bool) (at : Point) (c : Curve) (b : Bool) → IsHalfArc d i → c ≡ curve d i
+pub held_is : (d : Plan) (level i : ℕ) (inside : Bool) (at : Point) (c : Curve) (b : Bool)
+    → IsHalfArc d i → c ≡ curve d i
     → IsTrue b ↔ (InTube c.from (bays_at (arc c) level) (point at) × IsOnSide inside (power (arc c) (point at))) → IsTrue b ↔ IsHeld d level i inside at
 held_is d level i inside at c b h e f = (
   (λ t. let x = subst (λ (c : Curve). InTube c.from (bays_at (arc c) level) (point at) × IsOnSide inside (power (arc c) (point at))) e (f.0 t) in record { half_arc = h; holds = x.0; side = x.1 }),
   (λ x. f.1 (subst (λ (c : Curve). InTube c.from (bays_at (arc c) level) (point at) × IsOnSide inside (power (arc c) (point at))) (sym e) (x.holds, x.side))),
 )
 
-pub held_entry : (d : Plan) (level j : ℕ) (places : List PointPlace) (y : PointPlace) (p : Placed) (b : Bool) → j < length places → length places ≡ length d.points → p ≡ get_or d.points j p
+pub held_entry : (d : Plan) (level j : ℕ) (places : List PointPlace) (y : PointPlace) (p : Placed) (b : Bool)
+    → j < length places → length places ≡ length d.points → p ≡ get_or d.points j p
     → IsTrue b ↔ IsHeldAt d level (get_or places j y) p.at → IsTrue b ↔ IsHeldAt d level (get_or places j (place.Cell 0)) (object d j)
 held_entry d level j places y p b l n e f =
     subst (λ (x : PointPlace). IsTrue b ↔ IsHeldAt d level x (object d j)) (entry places j y (place.Cell 0) l)

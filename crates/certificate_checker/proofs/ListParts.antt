@@ -1,5 +1,8 @@
 -- Elements of lists by their places, and parts of the live list.
-use Rattle.std.proofs.Common.{◌≡◌, ◌↔◌, ℕ, zero, suc, ◌+◌, ◌-◌, ◌<◌, ◌≤◌, ◌≢◌, ◌*◌, inl, inr, Bool, true, false, IsTrue, Option, Some, None, List, [], ◌∷◌, length, take, drop, get_or, refl, arith, ap, sym, ◌∙◌, subst, add-one, drop-cons, drop_of_length-le}
+use Rattle.std.proofs.Common.{◌≡◌, ◌↔◌, ℕ, zero, suc, ◌+◌, ◌-◌, ◌<◌, ◌≤◌, ◌≢◌, ◌*◌, inl, inr, Bool}
+use Rattle.std.proofs.Common.{true, false, IsTrue, Option, Some, None, List, [], ◌∷◌, length, take}
+use Rattle.std.proofs.Common.{drop, get_or, refl, arith, ap, sym, ◌∙◌, subst, add-one, drop-cons}
+use Rattle.std.proofs.Common.{drop_of_length-le}
 use Rattle.std.proofs.Math.Seq.{drop-nil}
 use Rattle.plane.specs.Faces.Halves.{At}
 use Rattle.plane.specs.Faces.Labels.{Labels, Match, first_label, last_label}
@@ -10,7 +13,8 @@ use Rattle.certificate_checker.proofs.Entries.{by_lt}
 use Rattle.certificate.specs.declared.notes.HalfNote.{HalfNote}
 use Rattle.straight_predicates.specs.EdgeLists.{AreBelow}
 use Rattle.certificate_checker.specs.Rules.{LabelsAt, SlopesAt, TurnLeft}
-use Rattle.certificate_checker.specs.Subjects.{Subject, edge, event, labels, labels_in, live_list, position_at}
+use Rattle.certificate_checker.specs.Subjects.{Subject, edge, event, labels, labels_in, live_list}
+use Rattle.certificate_checker.specs.Subjects.{position_at}
 use Rattle.certificate_checker.specs.Marked.{AreNotes, HasNote}
 use Rattle.certificate_checker.proofs.PlaneLaws.{has_at}
 
@@ -19,10 +23,12 @@ index x [] h = absurd h
 index x (y ∷ ys) (inl e) = (0, omega arith, sym e)
 index x (y ∷ ys) (inr h) = let (k, l, e) = index x ys h in (suc k, omega (arith, l), e)
 
-pub by_index : (P : ℕ → Type 0) (xs : List ℕ) → ((k : ℕ) → k < length xs → P (get_or xs k 0)) → (x : ℕ) → Has x xs → P x
+pub by_index : (P : ℕ → Type 0) (xs : List ℕ) → ((k : ℕ) → k < length xs → P (get_or xs k 0))
+    → (x : ℕ) → Has x xs → P x
 by_index P xs f x h = let (k, l, e) = index x xs h in subst P e (f k l)
 
-pub from_index : (P : ℕ → Type 0) (xs : List ℕ) → ((x : ℕ) → Has x xs → P x) → (k : ℕ) → k < length xs → P (get_or xs k 0)
+pub from_index : (P : ℕ → Type 0) (xs : List ℕ) → ((x : ℕ) → Has x xs → P x) → (k : ℕ)
+    → k < length xs → P (get_or xs k 0)
 from_index P xs f k l = f (get_or xs k 0) (has_at xs k 0 l)
 
 pub drop_twice : {X : Type 0} (i n : ℕ) (xs : List X) → drop n (drop i xs) ≡ drop (i + n) xs
@@ -47,20 +53,23 @@ past_end [] i l = refl
 past_end (e ∷ es) zero l = absurd (omega (arith, l))
 past_end (e ∷ es) (suc i) l = past_end es i (omega (arith, l))
 
-pub before_place : (es : List ℕ) (i : ℕ) → (i ≡ 0 → ⊥) → i ≤ length es → edge_before es i ≡ Some (get_or es (i - 1) 0)
+pub before_place : (es : List ℕ) (i : ℕ) → (i ≡ 0 → ⊥) → i ≤ length es
+    → edge_before es i ≡ Some (get_or es (i - 1) 0)
 before_place es zero n l = absurd (n refl)
 before_place es (suc i) n l = at_place es i (omega (arith, l)) ∙ ap (λ (k : ℕ). Some (get_or es k 0)) (back i)
   where
     back : (i : ℕ) → i ≡ suc i - 1
     back i = omega arith
 
-last_is : (es : List ℕ) (p : ℕ) (l : Option ℕ) → 0 < p → p ≤ length es → last_or l (take p es) ≡ edge_before es p
+last_is : (es : List ℕ) (p : ℕ) (l : Option ℕ) → 0 < p → p ≤ length es
+    → last_or l (take p es) ≡ edge_before es p
 last_is [] p l a b = absurd (omega (arith, a, b))
 last_is (e ∷ es) zero l a b = absurd (omega (arith, a))
 last_is (e ∷ es) (suc zero) l a b = refl
 last_is (e ∷ es) (suc (suc p)) l a b = last_is es (suc p) (Some e) (omega arith) (omega (arith, b))
 
-pub last_before : (es : List ℕ) (p : ℕ) → p ≤ length es → last_or None (take p es) ≡ edge_before es p
+pub last_before : (es : List ℕ) (p : ℕ) → p ≤ length es
+    → last_or None (take p es) ≡ edge_before es p
 last_before es zero l = refl
 last_before es (suc p) l = last_is es (suc p) None (omega arith) l
 
@@ -71,7 +80,8 @@ first_after (e ∷ es) zero = refl
 first_after (e ∷ es) (suc p) = first_after es p
 
 -- ---- the labels beside a place
-last_of : (a : Labels) (es : List ℕ) (l : Option ℕ) → last_label a (over_label a l) es ≡ over_label a (last_or l es)
+last_of : (a : Labels) (es : List ℕ) (l : Option ℕ)
+    → last_label a (over_label a l) es ≡ over_label a (last_or l es)
 last_of a [] l = refl
 last_of a (e ∷ es) l = last_of a es (Some e)
 
@@ -79,10 +89,12 @@ first_of : (a : Labels) (es : List ℕ) → first_label a es 0 ≡ under_label a
 first_of a [] = refl
 first_of a (e ∷ es) = refl
 
-pub label_before : (a : Labels) (es : List ℕ) (p : ℕ) → p ≤ length es → over_label a (edge_before es p) ≡ last_label a 0 (take p es)
+pub label_before : (a : Labels) (es : List ℕ) (p : ℕ) → p ≤ length es
+    → over_label a (edge_before es p) ≡ last_label a 0 (take p es)
 label_before a es p l = ap (over_label a) (sym (last_before es p l)) ∙ sym (last_of a (take p es) None)
 
-pub label_after : (a : Labels) (es : List ℕ) (p : ℕ) → under_label a (edge_at es p) ≡ first_label a (drop p es) 0
+pub label_after : (a : Labels) (es : List ℕ) (p : ℕ)
+    → under_label a (edge_at es p) ≡ first_label a (drop p es) 0
 label_after a es p = ap (under_label a) (sym (first_after es p)) ∙ sym (first_of a (drop p es))
 
 -- ---- places of the list
@@ -112,7 +124,8 @@ unfit b f e p = clash b (f.1 p) e
     clash : (b : Bool) → IsTrue b → b ≡ false → ⊥
     clash b t e = cc
 
-pub over_place : (P : ℕ → Type 0) (place : ℕ) → (place ≡ 0 → ⊥) → (b : Bool) → IsTrue b ↔ P (place - 1) → IsTrue b ↔ ((i : ℕ) → place ≡ suc i → P i)
+pub over_place : (P : ℕ → Type 0) (place : ℕ) → (place ≡ 0 → ⊥) → (b : Bool)
+    → IsTrue b ↔ P (place - 1) → IsTrue b ↔ ((i : ℕ) → place ≡ suc i → P i)
 over_place P zero n b f = absurd (n refl)
 over_place P (suc i) n b f = (
   (λ t k e. subst P (back i k e) (f.0 t)),
@@ -126,14 +139,16 @@ over_place P (suc i) n b f = (
     same i = omega arith
 
 -- ---- neighbours by their places
-pub at_pair : (P : ℕ → ℕ → Type 0) (i n : ℕ) → 0 < i → i < n → ((k : ℕ) → suc k < n → P k (suc k)) → P (i - 1) i
+pub at_pair : (P : ℕ → ℕ → Type 0) (i n : ℕ) → 0 < i → i < n → ((k : ℕ) → suc k < n → P k (suc k))
+    → P (i - 1) i
 at_pair P zero n l m f = absurd (omega (arith, l))
 at_pair P (suc k) n l m f = subst (λ (j : ℕ). P j (suc k)) (same k) (f k m)
   where
     same : (k : ℕ) → k ≡ suc k - 1
     same k = omega arith
 
-pub pair_more : (P : ℕ → ℕ → Type 0) (i : ℕ) → 0 < i → ((k : ℕ) → suc k < i → P k (suc k)) → P (i - 1) i → (k : ℕ) → suc k < i + 1 → P k (suc k)
+pub pair_more : (P : ℕ → ℕ → Type 0) (i : ℕ) → 0 < i → ((k : ℕ) → suc k < i → P k (suc k))
+    → P (i - 1) i → (k : ℕ) → suc k < i + 1 → P k (suc k)
 pair_more P i l f p k m =
     by_lt (suc k) i (λ (h : suc k < i). f k h) (λ (h : i ≤ suc k). pair k (last i k m h))
   where
@@ -153,41 +168,49 @@ some_one d e q = cc
 none_some : (e : ℕ) → None ≡ Some e → ⊥
 none_some e q = cc
 
-pub at_note : (notes : List HalfNote) (live : List ℕ) (i : ℕ) (r : Option ℕ) → r ≡ edge_at live i → AreNotes notes live → HasNote notes r
+pub at_note : (notes : List HalfNote) (live : List ℕ) (i : ℕ) (r : Option ℕ) → r ≡ edge_at live i
+    → AreNotes notes live → HasNote notes r
 at_note notes live i r q a e h =
     by_lt i (length live)
     (λ (l : i < length live). subst (λ (x : ℕ). 2 * x + 1 < length notes) (some_one (get_or live i 0) e (sym (at_place live i l) ∙ sym q ∙ h)) (a i l))
     (λ (l : length live ≤ i). absurd (none_some e (sym (past_end live i l) ∙ sym q ∙ h)))
 
-pub before_note : (notes : List HalfNote) (live : List ℕ) (p : ℕ) (r : Option ℕ) → r ≡ edge_before live p → AreNotes notes live → HasNote notes r
+pub before_note : (notes : List HalfNote) (live : List ℕ) (p : ℕ) (r : Option ℕ)
+    → r ≡ edge_before live p → AreNotes notes live → HasNote notes r
 before_note notes live zero r q a e h = absurd (none_some e (sym q ∙ h))
 before_note notes live (suc i) r q a e h = at_note notes live i r q a e h
 
 -- ---- labels that match so far
-pub match_more : (Q : Type 0) (a : Labels) (l m : ℕ) (starting : List ℕ) (i r : ℕ) → i < length starting → l ≡ a.below (get_or starting i 0) → m ≡ a.above (get_or starting i 0)
+pub match_more : (Q : Type 0) (a : Labels) (l m : ℕ) (starting : List ℕ) (i r : ℕ)
+    → i < length starting → l ≡ a.below (get_or starting i 0) → m ≡ a.above (get_or starting i 0)
     → Q ↔ Match a l (drop i starting) r → Q ↔ Match a m (drop (i + 1) starting) r
 match_more Q a l m starting i r k e f q =
     subst (λ (n : ℕ). Q ↔ Match a m (drop n starting) r) (sym (add-one i))
     (let g = subst (λ (ns : List ℕ). Q ↔ Match a l ns r) (drop-cons starting i 0 k) q in
     subst (λ (n : ℕ). Q ↔ Match a n (drop (suc i) starting) r) (sym f) ((λ x. (g.0 x).1), (λ y. g.1 (e, y))))
 
-pub match_no : (Q : Type 0) (a : Labels) (l : ℕ) (starting : List ℕ) (i r : ℕ) → i < length starting → (l ≡ a.below (get_or starting i 0) → ⊥) → Q ↔ Match a l (drop i starting) r → Q → ⊥
+pub match_no : (Q : Type 0) (a : Labels) (l : ℕ) (starting : List ℕ) (i r : ℕ) → i < length starting
+    → (l ≡ a.below (get_or starting i 0) → ⊥) → Q ↔ Match a l (drop i starting) r → Q → ⊥
 match_no Q a l starting i r k n q x = n ((subst (λ (ns : List ℕ). Q ↔ Match a l ns r) (drop-cons starting i 0 k) q).0 x).0
 
-pub match_end : (Q : Type 0) (a : Labels) (l : ℕ) (starting : List ℕ) (i r : ℕ) → length starting ≤ i → Q ↔ Match a l (drop i starting) r → Q ↔ (l ≡ r)
+pub match_end : (Q : Type 0) (a : Labels) (l : ℕ) (starting : List ℕ) (i r : ℕ)
+    → length starting ≤ i → Q ↔ Match a l (drop i starting) r → Q ↔ (l ≡ r)
 match_end Q a l starting i r k q = subst (λ (ns : List ℕ). Q ↔ Match a l ns r) (drop_of_length-le starting k) q
 
 pub by_eq : {P : Type 0} (i j : ℕ) → (i ≡ j → P) → (i ≢ j → P) → P
 by_eq i j f g = by_lt i j (λ (l : i < j). g (λ e. omega (arith, l, e))) (λ (l : j ≤ i). by_lt j i (λ (k : j < i). g (λ e. omega (arith, k, e))) (λ (k : i ≤ j). f (omega (arith, l, k))))
 
 -- ---- the notes of edges, and the labels of an event
-pub notes_of : (notes : List HalfNote) (m : ℕ) (edges : List ℕ) → length notes ≡ 2 * m → AreBelow m edges → AreNotes notes edges
+pub notes_of : (notes : List HalfNote) (m : ℕ) (edges : List ℕ) → length notes ≡ 2 * m
+    → AreBelow m edges → AreNotes notes edges
 notes_of notes m edges e b i l = let k = b i l in omega (arith, e, k)
 
 pub one_note : (notes : List HalfNote) (x : ℕ) → 2 * x + 1 < length notes → HasNote notes (Some x)
 one_note notes x l e q = subst (λ (y : ℕ). 2 * y + 1 < length notes) (some_one x e q) l
 
-pub labels_at : (s : Subject) (k : ℕ) (b : Bool) (notes : List HalfNote) (live starting : List ℕ) (p n : ℕ) → notes ≡ s.claims.notes → live ≡ live_list s k → starting ≡ (event s k).starting → p ≡ position_at s k → n ≡ length (event s k).ending → p ≤ length live
+pub labels_at : (s : Subject) (k : ℕ) (b : Bool) (notes : List HalfNote) (live starting : List ℕ) (p n : ℕ)
+    → notes ≡ s.claims.notes → live ≡ live_list s k → starting ≡ (event s k).starting
+    → p ≡ position_at s k → n ≡ length (event s k).ending → p ≤ length live
     → IsTrue b ↔ Match (labels_in notes) (over_label (labels_in notes) (edge_before live p)) starting (under_label (labels_in notes) (edge_at live (p + n))) → IsTrue b ↔ LabelsAt s k
 labels_at s k b notes live starting p n c e f g h l m' =
     let m = subst (λ (ns : List HalfNote). IsTrue b ↔ Match (labels_in ns) (over_label (labels_in ns) (edge_before live p)) starting (under_label (labels_in ns) (edge_at live (p + n)))) c m' in
@@ -200,7 +223,9 @@ labels_at s k b notes live starting p n c e f g h l m' =
     (subst (λ (i : ℕ). IsTrue b ↔ Match (labels s) i starting (under_label (labels s) (edge_at live (p + n)))) (label_before (labels s) live p l) m))))))
 
 -- ---- the rules of an event from what a program looked up
-pub event_rule : (P : List ℕ → Point → ℕ → ℕ → Type 0) (s : Subject) (k : ℕ) (b : Bool) (live : List ℕ) (at : Point) (p n : ℕ) → live ≡ live_list s k → at ≡ (event s k).at → p ≡ position_at s k → n ≡ length (event s k).ending
+pub event_rule : (P : List ℕ → Point → ℕ → ℕ → Type 0) (s : Subject) (k : ℕ) (b : Bool) (live : List ℕ) (at : Point) (p n : ℕ)
+    → live ≡ live_list s k → at ≡ (event s k).at → p ≡ position_at s k
+    → n ≡ length (event s k).ending
     → IsTrue b ↔ P live at p n → IsTrue b ↔ P (live_list s k) (event s k).at (position_at s k) (length (event s k).ending)
 event_rule P s k b live at p n e f g h x =
     subst (λ (n : ℕ). IsTrue b ↔ P (live_list s k) (event s k).at (position_at s k) n) h
@@ -208,5 +233,7 @@ event_rule P s k b live at p n e f g h x =
     (subst (λ (v : Point). IsTrue b ↔ P (live_list s k) v p n) f
     (subst (λ (ns : List ℕ). IsTrue b ↔ P ns at p n) e x)))
 
-pub slopes_rule : (s : Subject) (k : ℕ) (b : Bool) (starting : List ℕ) → starting ≡ (event s k).starting → IsTrue b ↔ TurnLeft (edge s) starting → IsTrue b ↔ SlopesAt s k
+pub slopes_rule : (s : Subject) (k : ℕ) (b : Bool) (starting : List ℕ)
+    → starting ≡ (event s k).starting → IsTrue b ↔ TurnLeft (edge s) starting
+    → IsTrue b ↔ SlopesAt s k
 slopes_rule s k b starting e x = subst (λ (ns : List ℕ). IsTrue b ↔ TurnLeft (edge s) ns) e x

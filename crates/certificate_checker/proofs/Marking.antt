@@ -1,11 +1,15 @@
 -- Marks gap by gap, and event by event.
-use Rattle.std.proofs.Common.{◌≡◌, ◌↔◌, ◌⊎◌, ℕ, suc, ◌+◌, ◌*◌, ◌<◌, ◌≤◌, ◌≢◌, inl, inr, Bool, true, false, Option, Some, None, List, [], ◌∷◌, length, drop, get_or, set, get_or-set_same, get_or-set_other, refl, arith, ap, sym, ◌∙◌, subst, add-one, drop-cons, drop_of_length-le}
+use Rattle.std.proofs.Common.{◌≡◌, ◌↔◌, ◌⊎◌, ℕ, suc, ◌+◌, ◌*◌, ◌<◌, ◌≤◌, ◌≢◌, inl, inr, Bool, true}
+use Rattle.std.proofs.Common.{false, Option, Some, None, List, [], ◌∷◌, length, drop, get_or, set}
+use Rattle.std.proofs.Common.{get_or-set_same, get_or-set_other, refl, arith, ap, sym, ◌∙◌, subst}
+use Rattle.std.proofs.Common.{add-one, drop-cons, drop_of_length-le}
 use Rattle.plane.specs.Faces.Halves.{Half, half_of, number, over, under}
 use Rattle.plane.specs.Runs.Gaps.{Gap, gaps_between}
 use Rattle.certificate.specs.declared.notes.HalfNote.{HalfNote}
 use Rattle.certificate_checker.proofs.PlaneLaws.{half_number, number_half}
 use Rattle.certificate_checker.proofs.ListParts.{by_eq}
-use Rattle.certificate_checker.specs.Marked.{AreMarked, IsAtBorder, IsMarked, IsNamed, NamesAcross, OfSome}
+use Rattle.certificate_checker.specs.Marked.{AreMarked, IsAtBorder, IsMarked, IsNamed, NamesAcross}
+use Rattle.certificate_checker.specs.Marked.{OfSome}
 
 module _ (P : Gap → Half → Type 0) where
   -- so far, and by the gaps that are left, as by all gaps from the beginning
@@ -23,7 +27,8 @@ module _ (P : Gap → Half → Type 0) where
   none_some : (h : Half) → OfSome P [] h → ⊥
   none_some h q = q.1
 
-  pub marking_more : (now new old : List Bool) (g : Gap) (rest all : List Gap) → AreMarked P (g ∷ []) now new → IsMarking now (g ∷ rest) old all → IsMarking new rest old all
+  pub marking_more : (now new old : List Bool) (g : Gap) (rest all : List Gap)
+      → AreMarked P (g ∷ []) now new → IsMarking now (g ∷ rest) old all → IsMarking new rest old all
   marking_more now new old g rest all m i h = (
     (λ x. (i h).0 (elim x [
       | inl a ↦ elim ((m.each h).0 a) [ inl b ↦ inl b | inr b ↦ elim (some_cons g [] h b) [ inl p ↦ inr (cons_some g rest h (inl p)) | inr n ↦ absurd (none_some h n) ] ]
@@ -35,14 +40,16 @@ module _ (P : Gap → Half → Type 0) where
     ]),
   )
 
-  pub marking_end : (now new old : List Bool) (g : Gap) (all : List Gap) → AreMarked P (g ∷ []) now new → IsMarking now (g ∷ []) old all → AreMarked P all old new
+  pub marking_end : (now new old : List Bool) (g : Gap) (all : List Gap)
+      → AreMarked P (g ∷ []) now new → IsMarking now (g ∷ []) old all → AreMarked P all old new
   marking_end now new old g all m i = record {
     each = λ h.
         (let j = marking_more now new old g [] all m i h in
         ((λ a. j.0 (inl a)), (λ x. elim (j.1 x) [ inl a ↦ a | inr q ↦ absurd (none_some h q) ])));
   }
 
-  pub marking_step : (now new old : List Bool) (below : Option ℕ) (starting : List ℕ) (i : ℕ) (upper : Option ℕ) (all : List Gap) → i < length starting
+  pub marking_step : (now new old : List Bool) (below : Option ℕ) (starting : List ℕ) (i : ℕ) (upper : Option ℕ) (all : List Gap)
+      → i < length starting
       → AreMarked P (record { lower = below; upper = Some (get_or starting i 0); event = 0 } ∷ []) now new
       → IsMarking now (gaps_between 0 below (drop i starting) upper) old all → IsMarking new (gaps_between 0 (Some (get_or starting i 0)) (drop (i + 1) starting) upper) old all
   marking_step now new old below starting i upper all l m k =
@@ -50,13 +57,15 @@ module _ (P : Gap → Half → Type 0) where
       (marking_more now new old _ (gaps_between 0 (Some (get_or starting i 0)) (drop (suc i) starting) upper) all m
       (subst (λ (ns : List ℕ). IsMarking now (gaps_between 0 below ns upper) old all) (drop-cons starting i 0 l) k))
 
-  pub marking_last : (now new old : List Bool) (below : Option ℕ) (starting : List ℕ) (i : ℕ) (upper : Option ℕ) (all : List Gap) → length starting ≤ i
+  pub marking_last : (now new old : List Bool) (below : Option ℕ) (starting : List ℕ) (i : ℕ) (upper : Option ℕ) (all : List Gap)
+      → length starting ≤ i
       → AreMarked P (record { lower = below; upper = upper; event = 0 } ∷ []) now new → IsMarking now (gaps_between 0 below (drop i starting) upper) old all → AreMarked P all old new
   marking_last now new old below starting i upper all l m k =
       marking_end now new old _ all m (subst (λ (ns : List ℕ). IsMarking now (gaps_between 0 below ns upper) old all) (drop_of_length-le starting l) k)
 
 -- ---- one half-edge marked
-set_one : (marks : List Bool) (n : ℕ) (h : Half) → n < length marks → IsMarked (set marks n true) h ↔ (IsMarked marks h ⊎ (h ≡ half_of n))
+set_one : (marks : List Bool) (n : ℕ) (h : Half) → n < length marks
+    → IsMarked (set marks n true) h ↔ (IsMarked marks h ⊎ (h ≡ half_of n))
 set_one marks n h l =
     by_eq (number h) n
     (λ (e : number h ≡ n). (
@@ -68,7 +77,8 @@ set_one marks n h l =
       (λ y. elim y [ inl a ↦ get_or-set_other marks n (number h) true false d ∙ a | inr e ↦ absurd (d (ap number e ∙ number_half n)) ]),
     ))
 
-pub mark_is : (marks : List Bool) (n : ℕ) → n < length marks → (h : Half) → IsMarked (set marks n true) h ↔ (IsMarked marks h ⊎ (h ≡ half_of n))
+pub mark_is : (marks : List Bool) (n : ℕ) → n < length marks → (h : Half)
+    → IsMarked (set marks n true) h ↔ (IsMarked marks h ⊎ (h ≡ half_of n))
 mark_is marks n l h = set_one marks n h l
 
 pub half_under : (e : ℕ) → half_of (2 * e) ≡ under e
@@ -77,7 +87,8 @@ half_under e = let q : 2 * e ≡ number (under e) = omega arith in ap half_of q 
 pub half_over : (e : ℕ) → half_of (2 * e + 1) ≡ over e
 half_over e = let q : 2 * e + 1 ≡ number (over e) = omega arith in ap half_of q ∙ half_number (over e)
 
-pub one_gap : (P : Gap → Half → Type 0) (g : Gap) (n : ℕ) (x : Half) (old new : List Bool) → half_of n ≡ x → ((h : Half) → P g h → h ≡ x) → P g x
+pub one_gap : (P : Gap → Half → Type 0) (g : Gap) (n : ℕ) (x : Half) (old new : List Bool)
+    → half_of n ≡ x → ((h : Half) → P g h → h ≡ x) → P g x
     → ((h : Half) → IsMarked new h ↔ (IsMarked old h ⊎ (h ≡ half_of n))) → AreMarked P (g ∷ []) old new
 one_gap P g n x old new e f p m = record {
   each = λ h. (
@@ -106,11 +117,15 @@ highest d (over f) q = ap over (sym (some_one d f q.0))
 abbrev pub gap_of : Option ℕ → Option ℕ → Gap
 gap_of l u = record { lower = l; upper = u; event = 0 }
 
-pub lowest_marked : (l u : Option ℕ) (e : ℕ) (old new : List Bool) → l ≡ None → u ≡ Some e → ((h : Half) → IsMarked new h ↔ (IsMarked old h ⊎ (h ≡ half_of (2 * e)))) → AreMarked IsAtBorder (gap_of l u ∷ []) old new
+pub lowest_marked : (l u : Option ℕ) (e : ℕ) (old new : List Bool) → l ≡ None → u ≡ Some e
+    → ((h : Half) → IsMarked new h ↔ (IsMarked old h ⊎ (h ≡ half_of (2 * e))))
+    → AreMarked IsAtBorder (gap_of l u ∷ []) old new
 lowest_marked l u e old new p q m =
     subst (λ (l : Option ℕ). AreMarked IsAtBorder (gap_of l u ∷ []) old new) (sym p) (subst (λ (u : Option ℕ). AreMarked IsAtBorder (gap_of None u ∷ []) old new) (sym q) (one_gap IsAtBorder _ (2 * e) (under e) old new (half_under e) (lowest e) (refl, refl) m))
 
-pub highest_marked : (l u : Option ℕ) (d : ℕ) (old new : List Bool) → l ≡ Some d → u ≡ None → ((h : Half) → IsMarked new h ↔ (IsMarked old h ⊎ (h ≡ half_of (2 * d + 1)))) → AreMarked IsAtBorder (gap_of l u ∷ []) old new
+pub highest_marked : (l u : Option ℕ) (d : ℕ) (old new : List Bool) → l ≡ Some d → u ≡ None
+    → ((h : Half) → IsMarked new h ↔ (IsMarked old h ⊎ (h ≡ half_of (2 * d + 1))))
+    → AreMarked IsAtBorder (gap_of l u ∷ []) old new
 highest_marked l u d old new p q m =
     subst (λ (l : Option ℕ). AreMarked IsAtBorder (gap_of l u ∷ []) old new) (sym p) (subst (λ (u : Option ℕ). AreMarked IsAtBorder (gap_of (Some d) u ∷ []) old new) (sym q) (one_gap IsAtBorder _ (2 * d + 1) (over d) old new (half_over d) (highest d) (refl, refl) m))
 
@@ -131,7 +146,8 @@ module _ (notes : List HalfNote) (d e : ℕ) where
       let b : 2 * e ≡ number (under e) = omega arith in
       (d, refl, refl, subst (λ (j : ℕ). IsNamed notes (number (under e)) j) a (subst (λ (i : ℕ). IsNamed notes i (2 * d + 1)) b q))
 
-  names : (h : Half) → NamesAcross notes between h → ((h ≡ over d) × IsNamed notes (2 * d + 1) (2 * e)) ⊎ ((h ≡ under e) × IsNamed notes (2 * e) (2 * d + 1))
+  names : (h : Half) → NamesAcross notes between h
+      → ((h ≡ over d) × IsNamed notes (2 * d + 1) (2 * e)) ⊎ ((h ≡ under e) × IsNamed notes (2 * e) (2 * d + 1))
   names (over f) (x, p, q, r) =
       let w : d ≡ f = some_one d f p in
       let v : e ≡ x = some_one e x q in
@@ -145,7 +161,8 @@ module _ (notes : List HalfNote) (d e : ℕ) where
       let b : number (over x) ≡ 2 * d + 1 = omega (arith, w) in
       inr (ap under (sym v), subst (λ (j : ℕ). IsNamed notes (2 * e) j) b (subst (λ (i : ℕ). IsNamed notes i (number (over x))) a r))
 
-  across_marked : (old mid new : List Bool) → ((h : Half) → IsMarked mid h ↔ (IsMarked old h ⊎ ((h ≡ half_of (2 * d + 1)) × IsNamed notes (2 * d + 1) (2 * e))))
+  across_marked : (old mid new : List Bool)
+      → ((h : Half) → IsMarked mid h ↔ (IsMarked old h ⊎ ((h ≡ half_of (2 * d + 1)) × IsNamed notes (2 * d + 1) (2 * e))))
       → ((h : Half) → IsMarked new h ↔ (IsMarked mid h ⊎ ((h ≡ half_of (2 * e)) × IsNamed notes (2 * e) (2 * d + 1))))
       → AreMarked (NamesAcross notes) (between ∷ []) old new
   across_marked old mid new f g = record {
@@ -167,7 +184,9 @@ module _ (notes : List HalfNote) (d e : ℕ) where
     );
   }
 
-pub both_marked : (notes : List HalfNote) (l u : Option ℕ) (d e : ℕ) (old mid new : List Bool) → l ≡ Some d → u ≡ Some e → ((h : Half) → IsMarked mid h ↔ (IsMarked old h ⊎ ((h ≡ half_of (2 * d + 1)) × IsNamed notes (2 * d + 1) (2 * e))))
+pub both_marked : (notes : List HalfNote) (l u : Option ℕ) (d e : ℕ) (old mid new : List Bool)
+    → l ≡ Some d → u ≡ Some e
+    → ((h : Half) → IsMarked mid h ↔ (IsMarked old h ⊎ ((h ≡ half_of (2 * d + 1)) × IsNamed notes (2 * d + 1) (2 * e))))
     → ((h : Half) → IsMarked new h ↔ (IsMarked mid h ⊎ ((h ≡ half_of (2 * e)) × IsNamed notes (2 * e) (2 * d + 1))))
     → AreMarked (NamesAcross notes) (gap_of l u ∷ []) old new
 both_marked notes l u d e old mid new p q f g =

@@ -1,5 +1,6 @@
 -- Points placed one by one, and event by event.
-use Rattle.std.proofs.Common.{◌≡◌, ◌↔◌, ℕ, suc, ◌+◌, ◌<◌, ◌≤◌, ◌⊎◌, inl, inr, Bool, Option, Some, None, List, length, min, arith, ap, sym, ◌∙◌, subst, add-one}
+use Rattle.std.proofs.Common.{◌≡◌, ◌↔◌, ℕ, suc, ◌+◌, ◌<◌, ◌≤◌, ◌⊎◌, inl, inr, Bool, Option, Some}
+use Rattle.std.proofs.Common.{None, List, length, min, arith, ap, sym, ◌∙◌, subst, add-one}
 use Rattle.plane.specs.declared.kinds.Point.{Point}
 use Rattle.plane.specs.Faces.Halves.{Half}
 use Rattle.plane.specs.Forms.Vectors.{Before}
@@ -7,7 +8,8 @@ use Rattle.certificate_checker.proofs.Entries.{by_lt}
 use Rattle.certificate_checker.specs.declared.state.Spot.{Spot}
 use Rattle.certificate_checker.specs.InCells.{IsInStrip, IsNextEvent, IsSpotOf}
 use Rattle.certificate_checker.specs.Marked.{IsMarked}
-use Rattle.certificate_checker.specs.Placed.{ArePlacedTo, IsAfter, IsJudgedPoint, IsLater, IsWorse, OfPoint, spot_at}
+use Rattle.certificate_checker.specs.Placed.{ArePlacedTo, IsAfter, IsJudgedPoint, IsLater, IsWorse}
+use Rattle.certificate_checker.specs.Placed.{OfPoint, spot_at}
 use Rattle.certificate_checker.specs.Rules.{IsPointPlaced}
 use Rattle.certificate_checker.specs.Subjects.{Subject, event}
 use Rattle.certificate_checker.proofs.Placing.{after_all}
@@ -32,7 +34,8 @@ last i n l m = omega (arith, l, m)
 
 module _ (s : Subject) (k n bad : ℕ) (spots : List Spot) (marks : List Bool) (p : ArePlacedTo s k n bad spots marks) where
   -- ---- the next spot
-  pub spot_in_strip : (upto : Option Point) → n < length spots → IsNextEvent s k upto → (IsAfter upto (spot_at spots n).at → ⊥) → IsSpotOf s k (spot_at spots n)
+  pub spot_in_strip : (upto : Option Point) → n < length spots → IsNextEvent s k upto
+      → (IsAfter upto (spot_at spots n).at → ⊥) → IsSpotOf s k (spot_at spots n)
   spot_in_strip upto l next after = record {
     point = p.sorted.known n l;
     strip = subst (IsInStrip s k) (p.sorted.known n l).at (record {
@@ -41,11 +44,14 @@ module _ (s : Subject) (k n bad : ℕ) (spots : List Spot) (marks : List Bool) (
     });
   }
     where
-      by_next : (upto : Option Point) → IsNextEvent s k upto → (IsAfter upto (spot_at spots n).at → ⊥) → k < length s.table → Before (event s k).at (spot_at spots n).at → ⊥
+      by_next : (upto : Option Point) → IsNextEvent s k upto
+          → (IsAfter upto (spot_at spots n).at → ⊥) → k < length s.table
+          → Before (event s k).at (spot_at spots n).at → ⊥
       by_next None e f m b = omega (arith, e, m)
       by_next (Some v) e f m b = f (subst (λ x. Before x (spot_at spots n).at) (sym e.1) b)
 
-  pub one_placed : (worse : ℕ) (new : List Bool) → n < length spots → IsWorse s (spot_at spots n).number bad worse → length new ≡ length marks
+  pub one_placed : (worse : ℕ) (new : List Bool) → n < length spots
+      → IsWorse s (spot_at spots n).number bad worse → length new ≡ length marks
       → ((h : Half) → IsMarked new h ↔ (IsMarked marks h ⊎ OfPoint s (spot_at spots n).number h)) → ArePlacedTo s k (suc n) worse spots new
   one_placed worse new l w z m = record {
     sorted = p.sorted;
@@ -85,7 +91,8 @@ module _ (s : Subject) (k n bad : ℕ) (spots : List Spot) (marks : List Bool) (
           other a b l = omega (arith, l)
 
   -- ---- the spots that are left
-  pub left_after : (upto : Option Point) → n < length spots → IsNextEvent s k upto → IsAfter upto (spot_at spots n).at → IsLater s k n spots
+  pub left_after : (upto : Option Point) → n < length spots → IsNextEvent s k upto
+      → IsAfter upto (spot_at spots n).at → IsLater s k n spots
   left_after None l next after = absurd after
   left_after (Some v) l next after = λ i a b.
       (next.0, after_all (event s k).at (spot_at spots n).at (spot_at spots i).at (subst (λ x. Before x (spot_at spots n).at) next.1 after) (p.sorted.order n i a b))
@@ -117,7 +124,8 @@ module _ (s : Subject) (k n bad : ℕ) (spots : List Spot) (marks : List Bool) (
     pub placed_below : (j : ℕ) → j < length s.points → j < bad → IsPointPlaced s j
     placed_below j l m = elim (judged_all j l) [ inl x ↦ x | inr x ↦ absurd (let y = x.1 in omega (arith, m, y)) ]
 
-    pub marks_at_end : (h : Half) → IsMarked marks h → (j : ℕ) × (j < length s.points) × OfPoint s j h
+    pub marks_at_end : (h : Half) → IsMarked marks h
+        → (j : ℕ) × (j < length s.points) × OfPoint s j h
     marks_at_end h x = let (i, a, q) = (p.each h).0 x in ((spot_at spots i).number, (p.sorted.known i (let w = p.within in omega (arith, a, w))).known, q)
 
     pub marked_at_end : (h : Half) (j : ℕ) → j < length s.points → OfPoint s j h → IsMarked marks h
@@ -130,16 +138,19 @@ module _ (s : Subject) (k n bad : ℕ) (spots : List Spot) (marks : List Bool) (
   same_spot : spot_at spots n ≡ spot
   same_spot = ap (spot_at spots) e ∙ sym q
 
-  pub next_strip : (upto : Option Point) → i < length spots → IsNextEvent s k upto → (IsAfter upto spot.at → ⊥) → IsSpotOf s k spot
+  pub next_strip : (upto : Option Point) → i < length spots → IsNextEvent s k upto
+      → (IsAfter upto spot.at → ⊥) → IsSpotOf s k spot
   next_strip upto l next after =
       subst (IsSpotOf s k) same_spot (spot_in_strip s k n bad spots marks p upto (omega (arith, l, e)) next (λ a. after (subst (λ (z : Spot). IsAfter upto z.at) same_spot a)))
 
-  pub next_spot : (worse : ℕ) (new : List Bool) → i < length spots → IsWorse s spot.number bad worse → length new ≡ length marks
+  pub next_spot : (worse : ℕ) (new : List Bool) → i < length spots → IsWorse s spot.number bad worse
+      → length new ≡ length marks
       → ((h : Half) → IsMarked new h ↔ (IsMarked marks h ⊎ OfPoint s spot.number h)) → ArePlacedTo s k (i + 1) worse spots new
   next_spot worse new l w z m =
       subst (λ (j : ℕ). ArePlacedTo s k j worse spots new) (ap (λ (n : ℕ). suc n) e ∙ sym (add-one i))
       (one_placed s k n bad spots marks p worse new (omega (arith, l, e)) (subst (λ (z : Spot). IsWorse s z.number bad worse) (sym same_spot) w) z
       (subst (λ (z : Spot). (h : Half) → IsMarked new h ↔ (IsMarked marks h ⊎ OfPoint s z.number h)) (sym same_spot) m))
 
-  pub next_left : (upto : Option Point) → i < length spots → IsNextEvent s k upto → IsAfter upto spot.at → IsLater s k n spots
+  pub next_left : (upto : Option Point) → i < length spots → IsNextEvent s k upto
+      → IsAfter upto spot.at → IsLater s k n spots
   next_left upto l next after = left_after s k n bad spots marks p upto (omega (arith, l, e)) next (subst (λ (z : Spot). IsAfter upto z.at) (sym same_spot) after)

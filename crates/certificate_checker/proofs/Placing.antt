@@ -1,5 +1,7 @@
 -- A point is placed exactly where the tests at its place of the live list say so.
-use Rattle.std.proofs.Common.{◌≡◌, ◌↔◌, ℕ, zero, suc, ◌-◌, ◌<◌, ◌≤◌, ◌⊎◌, ◌<ℤ◌, ◌≤ℤ◌, pos, inl, inr, Bool, false, cond, List, [], ◌∷◌, length, map, get_or, refl, arith, ap, sym, ◌∙◌, subst}
+use Rattle.std.proofs.Common.{◌≡◌, ◌↔◌, ℕ, zero, suc, ◌-◌, ◌<◌, ◌≤◌, ◌⊎◌, ◌<ℤ◌, ◌≤ℤ◌, pos, inl, inr}
+use Rattle.std.proofs.Common.{Bool, false, cond, List, [], ◌∷◌, length, map, get_or, refl, arith}
+use Rattle.std.proofs.Common.{ap, sym, ◌∙◌, subst}
 use Rattle.std.proofs.lemmas.Int.{ints, by_lt_z}
 use Rattle.straight_predicates.proofs.Orders.{int_equal}
 use Rattle.certificate_checker.proofs.Entries.{by_lt}
@@ -16,9 +18,12 @@ use Rattle.tubes.specs.DrawnEdges.{comes_first}
 use Rattle.certificate.specs.declared.notes.PointPlace.TheVariants as place
 use Rattle.certificate_checker.specs.InCells.{IsBetweenEdges, IsInStrip}
 use Rattle.certificate_checker.specs.Rules.{HasCounts, IsInOwnCell}
-use Rattle.certificate_checker.specs.Subjects.{Subject, edge, event, events_before, index_of, live_list, moves, note_at, place_at, point_at, replay_of, sector_of, strip_of}
+use Rattle.certificate_checker.specs.Subjects.{Subject, edge, event, events_before, index_of}
+use Rattle.certificate_checker.specs.Subjects.{live_list, moves, note_at, place_at, point_at}
+use Rattle.certificate_checker.specs.Subjects.{replay_of, sector_of, strip_of}
 use Rattle.certificate_checker.proofs.ListParts.{at_of, of_at}
-use Rattle.certificate_checker.proofs.PlaneLaws.{before_trans, list_is, never, side-cross, steps_length}
+use Rattle.certificate_checker.proofs.PlaneLaws.{before_trans, list_is, never, side-cross}
+use Rattle.certificate_checker.proofs.PlaneLaws.{steps_length}
 use Rattle.certificate_checker.proofs.Runs.{moves_size, step_at_event}
 
 -- ---- how many events come before a point
@@ -34,7 +39,9 @@ never_first p q n =
     let cy = int_equal p.y q.y y in
     rw (cx, cy) refl))))
 
-pub strip_is : (table : List Timed) (p : Point) (k : ℕ) → k ≤ length table → ((j : ℕ) → j < k → Before (get_or table j no_event).at p) → (k < length table → Before (get_or table k no_event).at p → ⊥)
+pub strip_is : (table : List Timed) (p : Point) (k : ℕ) → k ≤ length table
+    → ((j : ℕ) → j < k → Before (get_or table j no_event).at p)
+    → (k < length table → Before (get_or table k no_event).at p → ⊥)
     → events_before table p ≡ k
 strip_is [] p k l f n = omega (arith, l)
 strip_is (t ∷ table) p zero l f n = ap (λ (b : Bool). cond b (suc (events_before table p)) 0) (never_first t.at p (n (omega arith)))
@@ -46,12 +53,14 @@ strip_is (t ∷ table) p (suc k) l f n =
 abbrev points_of : List Timed → List Point
 points_of table = map (λ (t : Timed). t.at) table
 
-head_before : (t : Timed) (table : List Timed) (j : ℕ) → Neighbours Before (points_of (t ∷ table)) → j < length table → Before t.at (get_or table j no_event).at
+head_before : (t : Timed) (table : List Timed) (j : ℕ) → Neighbours Before (points_of (t ∷ table))
+    → j < length table → Before t.at (get_or table j no_event).at
 head_before t [] j h l = absurd (omega (arith, l))
 head_before t (u ∷ table) zero h l = h.0
 head_before t (u ∷ table) (suc j) h l = before_trans t.at u.at (get_or table j no_event).at h.0 (head_before u table j h.1 (omega (arith, l)))
 
-pub events_rise : (table : List Timed) (i j : ℕ) → Neighbours Before (points_of table) → i < j → j < length table → Before (get_or table i no_event).at (get_or table j no_event).at
+pub events_rise : (table : List Timed) (i j : ℕ) → Neighbours Before (points_of table) → i < j
+    → j < length table → Before (get_or table i no_event).at (get_or table j no_event).at
 events_rise [] i j h l m = absurd (omega (arith, m))
 events_rise (t ∷ table) i zero h l m = absurd (omega (arith, l))
 events_rise (t ∷ table) zero (suc j) h l m = head_before t table j h (omega (arith, m))
@@ -78,7 +87,8 @@ after_all v p q b n =
     let y : p.y ≡ q.y = omega (arith, ints, a, c) in
     subst (λ (r : Point). Before v r) (λ i. record { x = x i; y = y i }) b))))
 
-pub before_of : (es : List ℕ) (i e : ℕ) → 0 < i → i ≤ length es → get_or es (i - 1) 0 ≡ e → AtBefore es i e
+pub before_of : (es : List ℕ) (i e : ℕ) → 0 < i → i ≤ length es → get_or es (i - 1) 0 ≡ e
+    → AtBefore es i e
 before_of es zero e l m q = absurd (omega (arith, l))
 before_of es (suc i) e l m q = at_of es i e (omega (arith, m)) (ap (λ (k : ℕ). get_or es k 0) (back i) ∙ q)
   where
@@ -111,7 +121,8 @@ module _ (s : Subject) (t : IsTimetable (length s.edges) (edge s) s.table) (n : 
   list_now : (replay_of s).list (strip_of s j) ≡ live_list s k
   list_now = ap (λ (i : ℕ). (replay_of s).list i) is_strip ∙ list_is [] (moves s) k (let e = moves_size s t n in omega (arith, w, e))
 
-  step_point : (i : ℕ) → i < length s.table → (get_or (steps_from [] (moves s)) i no_step).at ≡ (event s i).at
+  step_point : (i : ℕ) → i < length s.table
+      → (get_or (steps_from [] (moves s)) i no_step).at ≡ (event s i).at
   step_point i l = ap (λ x. x.at) (step_at_event s t n i l)
 
   steps_size : length (steps_from [] (moves s)) ≡ length s.table
@@ -127,7 +138,8 @@ module _ (s : Subject) (t : IsTimetable (length s.edges) (edge s) s.table) (n : 
     list_is_live : live ≡ (replay_of s).list (strip_of s j)
     list_is_live = now ∙ sym list_now
 
-    pub placed_tests : IsInOwnCell s j → (place_at s j ≡ place.Cell (index_of s j)) × IsBetweenEdges s live j (index_of s j)
+    pub placed_tests : IsInOwnCell s j
+        → (place_at s j ≡ place.Cell (index_of s j)) × IsBetweenEdges s live j (index_of s j)
     placed_tests p =
         let es = (replay_of s).list (strip_of s j) in
         let (lo, le) = of_before es (index_of s j) p.between.lower p.between.is_lower in
@@ -147,7 +159,9 @@ module _ (s : Subject) (t : IsTimetable (length s.edges) (edge s) s.table) (n : 
           }),
         )
 
-    pub tests_placed : (k < length s.table → point_at s j ≡ (event s k).at → ⊥) → place_at s j ≡ place.Cell (index_of s j) → IsBetweenEdges s live j (index_of s j) → IsInOwnCell s j
+    pub tests_placed : (k < length s.table → point_at s j ≡ (event s k).at → ⊥)
+        → place_at s j ≡ place.Cell (index_of s j) → IsBetweenEdges s live j (index_of s j)
+        → IsInOwnCell s j
     tests_placed d q b = let es = (replay_of s).list (strip_of s j) in let b = subst (λ (xs : List ℕ). IsBetweenEdges s xs j (index_of s j)) list_is_live b in record {
       cell = q;
       between = record {
@@ -183,7 +197,8 @@ module _ (s : Subject) (t : IsTimetable (length s.edges) (edge s) s.table) (n : 
         inside : index_of s j < length ((replay_of s).list (strip_of s j))
         inside = subst (λ (xs : List ℕ). index_of s j < length xs) list_is_live l
 
-        by_half : (h : Half) → Beside (replay_of s) h (sector_of s j) ↔ ((h ≡ over (get_or ((replay_of s).list (strip_of s j)) (index_of s j - 1) 0)) ⊎ (h ≡ under (get_or ((replay_of s).list (strip_of s j)) (index_of s j) 0)))
+        by_half : (h : Half)
+            → Beside (replay_of s) h (sector_of s j) ↔ ((h ≡ over (get_or ((replay_of s).list (strip_of s j)) (index_of s j - 1) 0)) ⊎ (h ≡ under (get_or ((replay_of s).list (strip_of s j)) (index_of s j) 0)))
         by_half (under e) = (
           (λ a. inr (ap under (sym (of_at ((replay_of s).list (strip_of s j)) (index_of s j) e a).1))),
           (λ x. elim x [

@@ -1,5 +1,6 @@
 -- What claims that prove a drawing count: their notes, positions and places.
-use Rattle.std.proofs.Common.{◌≡◌, ℕ, suc, ◌*◌, ◌^◌, ◌<◌, ◌≤◌, inl, inr, List, [], ◌∷◌, length, map, arith, refl, ap, ◌∙◌, subst}
+use Rattle.std.proofs.Common.{◌≡◌, ℕ, suc, ◌*◌, ◌^◌, ◌<◌, ◌≤◌, inl, inr, List, [], ◌∷◌, length, map}
+use Rattle.std.proofs.Common.{arith, refl, ap, ◌∙◌, subst}
 use Rattle.std.proofs.lemmas.List.{length-map}
 use Rattle.plane.specs.declared.kinds.Edge.{Edge}
 use Rattle.plane.specs.declared.kinds.Point.{Point}
@@ -30,7 +31,8 @@ module _ {X : Type 0} (f : ℕ → X) (m : ℕ) where
   numbers_size [] g = refl
   numbers_size (x ∷ xs) g = ap (λ (n : ℕ). suc n) (numbers_size xs (λ y h. g y (inr h)))
 
-  number_of : (xs : List X) (g : Numbered xs) (n : ℕ) → Has n (numbers xs g) → (n < m) × Has (f n) xs
+  number_of : (xs : List X) (g : Numbered xs) (n : ℕ) → Has n (numbers xs g)
+      → (n < m) × Has (f n) xs
   number_of [] g n h = absurd h
   number_of (x ∷ xs) g n (inl e) = let (k, l, q) = g x (inl refl) in (omega (arith, e, l), inl (ap f e ∙ q))
   number_of (x ∷ xs) g n (inr h) = let (l, k) = number_of xs (λ y i. g y (inr i)) n h in (l, inr k)
@@ -59,7 +61,8 @@ numbered m E pts events p h =
       | inr high ↦ (number (under e), number_below (under e) m l, ap (origin E) (half_number (under e)) ∙ high)
     ]
 
-two_an_edge : (m : ℕ) (E : ℕ → Edge) (table : List Timed) → IsTimetable m E table → length table ≤ 2 * m
+two_an_edge : (m : ℕ) (E : ℕ → Edge) (table : List Timed) → IsTimetable m E table
+    → length table ≤ 2 * m
 two_an_edge m E table t =
     let pts = map (λ (t : Timed). t.at) table in
     let once : Once pts = sorted_once Before (λ p. Unit {0}) (λ p u b. never p b) (λ p q r a b c l n. before_trans p q r l n) pts (λ p i. tt) t.events.rises in

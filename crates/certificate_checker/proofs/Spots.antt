@@ -1,5 +1,7 @@
 -- Points with their numbers, sorted by x, then y.
-use Rattle.std.proofs.Common.{◌≡◌, ℕ, zero, suc, ◌+◌, ◌<◌, ◌≤◌, ℤ, inl, inr, true, false, List, [], ◌∷◌, ◌++◌, length, drop, get_or, arith, ap, sym, ◌∙◌, subst, append_assoc, add-one, drop-cons}
+use Rattle.std.proofs.Common.{◌≡◌, ℕ, zero, suc, ◌+◌, ◌<◌, ◌≤◌, ℤ, inl, inr, true, false, List, []}
+use Rattle.std.proofs.Common.{◌∷◌, ◌++◌, length, drop, get_or, arith, ap, sym, ◌∙◌, subst}
+use Rattle.std.proofs.Common.{append_assoc, add-one, drop-cons}
 use Rattle.std.specs.List.Sorted.{IsPermutation, IsSortedByKey}
 use Rattle.std.proofs.lemmas.List.Sorted.{IsPermutation-sym}
 use Rattle.std.specs.Ordering.{is_lt, int_cmp, ordering_then}
@@ -30,12 +32,15 @@ not_first : (p q : Point) → comes_first p q ≡ false → Before p q → ⊥
 not_first p q e b = clash (sym (first_is p q b) ∙ e)
 
 -- ---- order from neighbour to neighbour
-head_order : (z : Spot) (zs : List Spot) (j : ℕ) → Neighbours (λ x y. comes_first y.at x.at ≡ false) (z ∷ zs) → j < length zs → Before (spot_at zs j).at z.at → ⊥
+head_order : (z : Spot) (zs : List Spot) (j : ℕ)
+    → Neighbours (λ x y. comes_first y.at x.at ≡ false) (z ∷ zs) → j < length zs
+    → Before (spot_at zs j).at z.at → ⊥
 head_order z [] j h l b = absurd (omega (arith, l))
 head_order z (y ∷ zs) zero h l b = not_first y.at z.at h.0 b
 head_order z (y ∷ zs) (suc j) h l b = head_order y zs j h.1 (omega (arith, l)) (after_all (spot_at zs j).at z.at y.at b (not_first y.at z.at h.0))
 
-in_order : (zs : List Spot) (i j : ℕ) → Neighbours (λ x y. comes_first y.at x.at ≡ false) zs → i ≤ j → j < length zs → Before (spot_at zs j).at (spot_at zs i).at → ⊥
+in_order : (zs : List Spot) (i j : ℕ) → Neighbours (λ x y. comes_first y.at x.at ≡ false) zs → i ≤ j
+    → j < length zs → Before (spot_at zs j).at (spot_at zs i).at → ⊥
 in_order [] i j h l m b = absurd (omega (arith, m))
 in_order (z ∷ zs) zero zero h l m b = never z.at b
 in_order (z ∷ zs) zero (suc j) h l m b = head_order z zs j h (omega (arith, m)) b
@@ -49,7 +54,8 @@ record IsFrom (j : ℕ) (points : List Placed) (z : Spot) : Type 0 where
   number : z.number ≡ j + index
   at : z.at ≡ point_in points index
 
-spots_only : (j : ℕ) (points : List Placed) (z : Spot) → Has z (spots_from j points) → IsFrom j points z
+spots_only : (j : ℕ) (points : List Placed) (z : Spot) → Has z (spots_from j points)
+    → IsFrom j points z
 spots_only j [] z h = absurd h
 spots_only j (p ∷ points) z (inl e) = record { index = 0; within = omega arith; number = (let q = ap (λ (w : Spot). w.number) e in omega (arith, q)); at = ap (λ (w : Spot). w.at) e }
 spots_only j (p ∷ points) z (inr h) =
@@ -66,7 +72,8 @@ place_of z [] h = absurd h
 place_of z (y ∷ zs) (inl e) = (0, omega arith, sym e)
 place_of z (y ∷ zs) (inr h) = let (k, l, e) = place_of z zs h in (suc k, omega (arith, l), e)
 
-pub sorted_spots : (points : List Placed) (start zs : List Spot) → start ≡ spots_from 0 points → IsPermutation start zs → IsSortedByKey key_of key_cmp zs → AreSpots points zs
+pub sorted_spots : (points : List Placed) (start zs : List Spot) → start ≡ spots_from 0 points
+    → IsPermutation start zs → IsSortedByKey key_of key_cmp zs → AreSpots points zs
 sorted_spots points start zs e p h = record {
   known = λ i l.
       (let f = spots_only 0 points (spot_at zs i) (subst (Has (spot_at zs i)) e (has_permutation zs start (spot_at zs i) (IsPermutation-sym start zs p) (has_at zs i _ l))) in

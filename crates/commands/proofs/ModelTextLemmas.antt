@@ -1,5 +1,6 @@
 -- What the text of a model is, it is alone: a model with one layout, or refused for one reason.
-use Rattle.std.proofs.Common.{◌≡◌, ◌<◌, ℕ, length, arith, List, Option, Some, None, sym, ap, ◌∙◌, subst}
+use Rattle.std.proofs.Common.{◌≡◌, ◌<◌, ℕ, length, arith, List, Option, Some, None, sym, ap, ◌∙◌}
+use Rattle.std.proofs.Common.{subst}
 use Rattle.std.specs.Prelude.{slice_get}
 use Rattle.ili_lexer.specs.declared.tokens.Token.{Token}
 use Rattle.ili_lexer.specs.declared.tokens.LexFault.{LexFault}
@@ -31,30 +32,37 @@ use Rattle.resolver.proofs.OneFirstBroken.{one_first_broken}
 use Rattle.resolver.proofs.OneModel.{one_model}
 use Rattle.table_layout.specs.Layouts.{Layout}
 use Rattle.table_layout.specs.Tables.{layout_of}
-use Rattle.commands.specs.ModelTexts.{Refusal, lex_refusal, end_refusal, token_refusal, name_refusal, IsSpelt, IsFaulty, no_token, ends_early, wrong_token, IsRefused, at_fault, misnamed, HasLayout}
+use Rattle.commands.specs.ModelTexts.{Refusal, lex_refusal, end_refusal, token_refusal}
+use Rattle.commands.specs.ModelTexts.{name_refusal, IsSpelt, IsFaulty, no_token, ends_early}
+use Rattle.commands.specs.ModelTexts.{wrong_token, IsRefused, at_fault, misnamed, HasLayout}
 
 -- a text is cut in one way
 same_tokens : (text : List ℕ) (a b : List Token) → AreTokens text a → AreTokens text b → a ≡ b
 same_tokens text a b h k = let e = one_answer text 0 (tokens a) (tokens b) h k in cc
 
 -- a fault of the tokens that a refusal names
-given_fault : (text : List ℕ) (f : LexFault) (r : Refusal) → IsFault text f → lex_refusal f ≡ Some r → Gives text 0 (fault f)
+given_fault : (text : List ℕ) (f : LexFault) (r : Refusal) → IsFault text f → lex_refusal f ≡ Some r
+    → Gives text 0 (fault f)
 given_fault text (lexed.BadByte l c) r h e = h
 given_fault text (lexed.OpenExplanation l c) r h e = h
 given_fault text (lexed.LongNumber l c) r h e = h
 given_fault text lexed.Memory r h e = absurd (cc)
 
-no_tokens : (text : List ℕ) (f : LexFault) (r : Refusal) (ts : List Token) → IsFault text f → lex_refusal f ≡ Some r → AreTokens text ts → ⊥
+no_tokens : (text : List ℕ) (f : LexFault) (r : Refusal) (ts : List Token) → IsFault text f
+    → lex_refusal f ≡ Some r → AreTokens text ts → ⊥
 no_tokens text f r ts h e k = let q = one_answer text 0 (fault f) (tokens ts) (given_fault text f r h e) k in cc
 
 module _ (text : List ℕ) where
   same_syntax : (m n : ModelSyntax) → IsSpelt text m → IsSpelt text n → m ≡ n
   same_syntax m n h k = spelt_once m n (toks text k.tokens) (subst (λ (ts : List Token). Spells m (toks text ts)) (same_tokens text h.tokens k.tokens h.are k.are) h.spelt) k.spelt
 
-  at_same : (ts us : List Token) (f : SyntaxFault) → AreTokens text ts → AreTokens text us → IsFirstFault (toks text ts) f → IsFirstFault (toks text us) f
+  at_same : (ts us : List Token) (f : SyntaxFault) → AreTokens text ts → AreTokens text us
+      → IsFirstFault (toks text ts) f → IsFirstFault (toks text us) f
   at_same ts us f h k = subst (λ (vs : List Token). IsFirstFault (toks text vs) f) (same_tokens text ts us h k)
 
-  same_fault : (ts us : List Token) (c d : SyntaxCode) (i j : Option ℕ) → AreTokens text ts → AreTokens text us → IsFirstFault (toks text ts) (parsed.At c i) → IsFirstFault (toks text us) (parsed.At d j) → parsed.At c i ≡ parsed.At d j
+  same_fault : (ts us : List Token) (c d : SyntaxCode) (i j : Option ℕ) → AreTokens text ts
+      → AreTokens text us → IsFirstFault (toks text ts) (parsed.At c i)
+      → IsFirstFault (toks text us) (parsed.At d j) → parsed.At c i ≡ parsed.At d j
   same_fault ts us c d i j h k x y = same_first_fault (toks text us) (parsed.At c i) (parsed.At d j) (λ e. cc) (λ e. cc) (at_same ts us (parsed.At c i) h k x) y
 
   -- a text that spells a syntax has no fault
@@ -99,7 +107,8 @@ module _ (text : List ℕ) where
     pub token_there : (j : ℕ) → k ≡ Some j → j < length ts
     token_there j e = omega (arith, (fault_there (Some j) e).0, length-toks text ts)
 
-    pub token_faulty : (j : ℕ) (t : Token) (r : Refusal) → k ≡ Some j → slice_get ts j ≡ Some t → r ≡ token_refusal text c t → IsFaulty text r
+    pub token_faulty : (j : ℕ) (t : Token) (r : Refusal) → k ≡ Some j → slice_get ts j ≡ Some t
+        → r ≡ token_refusal text c t → IsFaulty text r
     token_faulty j t r e l g = wrong_token ts c j t are (fault_there (Some j) e) l g
 
   pub one_layout : (a b : Layout) → HasLayout text a → HasLayout text b → a ≡ b
@@ -124,13 +133,16 @@ module _ (text : List ℕ) where
       d ∙ ap name_refusal same ∙ sym k
 
 -- ---- what the reader of a text gave
-pub faulty_of : (a : List ℕ) (x : Reading) (r : stored.Refusal) → IsReading a x → x ≡ readings.Refused r → IsRefused a (refusal_of r)
+pub faulty_of : (a : List ℕ) (x : Reading) (r : stored.Refusal) → IsReading a x
+    → x ≡ readings.Refused r → IsRefused a (refusal_of r)
 faulty_of a x r h f = at_fault (subst (IsReading a) f h)
 
-pub spelt_of : (a : List ℕ) (x : Reading) (s : syntax.ModelSyntax) → IsReading a x → x ≡ readings.Syntax s → IsSpelt a (model_of s)
+pub spelt_of : (a : List ℕ) (x : Reading) (s : syntax.ModelSyntax) → IsReading a x
+    → x ≡ readings.Syntax s → IsSpelt a (model_of s)
 spelt_of a x s h f = subst (IsReading a) f h
 
 -- the layout of a syntax that the text spells, or its refusal
-pub read_as : (a : List ℕ) (m : ModelSyntax) (x : ModelReading) → IsSpelt a m → IsLaidOut m x → IsModelReading a x
+pub read_as : (a : List ℕ) (m : ModelSyntax) (x : ModelReading) → IsSpelt a m → IsLaidOut m x
+    → IsModelReading a x
 read_as a m (models.Laid layout) s h = record { syntax = m; spelt = s; model = h.0; faultless = h.1; stands = h.2; laid_out = h.3 }
 read_as a m (models.Refused r) s h = misnamed m h.0 s h.1 h.2

@@ -1,8 +1,10 @@
 -- The words spell one command only.
 use Rattle.std.proofs.Common.{◌≡◌, List, ℕ, get_or, ap, refl, subst, arith}
-use Rattle.commands.specs.Commands.{FileNames, Command, compile, on_files, trial, IsCommand, IsSpelled, verb_word}
+use Rattle.commands.specs.Commands.{FileNames, Command, compile, on_files, trial, IsCommand}
+use Rattle.commands.specs.Commands.{IsSpelled, verb_word}
 use Rattle.commands.specs.declared.command.Verb.{Verb}
-use Rattle.commands.specs.declared.command.Verb.TheVariants.{Check, Verify, Polygons, Canonical, Points}
+use Rattle.commands.specs.declared.command.Verb.TheVariants.{Check, Verify, Polygons, Canonical}
+use Rattle.commands.specs.declared.command.Verb.TheVariants.{Points}
 use Rattle.commands.proofs.CommandLemmas.{one_spelling, one_word, one_compile, not_both}
 use Rattle.commands.proofs.TrialWords.{one_trial, no_compile, no_names}
 
@@ -37,13 +39,16 @@ one_verb Points Polygons e = absurd (let k : 105 ≡ 108 = ap third e in omega a
 one_verb Points Canonical e = absurd (let k : 105 ≡ 110 = ap third e in omega arith)
 one_verb Points Points e = refl
 
-same_files : (words : List (List ℕ)) (v w : Verb) (c d : FileNames) → IsSpelled (verb_word v) words c → IsSpelled (verb_word w) words d → on_files v c ≡ on_files w d
+same_files : (words : List (List ℕ)) (v w : Verb) (c d : FileNames)
+    → IsSpelled (verb_word v) words c → IsSpelled (verb_word w) words d
+    → on_files v c ≡ on_files w d
 same_files words v w c d h k =
     let e = one_verb v w (one_word words (verb_word v) (verb_word w) c d h k) in
     let n = one_spelling words (verb_word w) c d (subst (λ (x : Verb). IsSpelled (verb_word x) words c) e h) k in
     λ i. on_files (e i) (n i)
 
-pub one_command : (words : List (List ℕ)) (c d : Command) → IsCommand words c → IsCommand words d → c ≡ d
+pub one_command : (words : List (List ℕ)) (c d : Command) → IsCommand words c → IsCommand words d
+    → c ≡ d
 one_command words (compile m) (compile n) h k = ap compile (one_compile words m n h k)
 one_command words (compile m) (on_files w d) h k = absurd (not_both words m (verb_word w) d h k)
 one_command words (compile m) (trial n a) h k = absurd (no_compile words n a m k h)

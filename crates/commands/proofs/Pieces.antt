@@ -1,5 +1,6 @@
 -- Pieces that follow each other make the front of a file.
-use Rattle.std.proofs.Common.{◌≡◌, ℕ, ◌+◌, ◌<◌, ◌≤◌, List, [], ◌++◌, length, take, drop, Option, Some, None, Ok, arith, refl, ap, ◌∙◌, subst}
+use Rattle.std.proofs.Common.{◌≡◌, ℕ, ◌+◌, ◌<◌, ◌≤◌, List, [], ◌++◌, length, take, drop, Option}
+use Rattle.std.proofs.Common.{Some, None, Ok, arith, refl, ap, ◌∙◌, subst}
 use Rattle.std.proofs.lemmas.Grind.{common_steps}
 use Rattle.std.proofs.lemmas.List.{length-append, length-take, length-take-le}
 use Rattle.std.proofs.Math.Seq.{take-add}
@@ -7,7 +8,8 @@ use Rattle.std.specs.FinMap as map
 use Rattle.ports.specs.Files.{Files, Reads, ReadsKnown}
 use Rattle.commands.specs.Reading.{IsWhole, IsLonger, IsFront, IsFrontOf, IsEnd}
 
-more_of : (file bytes got : List ℕ) (n : ℕ) → bytes ≡ take (length bytes) file → take n got ≡ take n (drop (length bytes) file) → n ≤ length (drop (length bytes) file)
+more_of : (file bytes got : List ℕ) (n : ℕ) → bytes ≡ take (length bytes) file
+    → take n got ≡ take n (drop (length bytes) file) → n ≤ length (drop (length bytes) file)
     → bytes ++ take n got ≡ take (length (bytes ++ take n got)) file
 more_of file bytes got n e f h =
     let l : length (bytes ++ take n got) ≡ length bytes + n = length-append bytes (take n got) ∙ ap (λ (i : ℕ). length bytes + i) (ap length f ∙ length-take-le n (drop (length bytes) file) h) in
@@ -32,7 +34,8 @@ pub ended : (E : Type 0) (held : Option Files) (name bytes got : List ℕ) → I
 ended E None name bytes got h k = tt
 ended E (Some files) name bytes got h k = whole_one E (map.get files name) bytes got h k
 
-pub whole : (held : Option Files) (name bytes : List ℕ) (limit : ℕ) → length bytes ≤ limit → IsEnd held name bytes → IsWhole held name limit bytes
+pub whole : (held : Option Files) (name bytes : List ℕ) (limit : ℕ) → length bytes ≤ limit
+    → IsEnd held name bytes → IsWhole held name limit bytes
 whole None name bytes limit l h = l
 whole (Some files) name bytes limit l h = (h, l)
 
@@ -40,18 +43,22 @@ pub start : (held : Option Files) (name : List ℕ) → IsFront held name []
 start None name = tt
 start (Some files) name = refl
 
-longer_one : (file : Option (List ℕ)) (bytes : List ℕ) (limit : ℕ) → limit < length bytes → IsFrontOf file bytes → (all : List ℕ) × (file ≡ Some all) × (limit < length all)
+longer_one : (file : Option (List ℕ)) (bytes : List ℕ) (limit : ℕ) → limit < length bytes
+    → IsFrontOf file bytes → (all : List ℕ) × (file ≡ Some all) × (limit < length all)
 longer_one None bytes limit l h = absurd (no_more bytes limit l h)
   where
-    no_more : (bytes : List ℕ) (limit : ℕ) → limit < length bytes → bytes ≡ take (length bytes) [] → ⊥
+    no_more : (bytes : List ℕ) (limit : ℕ) → limit < length bytes → bytes ≡ take (length bytes) []
+        → ⊥
     no_more bytes limit l h = grind (arith, common_steps)
 longer_one (Some file) bytes limit l h = (file, refl, omega (arith, ap length h, length-take (length bytes) file))
 
-pub longer : (held : Option Files) (name bytes : List ℕ) (limit : ℕ) → limit < length bytes → IsFront held name bytes → IsLonger held name limit
+pub longer : (held : Option Files) (name bytes : List ℕ) (limit : ℕ) → limit < length bytes
+    → IsFront held name bytes → IsLonger held name limit
 longer None name bytes limit l h = tt
 longer (Some files) name bytes limit l h = longer_one (map.get files name) bytes limit l h
 
-pub front_length : (front got : List ℕ) (n from : ℕ) → length front ≡ from → n ≤ length got → length (front ++ take n got) ≡ from + n
+pub front_length : (front got : List ℕ) (n from : ℕ) → length front ≡ from → n ≤ length got
+    → length (front ++ take n got) ≡ from + n
 front_length front got n from e le =
     let a = length-append front (take n got) in
     let b = length-take-le n got le in

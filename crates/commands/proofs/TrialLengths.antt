@@ -1,17 +1,21 @@
 -- How long the files of a trial are at most.
-use Rattle.std.proofs.Common.{◌≡◌, zero, suc, ◌+◌, ◌*◌, ◌^◌, ◌≤◌, ◌<◌, ℕ, ℤ, pos, unsigned_abs, List, ◌++◌, length, decimal, codes, arith, length-append, refl}
+use Rattle.std.proofs.Common.{◌≡◌, zero, suc, ◌+◌, ◌*◌, ◌^◌, ◌≤◌, ◌<◌, ℕ, ℤ, pos, unsigned_abs}
+use Rattle.std.proofs.Common.{List, ◌++◌, length, decimal, codes, arith, length-append, refl}
 use Rattle.std.proofs.lemmas.Fmt.{length-decimal-le}
 use Rattle.std.proofs.lemmas.Nat.{mul-le}
 use Rattle.decimals.specs.Written.{spelling_of}
 use Rattle.commands.specs.declared.trial.objects.Place.{Place}
-use Rattle.commands.specs.TrialFiles.{coordinate, place_text, straight_text, cell_text, corner, middle, level, upright, cell, each, levels, head, between, ending, levels, uprights, cells, transfer_text}
+use Rattle.commands.specs.TrialFiles.{coordinate, place_text, straight_text, cell_text, corner}
+use Rattle.commands.specs.TrialFiles.{middle, level, upright, cell, each, levels, head, between}
+use Rattle.commands.specs.TrialFiles.{ending, levels, uprights, cells, transfer_text}
 
 -- what is written of a value is short
 abbrev pub Short : Type 0
 Short = (value : ℤ) (scale : ℕ) → unsigned_abs value < 10 ^ 18 → scale ≤ 9 → length (spelling_of value scale) ≤ 20
 
 -- so many texts of at most so many bytes
-pub each_short : (n b : ℕ) (text : ℕ → List ℕ) → ((i : ℕ) → i < n → length (text i) ≤ b) → length (each n text) ≤ n * b
+pub each_short : (n b : ℕ) (text : ℕ → List ℕ) → ((i : ℕ) → i < n → length (text i) ≤ b)
+    → length (each n text) ≤ n * b
 each_short zero b text h = omega arith
 each_short (suc n) b text h =
     let k = each_short n b text (λ i l. h i (omega (arith, l))) in
@@ -30,10 +34,12 @@ IsNear p = (p.x ≤ 10000) × (p.y ≤ 10000)
 three : (a b c : List ℕ) → length (a ++ b ++ c) ≡ length a + length b + length c
 three a b c = simp length-append refl
 
-five : (a b c d e : List ℕ) → length (a ++ b ++ c ++ d ++ e) ≡ length a + length b + length c + length d + length e
+five : (a b c d e : List ℕ)
+    → length (a ++ b ++ c ++ d ++ e) ≡ length a + length b + length c + length d + length e
 five a b c d e = simp length-append refl
 
-six : (a b c d e f : List ℕ) → length (a ++ b ++ c ++ d ++ e ++ f) ≡ length a + length b + length c + length d + length e + length f
+six : (a b c d e f : List ℕ)
+    → length (a ++ b ++ c ++ d ++ e ++ f) ≡ length a + length b + length c + length d + length e + length f
 six a b c d e f = simp length-append refl
 
 seven : (a b c d e f g : List ℕ)
@@ -44,7 +50,8 @@ place_short : Short → (p : Place) → IsNear p → length (place_text p) ≤ 4
 place_short s p h =
     omega (arith, coordinate_short s p.x h.0, coordinate_short s p.y h.1, three (coordinate p.x) (codes " ") (coordinate p.y))
 
-straight_short : Short → (n : ℕ) (p q : Place) → n < 10 ^ 18 → IsNear p → IsNear q → length (straight_text n p q) ≤ 125
+straight_short : Short → (n : ℕ) (p q : Place) → n < 10 ^ 18 → IsNear p → IsNear q
+    → length (straight_text n p q) ≤ 125
 straight_short s n p q h k l =
     omega (
       arith,
@@ -76,7 +83,8 @@ cells_short s n j i h k l =
     cell_short s (j * n + i + 1) (middle i j) (omega (arith, mul-le j n 500 500 (omega arith) h)) (omega arith, omega arith)
 
 -- a square of texts
-square_short : (m n b : ℕ) (text : ℕ → ℕ → List ℕ) → m ≤ 501 → n ≤ 500 → ((j i : ℕ) → j < m → i < n → length (text j i) ≤ b)
+square_short : (m n b : ℕ) (text : ℕ → ℕ → List ℕ) → m ≤ 501 → n ≤ 500
+    → ((j i : ℕ) → j < m → i < n → length (text j i) ≤ b)
     → length (each m (λ j. each n (text j))) ≤ 501 * (500 * b)
 square_short m n b text k h f =
     let rows = each_short m (n * b) (λ j. each n (text j)) (λ j l. each_short n b (text j) (λ i e. f j i l e)) in

@@ -1,5 +1,7 @@
 -- What stands before the first point and behind it.
-use Rattle.std.proofs.Common.{◌≡◌, ℕ, ◌+◌, ◌-◌, ◌<◌, Bool, true, false, cond, ltb, eqb, not, ◌&&◌, List, [], ◌∷◌, length, suc, take, drop, Option, Some, None, Result, Err, refl, sym, ap, ◌∙◌, arith, length-drop}
+use Rattle.std.proofs.Common.{◌≡◌, ℕ, ◌+◌, ◌-◌, ◌<◌, Bool, true, false, cond, ltb, eqb, not, ◌&&◌}
+use Rattle.std.proofs.Common.{List, [], ◌∷◌, length, suc, take, drop, Option, Some, None, Result}
+use Rattle.std.proofs.Common.{Err, refl, sym, ap, ◌∙◌, arith, length-drop}
 use Rattle.std.proofs.lemmas.Bool.Decides.{nat_tests}
 use Rattle.std.proofs.lemmas.List.{take_all}
 use Rattle.std.proofs.Math.ListN.{drop_of_length-le}
@@ -29,10 +31,12 @@ whole_cut (c ∷ cs) =
 one_more : (n : ℕ) → 1 + n + 1 ≡ suc (n + 1)
 one_more n = omega arith
 
-shifted : (n m : ℕ) (r : Option (List ℕ)) → cond (ltb n m) r None ≡ cond (ltb (1 + n) (suc m)) r None
+shifted : (n m : ℕ) (r : Option (List ℕ))
+    → cond (ltb n m) r None ≡ cond (ltb (1 + n) (suc m)) r None
 shifted n m r = ap (λ (t : Bool). cond t r None) (grind (arith, nat_tests))
 
-point_cut : (bytes : List ℕ) → point_of bytes ≡ cond (ltb (place bytes) (length bytes)) (Some (drop (place bytes + 1) bytes)) None
+point_cut : (bytes : List ℕ)
+    → point_of bytes ≡ cond (ltb (place bytes) (length bytes)) (Some (drop (place bytes + 1) bytes)) None
 point_cut [] = refl
 point_cut (c ∷ cs) =
     elim (eqb c 46) as (λ t. cond t (Some cs) (point_of cs) ≡ cond (ltb (cond (not t) (1 + place cs) 0) (length (c ∷ cs))) (Some (drop (cond (not t) (1 + place cs) 0 + 1) (c ∷ cs))) None) [
@@ -46,7 +50,8 @@ pub record IsPlace (bytes : List ℕ) (at : ℕ) : Type 0 where
   pub whole : whole_of bytes ≡ take at bytes
   pub point : point_of bytes ≡ Some (drop (at + 1) bytes)
 
-found_by : (bytes : List ℕ) (at : ℕ) (t : Bool) → ltb (place bytes) (length bytes) ≡ t → cond t (Some (place bytes)) None ≡ Some at → IsPlace bytes at
+found_by : (bytes : List ℕ) (at : ℕ) (t : Bool) → ltb (place bytes) (length bytes) ≡ t
+    → cond t (Some (place bytes)) None ≡ Some at → IsPlace bytes at
 found_by bytes at true e h =
     let p : place bytes ≡ at = cc in
     record {
@@ -56,32 +61,39 @@ found_by bytes at true e h =
     }
 found_by bytes at false e h = cc
 
-found : (bytes : List ℕ) (at : ℕ) → position (λ byte. eqb byte 46) bytes ≡ Some at → IsPlace bytes at
+found : (bytes : List ℕ) (at : ℕ) → position (λ byte. eqb byte 46) bytes ≡ Some at
+    → IsPlace bytes at
 found bytes at h = found_by bytes at _ refl h
 
-missing_by : (bytes : List ℕ) (t : Bool) → ltb (place bytes) (length bytes) ≡ t → cond t (Some (place bytes)) None ≡ None → (whole_of bytes ≡ bytes) × (point_of bytes ≡ None)
+missing_by : (bytes : List ℕ) (t : Bool) → ltb (place bytes) (length bytes) ≡ t
+    → cond t (Some (place bytes)) None ≡ None → (whole_of bytes ≡ bytes) × (point_of bytes ≡ None)
 missing_by bytes true e h = cc
 missing_by bytes false e h = (whole_cut bytes ∙ take_all (place bytes) bytes (ltb-false (place bytes) (length bytes) e), point_cut bytes ∙ rw e refl)
 
-pub missing : (bytes : List ℕ) → position (λ byte. eqb byte 46) bytes ≡ None → (whole_of bytes ≡ bytes) × (point_of bytes ≡ None)
+pub missing : (bytes : List ℕ) → position (λ byte. eqb byte 46) bytes ≡ None
+    → (whole_of bytes ≡ bytes) × (point_of bytes ≡ None)
 missing bytes h = missing_by bytes _ refl h
 
 -- a point at the end
-no_number : (b : Bool) (r : Result ℕ DecimalFault) → cond (b && false) r (Err NotNumber) ≡ Err NotNumber
+no_number : (b : Bool) (r : Result ℕ DecimalFault)
+    → cond (b && false) r (Err NotNumber) ≡ Err NotNumber
 no_number true r = refl
 no_number false r = refl
 
-pub unsigned_open : (scale at : ℕ) (bytes : List ℕ) → position (λ byte. eqb byte 46) bytes ≡ Some at → at + 1 ≡ length bytes → unsigned_of scale bytes ≡ Err NotNumber
+pub unsigned_open : (scale at : ℕ) (bytes : List ℕ) → position (λ byte. eqb byte 46) bytes ≡ Some at
+    → at + 1 ≡ length bytes → unsigned_of scale bytes ≡ Err NotNumber
 unsigned_open scale at bytes h e =
     let f = found bytes at h in
     let p : point_of bytes ≡ Some [] = f.point ∙ ap (λ (ds : List ℕ). Some ds) (drop_of_length-le bytes (omega arith)) in
     rw p (no_number (is_digits (whole_of bytes)) (measured scale (whole_of bytes) []))
 
 -- a point with something behind it
-some_decimals : (decimals : List ℕ) → 0 < length decimals → is_digits decimals ≡ all_ascii_digits decimals
+some_decimals : (decimals : List ℕ) → 0 < length decimals
+    → is_digits decimals ≡ all_ascii_digits decimals
 some_decimals decimals h = rw (lt-ltb 0 (length decimals) h) refl
 
-pub unsigned_found : (scale at : ℕ) (bytes : List ℕ) → position (λ byte. eqb byte 46) bytes ≡ Some at → (at + 1 ≡ length bytes → ⊥)
+pub unsigned_found : (scale at : ℕ) (bytes : List ℕ)
+    → position (λ byte. eqb byte 46) bytes ≡ Some at → (at + 1 ≡ length bytes → ⊥)
     → unsigned_of scale bytes ≡ parts_of scale (take at bytes) (drop (at + 1) bytes)
 unsigned_found scale at bytes h e =
     let f = found bytes at h in
@@ -89,14 +101,16 @@ unsigned_found scale at bytes h e =
     (some_decimals (drop (at + 1) bytes) (omega (arith, length-drop (at + 1) bytes, f.within))))
 
 -- the same, where the rest of the bytes is taken by its length
-pub unsigned_rest : (scale at n : ℕ) (bytes : List ℕ) → position (λ byte. eqb byte 46) bytes ≡ Some at → (at + 1 ≡ length bytes → ⊥)
+pub unsigned_rest : (scale at n : ℕ) (bytes : List ℕ)
+    → position (λ byte. eqb byte 46) bytes ≡ Some at → (at + 1 ≡ length bytes → ⊥)
     → n ≡ length bytes - (at + 1) → parts_of scale (take at bytes) (take n (drop (at + 1) bytes)) ≡ unsigned_of scale bytes
 unsigned_rest scale at n bytes h e k =
     let rest = drop (at + 1) bytes in
     ap (λ (ds : List ℕ). parts_of scale (take at bytes) ds) (take_all n rest (omega (arith, length-drop (at + 1) bytes))) ∙ sym (unsigned_found scale at bytes h e)
 
 -- no point
-pub unsigned_plain : (scale : ℕ) (bytes : List ℕ) → position (λ byte. eqb byte 46) bytes ≡ None → unsigned_of scale bytes ≡ parts_of scale bytes []
+pub unsigned_plain : (scale : ℕ) (bytes : List ℕ) → position (λ byte. eqb byte 46) bytes ≡ None
+    → unsigned_of scale bytes ≡ parts_of scale bytes []
 unsigned_plain scale bytes h =
     let m = missing bytes h in
     rw (m.0, m.1) refl

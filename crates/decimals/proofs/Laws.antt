@@ -1,9 +1,12 @@
 -- The value of a text at a scale is what the number that it spells has there.
-use Rattle.std.proofs.Common.{◌≡◌, ◌↔◌, ℕ, ◌^◌, ◌<◌, arith, Bool, true, false, cond, ltb, ◌&&◌, List, Result, Ok, Err, ℤ, pos, neg_ℤ, ◌<ℤ◌, refl, sym, subst, ◌∙◌}
+use Rattle.std.proofs.Common.{◌≡◌, ◌↔◌, ℕ, ◌^◌, ◌<◌, arith, Bool, true, false, cond, ltb, ◌&&◌}
+use Rattle.std.proofs.Common.{List, Result, Ok, Err, ℤ, pos, neg_ℤ, ◌<ℤ◌, refl, sym, subst, ◌∙◌}
 use Rattle.std.proofs.lemmas.Int.{ints}
 use borrow.Author.Tests.{ltb-true, ltb-false, lt-ltb}
-use Rattle.decimals.specs.Numerals.{Sign, unsigned, plus, minus, Numeral, Spells, is_digits, has_decimals, after_sign, whole_of, point_of, cut}
-use Rattle.decimals.specs.Scaled.{decimals_in, magnitude_of, is_exact, with_sign, measured, signed, scaled_of, HasValue, SpellsNone, IsTooLong, HasMoreDecimals}
+use Rattle.decimals.specs.Numerals.{Sign, unsigned, plus, minus, Numeral, Spells, is_digits}
+use Rattle.decimals.specs.Numerals.{has_decimals, after_sign, whole_of, point_of, cut}
+use Rattle.decimals.specs.Scaled.{decimals_in, magnitude_of, is_exact, with_sign, measured, signed}
+use Rattle.decimals.specs.Scaled.{scaled_of, HasValue, SpellsNone, IsTooLong, HasMoreDecimals}
 use Rattle.decimals.specs.declared.DecimalFault.{DecimalFault}
 use Rattle.decimals.specs.declared.DecimalFault.TheVariants.{NotNumber, TooLong, MoreDecimals}
 use Rattle.decimals.proofs.Digits.{both_left, both_right}
@@ -19,17 +22,20 @@ scaled_of_spelled bytes scale n h =
 
 -- Each cause decides the answer.
 
-pub value_decides : (bytes : List ℕ) (scale : ℕ) (v : ℤ) → HasValue bytes scale v → scaled_of bytes scale ≡ Ok v
+pub value_decides : (bytes : List ℕ) (scale : ℕ) (v : ℤ) → HasValue bytes scale v
+    → scaled_of bytes scale ≡ Ok v
 value_decides bytes scale v h =
     scaled_of_spelled bytes scale h.numeral h.spelled
     ∙ rw (lt-ltb (magnitude_of scale h.numeral) (10 ^ 18) h.short, h.exact, h.value) refl
 
-pub too_long_decides : (bytes : List ℕ) (scale : ℕ) → IsTooLong bytes scale → scaled_of bytes scale ≡ Err TooLong
+pub too_long_decides : (bytes : List ℕ) (scale : ℕ) → IsTooLong bytes scale
+    → scaled_of bytes scale ≡ Err TooLong
 too_long_decides bytes scale h =
     scaled_of_spelled bytes scale h.numeral h.spelled
     ∙ rw (ge-ltb (magnitude_of scale h.numeral) (10 ^ 18) h.long) refl
 
-pub more_decimals_decide : (bytes : List ℕ) (scale : ℕ) → HasMoreDecimals bytes scale → scaled_of bytes scale ≡ Err MoreDecimals
+pub more_decimals_decide : (bytes : List ℕ) (scale : ℕ) → HasMoreDecimals bytes scale
+    → scaled_of bytes scale ≡ Err MoreDecimals
 more_decimals_decide bytes scale h =
     scaled_of_spelled bytes scale h.numeral h.spelled
     ∙ rw (lt-ltb (magnitude_of scale h.numeral) (10 ^ 18) h.short, h.inexact) refl
@@ -40,11 +46,13 @@ is_cut bytes = is_digits (whole_of (after_sign bytes)) && has_decimals (point_of
 cut_spelled : (bytes : List ℕ) → is_cut bytes ≡ true → Spells bytes (cut bytes)
 cut_spelled bytes e = record { text = joined bytes; whole = both_left _ _ e; point = both_right _ _ e }
 
-none_by : (bytes : List ℕ) (scale : ℕ) → is_cut bytes ≡ false → scaled_of bytes scale ≡ Err NotNumber
+none_by : (bytes : List ℕ) (scale : ℕ) → is_cut bytes ≡ false
+    → scaled_of bytes scale ≡ Err NotNumber
 unfolding scaled_of
 none_by bytes scale e = rw e refl
 
-pub none_decides : (bytes : List ℕ) (scale : ℕ) → SpellsNone bytes → scaled_of bytes scale ≡ Err NotNumber
+pub none_decides : (bytes : List ℕ) (scale : ℕ) → SpellsNone bytes
+    → scaled_of bytes scale ≡ Err NotNumber
 none_decides bytes scale h =
     elim (is_cut bytes) as (λ t. is_cut bytes ≡ t → scaled_of bytes scale ≡ Err NotNumber) [
       | true ↦ λ e. absurd (h (cut bytes) (cut_spelled bytes e))
@@ -85,32 +93,40 @@ reads bytes scale =
 
 -- Answer and cause together.
 
-pub read_so : (bytes : List ℕ) (scale : ℕ) (r s : Result ℤ DecimalFault) → r ≡ scaled_of bytes scale → r ≡ s → Reads bytes scale s
+pub read_so : (bytes : List ℕ) (scale : ℕ) (r s : Result ℤ DecimalFault) → r ≡ scaled_of bytes scale
+    → r ≡ s → Reads bytes scale s
 read_so bytes scale r s h e = let P : Result ℤ DecimalFault → Type 0 = λ x. Reads bytes scale x in subst P (sym h ∙ e) (reads bytes scale)
 
-pub value_exactly : (bytes : List ℕ) (scale : ℕ) (r : Result ℤ DecimalFault) → r ≡ scaled_of bytes scale → (v : ℤ) → (r ≡ Ok v) ↔ HasValue bytes scale v
+pub value_exactly : (bytes : List ℕ) (scale : ℕ) (r : Result ℤ DecimalFault)
+    → r ≡ scaled_of bytes scale → (v : ℤ) → (r ≡ Ok v) ↔ HasValue bytes scale v
 value_exactly bytes scale r h v = (λ e. read_so bytes scale r (Ok v) h e, λ k. h ∙ value_decides bytes scale v k)
 
-pub not_number_exactly : (bytes : List ℕ) (scale : ℕ) (r : Result ℤ DecimalFault) → r ≡ scaled_of bytes scale → (r ≡ Err NotNumber) ↔ SpellsNone bytes
+pub not_number_exactly : (bytes : List ℕ) (scale : ℕ) (r : Result ℤ DecimalFault)
+    → r ≡ scaled_of bytes scale → (r ≡ Err NotNumber) ↔ SpellsNone bytes
 not_number_exactly bytes scale r h = (λ e. read_so bytes scale r (Err NotNumber) h e, λ k. h ∙ none_decides bytes scale k)
 
-pub too_long_exactly : (bytes : List ℕ) (scale : ℕ) (r : Result ℤ DecimalFault) → r ≡ scaled_of bytes scale → (r ≡ Err TooLong) ↔ IsTooLong bytes scale
+pub too_long_exactly : (bytes : List ℕ) (scale : ℕ) (r : Result ℤ DecimalFault)
+    → r ≡ scaled_of bytes scale → (r ≡ Err TooLong) ↔ IsTooLong bytes scale
 too_long_exactly bytes scale r h = (λ e. read_so bytes scale r (Err TooLong) h e, λ k. h ∙ too_long_decides bytes scale k)
 
-pub more_decimals_exactly : (bytes : List ℕ) (scale : ℕ) (r : Result ℤ DecimalFault) → r ≡ scaled_of bytes scale → (r ≡ Err MoreDecimals) ↔ HasMoreDecimals bytes scale
+pub more_decimals_exactly : (bytes : List ℕ) (scale : ℕ) (r : Result ℤ DecimalFault)
+    → r ≡ scaled_of bytes scale → (r ≡ Err MoreDecimals) ↔ HasMoreDecimals bytes scale
 more_decimals_exactly bytes scale r h = (λ e. read_so bytes scale r (Err MoreDecimals) h e, λ k. h ∙ more_decimals_decide bytes scale k)
 
-pub value_is_unique : (bytes : List ℕ) (scale : ℕ) (v w : ℤ) → HasValue bytes scale v → HasValue bytes scale w → v ≡ w
+pub value_is_unique : (bytes : List ℕ) (scale : ℕ) (v w : ℤ) → HasValue bytes scale v
+    → HasValue bytes scale w → v ≡ w
 value_is_unique bytes scale v w h k =
     let a = value_decides bytes scale v h in
     let b = value_decides bytes scale w k in
     cc
 
 -- a value has at most 18 digits
-with_sign_within : (sign : Sign) (m : ℕ) → m < 10 ^ 18 → (neg_ℤ (pos (10 ^ 18)) <ℤ with_sign sign m) × (with_sign sign m <ℤ pos (10 ^ 18))
+with_sign_within : (sign : Sign) (m : ℕ) → m < 10 ^ 18
+    → (neg_ℤ (pos (10 ^ 18)) <ℤ with_sign sign m) × (with_sign sign m <ℤ pos (10 ^ 18))
 with_sign_within unsigned m h = (omega (arith, ints), omega (arith, ints))
 with_sign_within plus m h = (omega (arith, ints), omega (arith, ints))
 with_sign_within minus m h = (omega (arith, ints), omega (arith, ints))
 
-pub value_is_short : (bytes : List ℕ) (scale : ℕ) (v : ℤ) → HasValue bytes scale v → (neg_ℤ (pos (10 ^ 18)) <ℤ v) × (v <ℤ pos (10 ^ 18))
+pub value_is_short : (bytes : List ℕ) (scale : ℕ) (v : ℤ) → HasValue bytes scale v
+    → (neg_ℤ (pos (10 ^ 18)) <ℤ v) × (v <ℤ pos (10 ^ 18))
 value_is_short bytes scale v h = rw h.value (with_sign_within h.numeral.sign (magnitude_of scale h.numeral) h.short)

@@ -1,7 +1,11 @@
 -- A value has one text in the form that is written.
-use Rattle.std.proofs.Common.{◌≡◌, ℕ, zero, suc, ◌+◌, ◌-◌, ◌*◌, ◌/◌, ◌%◌, ◌^◌, ◌<◌, ◌≤◌, true, false, eqb, List, [], ◌∷◌, length, take, get_or, slice_get, decimal, Option, Some, None, ℤ, pos, negsuc, unsigned_abs, refl, sym, ap, ◌∙◌, arith}
+use Rattle.std.proofs.Common.{◌≡◌, ℕ, zero, suc, ◌+◌, ◌-◌, ◌*◌, ◌/◌, ◌%◌, ◌^◌, ◌<◌, ◌≤◌, true}
+use Rattle.std.proofs.Common.{false, eqb, List, [], ◌∷◌, length, take, get_or, slice_get, decimal}
+use Rattle.std.proofs.Common.{Option, Some, None, ℤ, pos, negsuc, unsigned_abs, refl, sym, ap, ◌∙◌}
+use Rattle.std.proofs.Common.{arith}
 use Rattle.std.proofs.lemmas.Bool.Decides.{nat_tests}
-use Rattle.std.proofs.lemmas.Fmt.{decimal_digit, decimal-digits_value, first_decimal, length-decimal-le}
+use Rattle.std.proofs.lemmas.Fmt.{decimal_digit, decimal-digits_value, first_decimal}
+use Rattle.std.proofs.lemmas.Fmt.{length-decimal-le}
 use Rattle.std.proofs.lemmas.Str.Parse.{digits_value_short}
 use Rattle.std.proofs.lemmas.Nat.{div-mul-add, div-add-mod'}
 use Rattle.std.proofs.lemmas.List.{take_all}
@@ -9,9 +13,11 @@ use Rattle.std.proofs.Math.Nat.{div-le_self, mod-le}
 use borrow.Author.Tests.{eqb-true, eqb-false, ltb-true}
 use Rattle.std.specs.Char.{is_ascii_digit}
 use Rattle.std.specs.Str.{all_ascii_digits}
-use Rattle.decimals.specs.Numerals.{Sign, unsigned, plus, minus, Numeral, Spells, number, is_digits, has_decimals, spelling}
+use Rattle.decimals.specs.Numerals.{Sign, unsigned, plus, minus, Numeral, Spells, number, is_digits}
+use Rattle.decimals.specs.Numerals.{has_decimals, spelling}
 use Rattle.decimals.specs.Scaled.{decimals_in, magnitude, magnitude_of, with_sign}
-use Rattle.decimals.specs.Written.{written_sign, padded, written_point, numeral_of, spelling_of, IsInForm}
+use Rattle.decimals.specs.Written.{written_sign, padded, written_point, numeral_of, spelling_of}
+use Rattle.decimals.specs.Written.{IsInForm}
 use Rattle.decimals.proofs.Digits.{number-append, both_left, both_right}
 use Rattle.decimals.proofs.Written.{own, some_point, decimals_write, written_magnitude}
 
@@ -53,10 +59,12 @@ padded_more k n h =
     let e : suc k - length (decimal n) ≡ suc (k - length (decimal n)) = omega (arith, h) in
     rw e refl
 
-not_nought : (c : ℕ) (cs : List ℕ) → eqb c 48 ≡ false → slice_get (c ∷ cs) 0 ≡ Some 48 → length (c ∷ cs) ≡ 1
+not_nought : (c : ℕ) (cs : List ℕ) → eqb c 48 ≡ false → slice_get (c ∷ cs) 0 ≡ Some 48
+    → length (c ∷ cs) ≡ 1
 not_nought c cs e f = absurd (omega (arith, eqb-false c 48 e, got_first (c ∷ cs) f))
 
-padded_step : (c : ℕ) (cs : List ℕ) → (0 < length cs → number cs < 10 ^ 18 → padded (length cs) (number cs) ≡ cs)
+padded_step : (c : ℕ) (cs : List ℕ)
+    → (0 < length cs → number cs < 10 ^ 18 → padded (length cs) (number cs) ≡ cs)
     → all_ascii_digits (c ∷ cs) ≡ true → number (c ∷ cs) < 10 ^ 18 → padded (length (c ∷ cs)) (number (c ∷ cs)) ≡ c ∷ cs
 padded_step c [] ih h k = padded_full 1 (number (c ∷ [])) (c ∷ []) (written_digits (c ∷ []) h (omega arith) k (λ f. refl)) refl
 padded_step c (d ∷ ds) ih h k =
@@ -72,17 +80,20 @@ padded_step c (d ∷ ds) ih h k =
       | false ↦ λ e. padded_full _ (number (c ∷ d ∷ ds)) (c ∷ d ∷ ds) (written_digits (c ∷ d ∷ ds) h (omega arith) k (not_nought c (d ∷ ds) e)) refl
     ] refl
 
-padded_digits : (ds : List ℕ) → all_ascii_digits ds ≡ true → 0 < length ds → number ds < 10 ^ 18 → padded (length ds) (number ds) ≡ ds
+padded_digits : (ds : List ℕ) → all_ascii_digits ds ≡ true → 0 < length ds → number ds < 10 ^ 18
+    → padded (length ds) (number ds) ≡ ds
 padded_digits [] h p k = absurd (omega arith)
 padded_digits (c ∷ cs) h p k = padded_step c cs (λ q b. padded_digits cs (both_right (is_ascii_digit c) _ h) q b) h k
 
-decimals_digits : (point : Option (List ℕ)) → has_decimals point ≡ true → all_ascii_digits (decimals_in point) ≡ true
+decimals_digits : (point : Option (List ℕ)) → has_decimals point ≡ true
+    → all_ascii_digits (decimals_in point) ≡ true
 decimals_digits None h = refl
 decimals_digits (Some ds) h = both_right _ _ h
 
 -- The whole digits and the decimals of a magnitude.
 
-split : (scale : ℕ) (whole decimals : List ℕ) → length decimals ≡ scale → magnitude scale whole decimals ≡ number whole * 10 ^ scale + number decimals
+split : (scale : ℕ) (whole decimals : List ℕ) → length decimals ≡ scale
+    → magnitude scale whole decimals ≡ number whole * 10 ^ scale + number decimals
 split scale whole decimals l =
     let t : take scale decimals ≡ decimals = take_all scale decimals (omega (arith, l)) in
     let z : scale - length decimals ≡ 0 = omega (arith, l) in
@@ -100,7 +111,8 @@ decimals_back scale m w d e h =
 some_digits : (ds : List ℕ) → is_digits ds ≡ true → 0 < length ds
 some_digits ds h = omega (arith, ltb-true 0 (length ds) (both_left _ _ h))
 
-point_back : (scale n : ℕ) (point : Option (List ℕ)) → has_decimals point ≡ true → length (decimals_in point) ≡ scale
+point_back : (scale n : ℕ) (point : Option (List ℕ)) → has_decimals point ≡ true
+    → length (decimals_in point) ≡ scale
     → number (decimals_in point) ≡ n → n < 10 ^ 18 → written_point scale n ≡ point
 point_back zero n None h l e b = refl
 point_back (suc k) n None h l e b = absurd (omega (arith, l))
@@ -109,7 +121,8 @@ point_back (suc k) n (Some ds) h l e b =
     let t = padded_digits ds (both_right _ _ h) (some_digits ds h) (omega (arith, e, b)) in
     some_point k n ∙ ap (λ (xs : List ℕ). Some xs) (rw (l, e) at t)
 
-sign_back : (sign : Sign) (m : ℕ) → (sign ≡ plus → ⊥) → (sign ≡ minus → 0 < m) → (written_sign (with_sign sign m) ≡ sign) × (unsigned_abs (with_sign sign m) ≡ m)
+sign_back : (sign : Sign) (m : ℕ) → (sign ≡ plus → ⊥) → (sign ≡ minus → 0 < m)
+    → (written_sign (with_sign sign m) ≡ sign) × (unsigned_abs (with_sign sign m) ≡ m)
 sign_back unsigned m h k = (refl, refl)
 sign_back plus m h k = absurd (h refl)
 sign_back minus zero h k = absurd (omega (arith, k refl))
@@ -123,7 +136,8 @@ below_nought : (value : ℤ) (m : ℕ) → m ≡ unsigned_abs value → written_
 below_nought (pos n) m e s = cc
 below_nought (negsuc n) m e s = omega (arith, e)
 
-pub in_form : (value : ℤ) (scale : ℕ) → unsigned_abs value < 10 ^ 18 → IsInForm scale (numeral_of value scale)
+pub in_form : (value : ℤ) (scale : ℕ) → unsigned_abs value < 10 ^ 18
+    → IsInForm scale (numeral_of value scale)
 in_form value scale h =
     let m = unsigned_abs value in
     record {
@@ -133,11 +147,13 @@ in_form value scale h =
       decimals = (decimals_write scale m h).count;
     }
 
-same_parts : (v : ℤ) (scale : ℕ) (n : Numeral) → written_sign v ≡ n.sign → decimal (unsigned_abs v / 10 ^ scale) ≡ n.whole
+same_parts : (v : ℤ) (scale : ℕ) (n : Numeral) → written_sign v ≡ n.sign
+    → decimal (unsigned_abs v / 10 ^ scale) ≡ n.whole
     → written_point scale (unsigned_abs v % 10 ^ scale) ≡ n.point → spelling n ≡ spelling_of v scale
 same_parts v scale n a b c = rw (a, b, c) refl
 
-pub one : (bytes : List ℕ) (n : Numeral) (scale : ℕ) → Spells bytes n → magnitude_of scale n < 10 ^ 18 → IsInForm scale n
+pub one : (bytes : List ℕ) (n : Numeral) (scale : ℕ) → Spells bytes n
+    → magnitude_of scale n < 10 ^ 18 → IsInForm scale n
     → bytes ≡ spelling_of (with_sign n.sign (magnitude_of scale n)) scale
 one bytes n scale s h f =
     let m = magnitude_of scale n in

@@ -1,5 +1,7 @@
 -- The magnitude of digits and decimals.
-use Rattle.std.proofs.Common.{◌≡◌, ℕ, ◌*◌, ◌-◌, ◌^◌, ◌≤◌, ◌<◌, min, Bool, true, false, cond, ltb, eqb, ◌&&◌, List, ◌++◌, length, take, drop, Result, Ok, Err, refl, sym, ap, ◌∙◌, arith}
+use Rattle.std.proofs.Common.{◌≡◌, ℕ, ◌*◌, ◌-◌, ◌^◌, ◌≤◌, ◌<◌, min, Bool, true, false, cond, ltb}
+use Rattle.std.proofs.Common.{eqb, ◌&&◌, List, ◌++◌, length, take, drop, Result, Ok, Err, refl, sym}
+use Rattle.std.proofs.Common.{ap, ◌∙◌, arith}
 use Rattle.std.proofs.Math.Nat.{one-le-pow, min-eq_left, min-eq_right}
 use Rattle.std.proofs.Math.Seq.{drop-length}
 use Rattle.std.proofs.Math.ListN.{drop_of_length-le}
@@ -20,16 +22,19 @@ ok_is : (b : Bool) (x r : ℕ) → cond b (Ok x) (Err NotNumber) ≡ Ok r → (b
 ok_is true x r h = (refl, cc)
 ok_is false x r h = cc
 
-err_is : (b : Bool) (x : ℕ) (e : DecimalFault) → cond b (Ok x) (Err NotNumber) ≡ Err e → (b ≡ false) × (e ≡ NotNumber)
+err_is : (b : Bool) (x : ℕ) (e : DecimalFault) → cond b (Ok x) (Err NotNumber) ≡ Err e
+    → (b ≡ false) × (e ≡ NotNumber)
 err_is true x e h = cc
 err_is false x e h = (refl, cc)
 
 -- a byte that is no digit, in either part of the decimals
-no_decimals : (b : Bool) (r : Result ℕ DecimalFault) → cond (b && false) r (Err NotNumber) ≡ Err NotNumber
+no_decimals : (b : Bool) (r : Result ℕ DecimalFault)
+    → cond (b && false) r (Err NotNumber) ≡ Err NotNumber
 no_decimals true r = refl
 no_decimals false r = refl
 
-pub no_number : (scale : ℕ) (whole decimals : List ℕ) → all_ascii_digits decimals ≡ false → parts_of scale whole decimals ≡ Err NotNumber
+pub no_number : (scale : ℕ) (whole decimals : List ℕ) → all_ascii_digits decimals ≡ false
+    → parts_of scale whole decimals ≡ Err NotNumber
 no_number scale whole decimals h = rw h (no_decimals (is_digits whole) (measured scale whole decimals))
 
 not_both : (a b c : Bool) → c ≡ (a && b) → a ≡ false → c ≡ false
@@ -40,12 +45,14 @@ not_both_right : (a b c : Bool) → c ≡ (a && b) → b ≡ false → c ≡ fal
 not_both_right true b c e h = e ∙ h
 not_both_right false b c e h = e
 
-pub no_kept : (scale n from : ℕ) (whole decimals : List ℕ) (e : DecimalFault) → counted from (take n decimals) ≡ Err e → parts_of scale whole decimals ≡ Err e
+pub no_kept : (scale n from : ℕ) (whole decimals : List ℕ) (e : DecimalFault)
+    → counted from (take n decimals) ≡ Err e → parts_of scale whole decimals ≡ Err e
 no_kept scale n from whole decimals e h =
     let k = err_is (all_ascii_digits (take n decimals)) _ e h in
     no_number scale whole decimals (not_both _ _ _ (digits_cut n decimals) k.0) ∙ ap (λ (f : DecimalFault). Err f) (sym k.1)
 
-pub no_surplus : (scale n from : ℕ) (whole decimals : List ℕ) (e : DecimalFault) → counted from (drop n decimals) ≡ Err e → parts_of scale whole decimals ≡ Err e
+pub no_surplus : (scale n from : ℕ) (whole decimals : List ℕ) (e : DecimalFault)
+    → counted from (drop n decimals) ≡ Err e → parts_of scale whole decimals ≡ Err e
 no_surplus scale n from whole decimals e h =
     let k = err_is (all_ascii_digits (drop n decimals)) _ e h in
     no_number scale whole decimals (not_both_right _ _ _ (digits_cut n decimals) k.0) ∙ ap (λ (f : DecimalFault). Err f) (sym k.1)
@@ -56,7 +63,8 @@ pub record IsCut (scale n : ℕ) (ds : List ℕ) : Type 0 where
   pub surplus : drop n ds ≡ drop scale ds
   pub missing : scale - n ≡ scale - length ds
 
-cut_by : (scale : ℕ) (ds : List ℕ) (b : Bool) → ltb (length ds) scale ≡ b → IsCut scale (min (length ds) scale) ds
+cut_by : (scale : ℕ) (ds : List ℕ) (b : Bool) → ltb (length ds) scale ≡ b
+    → IsCut scale (min (length ds) scale) ds
 cut_by scale ds true e =
     let l : length ds ≤ scale = omega (arith, ltb-true (length ds) scale e) in
     rw (min-eq_left l) (record {
@@ -99,16 +107,19 @@ counted_twice w d whole kept h k =
     let c = capped (number whole) (10 ^ length kept) (number kept) (one-le-pow (length kept) 10 (omega arith)) in
     (a.0, b.0, rw (number-append whole kept) (sym b.1 ∙ rw n c))
 
-exact_by : (p : ℕ) (ds : List ℕ) → counted 0 ds ≡ Ok p → (all_ascii_digits ds ≡ true) × (list_all (λ c. eqb c 48) ds ≡ eqb p 0)
+exact_by : (p : ℕ) (ds : List ℕ) → counted 0 ds ≡ Ok p
+    → (all_ascii_digits ds ≡ true) × (list_all (λ c. eqb c 48) ds ≡ eqb p 0)
 exact_by p ds h =
     let a = ok_is (all_ascii_digits ds) _ p h in
     let n : p ≡ min (number ds) (10 ^ 18) = omega (arith, a.1) in
     (a.0, zeros ds a.0 ∙ rw n (grind (arith, nat_tests)))
 
-is_number : (whole decimals : List ℕ) → 0 < length whole → all_ascii_digits whole ≡ true → all_ascii_digits decimals ≡ true → (is_digits whole && all_ascii_digits decimals) ≡ true
+is_number : (whole decimals : List ℕ) → 0 < length whole → all_ascii_digits whole ≡ true
+    → all_ascii_digits decimals ≡ true → (is_digits whole && all_ascii_digits decimals) ≡ true
 is_number whole decimals l a b = rw (lt-ltb 0 (length whole) l, a, b) refl
 
-pub parts_value : (scale n w d p m : ℕ) (whole decimals : List ℕ) → 0 < length whole → n ≡ min (length decimals) scale
+pub parts_value : (scale n w d p m : ℕ) (whole decimals : List ℕ) → 0 < length whole
+    → n ≡ min (length decimals) scale
     → counted 0 whole ≡ Ok w → counted w (take n decimals) ≡ Ok d → counted 0 (drop n decimals) ≡ Ok p → m ≡ min (d * 10 ^ (scale - n)) (2 ^ 64 - 1)
     → parts_of scale whole decimals ≡ settled m p
 parts_value scale n w d p m whole decimals l e h k q v =

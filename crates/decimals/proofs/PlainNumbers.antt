@@ -1,5 +1,7 @@
 -- Numbers with no more decimals than the scale has.
-use Rattle.std.proofs.Common.{◌≡◌, ℕ, ◌+◌, ◌*◌, ◌-◌, ◌^◌, ◌≤◌, ◌<◌, true, List, [], ◌∷◌, ◌++◌, length, zero, suc, take, drop, get_or, add-one, Option, None, Some, IfSome, Ok, refl, sym, ap, ◌∙◌, arith, length-drop, pow-add}
+use Rattle.std.proofs.Common.{◌≡◌, ℕ, ◌+◌, ◌*◌, ◌-◌, ◌^◌, ◌≤◌, ◌<◌, true, List, [], ◌∷◌, ◌++◌}
+use Rattle.std.proofs.Common.{length, zero, suc, take, drop, get_or, add-one, Option, None, Some}
+use Rattle.std.proofs.Common.{IfSome, Ok, refl, sym, ap, ◌∙◌, arith, length-drop, pow-add}
 use Rattle.std.proofs.Math.Nat.{pow-succ', mul_assoc, add-mul, one-le-pow, pow-le-pow_right}
 use Rattle.std.proofs.lemmas.Nat.{mul-le}
 use Rattle.std.proofs.lemmas.List.{take_more, take_all, take-append-drop}
@@ -29,7 +31,8 @@ last_digit xs c = number-append xs (c ∷ []) ∙ omega arith
 pub at_most_nine : (c : ℕ) → is_ascii_digit c ≡ true → c - 48 ≤ 9
 at_most_nine c h = grind (arith, nat_tests)
 
-pub front_more : (from i n m : ℕ) (bytes : List ℕ) → i < length bytes → is_ascii_digit (get_or bytes i 0) ≡ true
+pub front_more : (from i n m : ℕ) (bytes : List ℕ) → i < length bytes
+    → is_ascii_digit (get_or bytes i 0) ≡ true
     → m ≡ n * 10 + (get_or bytes i 0 - 48) → IsFrontNumber from bytes i n → IsFrontNumber from bytes (i + 1) m
 front_more from i n m bytes l h e f =
     let c = get_or bytes i 0 in
@@ -39,7 +42,8 @@ front_more from i n m bytes l h e f =
       bound = rw (ten_times (from + 1) i) (omega (arith, e, f.bound, at_most_nine c h));
     }
 
-pub front_fits : (from i n : ℕ) (bytes : List ℕ) → i < length bytes → (from + 1) * 10 ^ length bytes ≤ 10 ^ 18
+pub front_fits : (from i n : ℕ) (bytes : List ℕ) → i < length bytes
+    → (from + 1) * 10 ^ length bytes ≤ 10 ^ 18
     → IsFrontNumber from bytes i n → n * 10 + 10 ≤ 10 ^ 18
 front_fits from i n bytes l h f =
     let p : 10 ^ (i + 1) ≤ 10 ^ length bytes = pow-le-pow_right (omega arith) (omega arith) in
@@ -62,7 +66,8 @@ whole_below n w bytes h f = let p : 10 ^ n ≤ 10 ^ 15 = pow-le-pow_right (omega
 times_power : (a n : ℕ) → 1 ≤ a → n < a → (p : ℕ) → 1 ≤ p → n * p < a * p
 times_power a n k h p l = omega (arith, mul-le (n + 1) p a p (omega arith) (omega arith), add-mul n 1 p)
 
-pub zeros_fit : (w scale k n : ℕ) → n < (w + 1) * 10 ^ k → k ≤ scale → scale ≤ 3 → w < 10 ^ 15 → n * 10 ^ (scale - k) < 10 ^ 18
+pub zeros_fit : (w scale k n : ℕ) → n < (w + 1) * 10 ^ k → k ≤ scale → scale ≤ 3 → w < 10 ^ 15
+    → n * 10 ^ (scale - k) < 10 ^ 18
 zeros_fit w scale k n h l s b =
     let q = one-le-pow (scale - k) 10 (omega arith) in
     let t = times_power ((w + 1) * 10 ^ k) n (omega arith) h (10 ^ (scale - k)) q in
@@ -79,7 +84,8 @@ whole_zeros_fit w scale s b =
 
 -- The magnitude of a text that is cut at its point.
 
-unsigned_is : (scale : ℕ) (bytes whole : List ℕ) (point : Option (List ℕ)) → bytes ≡ whole ++ point_bytes point
+unsigned_is : (scale : ℕ) (bytes whole : List ℕ) (point : Option (List ℕ))
+    → bytes ≡ whole ++ point_bytes point
     → is_digits whole ≡ true → all_ascii_digits whole ≡ true → has_decimals point ≡ true → unsigned_of scale bytes ≡ measured scale whole (decimals_in point)
 unsigned_is scale bytes whole point e d a h =
     let w = whole_back whole point a in
@@ -89,17 +95,20 @@ plain_magnitude : (scale : ℕ) (whole decimals : List ℕ) → length decimals 
     → magnitude scale whole decimals ≡ (number whole * 10 ^ length decimals + number decimals) * 10 ^ (scale - length decimals)
 plain_magnitude scale whole decimals h = rw (take_all scale decimals h, number-append whole decimals) refl
 
-measured_plain : (scale m : ℕ) (whole decimals : List ℕ) → length decimals ≤ scale → m ≡ magnitude scale whole decimals → m < 10 ^ 18
+measured_plain : (scale m : ℕ) (whole decimals : List ℕ) → length decimals ≤ scale
+    → m ≡ magnitude scale whole decimals → m < 10 ^ 18
     → measured scale whole decimals ≡ Ok m
 measured_plain scale m whole decimals h e l =
     rw (← e, lt-ltb m (10 ^ 18) l, drop_of_length-le decimals h) refl
 
-front_digits : (n : ℕ) (bytes : List ℕ) → 0 < n → n ≤ length bytes → all_ascii_digits (take n bytes) ≡ true → is_digits (take n bytes) ≡ true
+front_digits : (n : ℕ) (bytes : List ℕ) → 0 < n → n ≤ length bytes
+    → all_ascii_digits (take n bytes) ≡ true → is_digits (take n bytes) ≡ true
 front_digits zero bytes h k d = absurd (omega arith)
 front_digits (suc n) [] h k d = absurd (omega arith)
 front_digits (suc n) (c ∷ bytes) h k d = rw (lt-ltb 0 (suc (length (take n bytes))) (omega arith)) d
 
-whole_magnitude : (scale w : ℕ) (whole : List ℕ) → w ≡ number whole → w * 10 ^ scale ≡ magnitude scale whole []
+whole_magnitude : (scale w : ℕ) (whole : List ℕ) → w ≡ number whole
+    → w * 10 ^ scale ≡ magnitude scale whole []
 whole_magnitude scale w whole e =
     let z : scale - 0 ≡ scale = omega arith in
     rw (plain_magnitude scale whole [] (omega arith), z, e) (omega arith)
@@ -108,7 +117,8 @@ front_value : (n w : ℕ) (bytes : List ℕ) → IsFrontNumber 0 bytes n w → w
 front_value n w bytes f = omega (arith, f.value)
 
 -- digits alone
-pub plain_whole : (scale n w m : ℕ) (bytes : List ℕ) → IsFrontNumber 0 bytes n w → 0 < n → n ≡ length bytes
+pub plain_whole : (scale n w m : ℕ) (bytes : List ℕ) → IsFrontNumber 0 bytes n w → 0 < n
+    → n ≡ length bytes
     → m ≡ w * 10 ^ scale → m < 10 ^ 18 → unsigned_of scale bytes ≡ Ok m
 plain_whole scale n w m bytes f h k e b =
     let whole = take n bytes in
@@ -119,7 +129,8 @@ plain_whole scale n w m bytes f h k e b =
     ∙ measured_plain scale m whole [] (omega arith) v b
 
 -- digits, a point and decimals
-plain_point : (scale n w m : ℕ) (bytes decimals : List ℕ) → IsFrontNumber 0 bytes n w → 0 < n → n ≤ length bytes → drop n bytes ≡ 46 ∷ decimals
+plain_point : (scale n w m : ℕ) (bytes decimals : List ℕ) → IsFrontNumber 0 bytes n w → 0 < n
+    → n ≤ length bytes → drop n bytes ≡ 46 ∷ decimals
     → IsPlain scale w decimals m → m < 10 ^ 18 → unsigned_of scale bytes ≡ Ok m
 plain_point scale n w m bytes decimals f h k e p b =
     let whole = take n bytes in
@@ -128,12 +139,14 @@ plain_point scale n w m bytes decimals f h k e p b =
     unsigned_is scale bytes whole (Some decimals) t (front_digits n bytes h k f.digits) f.digits p.digits
     ∙ measured_plain scale m whole decimals p.within v b
 
-at_point : (n k : ℕ) (bytes : List ℕ) → n < length bytes → get_or bytes n 0 ≡ 46 → k ≡ length bytes - (n + 1)
+at_point : (n k : ℕ) (bytes : List ℕ) → n < length bytes → get_or bytes n 0 ≡ 46
+    → k ≡ length bytes - (n + 1)
     → drop n bytes ≡ 46 ∷ take k (drop (n + 1) bytes)
 at_point n k bytes l p e =
     rw (take_all k (drop (n + 1) bytes) (omega (arith, length-drop (n + 1) bytes)), add-one n) (drop-cons bytes n 0 l ∙ ap (λ (c : ℕ). c ∷ drop (suc n) bytes) p)
 
-pub plain_if_some : (r : Option ℕ) (scale n w k : ℕ) (bytes : List ℕ) → IsFrontNumber 0 bytes n w → 0 < n → n < length bytes → get_or bytes n 0 ≡ 46
+pub plain_if_some : (r : Option ℕ) (scale n w k : ℕ) (bytes : List ℕ) → IsFrontNumber 0 bytes n w
+    → 0 < n → n < length bytes → get_or bytes n 0 ≡ 46
     → k ≡ length bytes - (n + 1) → IfSome r (λ m. IsPlain scale w (take k (drop (n + 1) bytes)) m) → IfSome r (λ m. m < 10 ^ 18)
     → IfSome r (λ m. unsigned_of scale bytes ≡ Ok m)
 plain_if_some None scale n w k bytes f h l p e i b = tt
@@ -141,7 +154,8 @@ plain_if_some (Some m) scale n w k bytes f h l p e i b =
     plain_point scale n w m bytes (take k (drop (n + 1) bytes)) f h (omega arith) (at_point n k bytes l p e) i b
 
 -- the decimals that were read to their end
-pub plain_decimals : (scale n w written : ℕ) (decimals : List ℕ) → IsFrontNumber w decimals n written → n ≡ length decimals → 0 < n → n ≤ scale
+pub plain_decimals : (scale n w written : ℕ) (decimals : List ℕ)
+    → IsFrontNumber w decimals n written → n ≡ length decimals → 0 < n → n ≤ scale
     → IsPlain scale w decimals (written * 10 ^ (scale - n))
 plain_decimals scale n w written decimals f e h k =
     let t : take n decimals ≡ decimals = take_all n decimals (omega arith) in

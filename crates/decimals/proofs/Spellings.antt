@@ -1,10 +1,13 @@
 -- A text is the spelling of at most one number: of its parts.
-use Rattle.std.proofs.Common.{◌≡◌, ℕ, Bool, true, false, cond, eqb, List, [], ◌∷◌, ◌++◌, length, drop, Option, Some, None, refl, sym, ap, ◌∙◌, arith}
+use Rattle.std.proofs.Common.{◌≡◌, ℕ, Bool, true, false, cond, eqb, List, [], ◌∷◌, ◌++◌, length}
+use Rattle.std.proofs.Common.{drop, Option, Some, None, refl, sym, ap, ◌∙◌, arith}
 use Rattle.std.proofs.lemmas.Bool.Decides.{nat_tests}
 use borrow.Author.Tests.{eqb-true}
 use Rattle.std.specs.Char.{is_ascii_digit}
 use Rattle.std.specs.Str.{all_ascii_digits}
-use Rattle.decimals.specs.Numerals.{Sign, unsigned, plus, minus, sign_bytes, point_bytes, Numeral, spelling, Spells, is_digits, sign_of, after_sign, whole_of, point_of, cut}
+use Rattle.decimals.specs.Numerals.{Sign, unsigned, plus, minus, sign_bytes, point_bytes, Numeral}
+use Rattle.decimals.specs.Numerals.{spelling, Spells, is_digits, sign_of, after_sign, whole_of}
+use Rattle.decimals.specs.Numerals.{point_of, cut}
 use Rattle.decimals.proofs.Digits.{both_left, both_right}
 
 -- The parts of a text are its spelling.

@@ -1,5 +1,6 @@
 -- Two outcomes of the words and the files agree, unless a file could not be read.
-use Rattle.std.proofs.Common.{◌≡◌, ℕ, true, false, List, [], ◌∷◌, ◌++◌, length, Option, Some, None, refl, ap, sym, ◌∙◌, subst, inl, inr, arith}
+use Rattle.std.proofs.Common.{◌≡◌, ℕ, true, false, List, [], ◌∷◌, ◌++◌, length, Option, Some, None}
+use Rattle.std.proofs.Common.{refl, ap, sym, ◌∙◌, subst, inl, inr, arith}
 use Rattle.std.specs.Prelude.{◌≢◌, ◌⊎◌, ⊤}
 use Rattle.ports.specs.Files.{Files}
 use Rattle.ports.specs.Output.{Adds}
@@ -11,12 +12,15 @@ use Rattle.table_layout.specs.Layouts.{Layout}
 use Rattle.commands.specs.declared.files.File.{File}
 use Rattle.reports.specs.declared.status.Status.{Status}
 use Rattle.reports.specs.declared.status.Status.TheVariants.{Accepted, ReadFault, WriteFault}
-use Rattle.delivery.specs.Answers.{GathersFor, Passes, Agree, AgreeUnlessUnread, Answers, IsStopped, IsAnswer}
+use Rattle.delivery.specs.Answers.{GathersFor, Passes, Agree, AgreeUnlessUnread, Answers, IsStopped}
+use Rattle.delivery.specs.Answers.{IsAnswer}
 use Rattle.delivery.specs.AreaAnswers.{AreAnswers}
 use Rattle.delivery.specs.Verifying.{IsVerification}
 use Rattle.plane.specs.Rule.Plans.{Plan}
 use Rattle.area_drawings.proofs.Windows.{same_drawings}
-use Rattle.commands.specs.Commands.{Command, Source, Target, Task, lists, judges, verifies, rewrites, tests_points, task_of, from_file, made, limit_of, model_of, further_files, IsCommand}
+use Rattle.commands.specs.Commands.{Command, Source, Target, Task, lists, judges, verifies}
+use Rattle.commands.specs.Commands.{rewrites, tests_points, task_of, from_file, made, limit_of}
+use Rattle.commands.specs.Commands.{model_of, further_files, IsCommand}
 use Rattle.delivery.specs.Deciding.{Decides, formless, formed}
 use Rattle.area_drawings.specs.AreaLimits.{has_too_large}
 use Rattle.area_links.specs.Rules.{Rule, links_of}
@@ -27,9 +31,12 @@ use Rattle.delivery.specs.FiledTexts.{AreVerified, IsVerified}
 use Rattle.commands.specs.Gathering as gathering
 use Rattle.commands.specs.Gathering.{Gathered, Reads, ReadsAll, Compiles, Gathers}
 use Rattle.delivery.specs.Causes.{HasOutcome}
-use Rattle.delivery.specs.Judging.{lines_of, findings, objects, IsMisbuilt, IsTextOf, IsClean, AreJudged, IsJudgedBy, at_fault, faulty, oversized, sound, IsChecked}
+use Rattle.delivery.specs.Judging.{lines_of, findings, objects, IsMisbuilt, IsTextOf, IsClean}
+use Rattle.delivery.specs.Judging.{AreJudged, IsJudgedBy, at_fault, faulty, oversized, sound}
+use Rattle.delivery.specs.Judging.{IsChecked}
 use Rattle.commands.specs.ModelTexts.{Refusal, IsRefused, HasLayout}
-use Rattle.reports.specs.Outcomes.{bad_link, Outcome, filed_text, misbuilt, rejected, areas_outcome, verified, canonical, report_of}
+use Rattle.reports.specs.Outcomes.{bad_link, Outcome, filed_text, misbuilt, rejected, areas_outcome}
+use Rattle.reports.specs.Outcomes.{verified, canonical, report_of}
 use Rattle.delivery.specs.Rewriting.{canon_of, IsRewritten, misread, without_text, written}
 use Rattle.commands.specs.Reading.{IsWhole, IsLonger}
 use Rattle.delivery.proofs.AreaLemmas.{AreaLaws, same_certificates, same_lines, areas_agree}
@@ -51,16 +58,20 @@ agree_same : (o p : Outcome) → o ≡ p → Agree o p
 agree_same o p e = subst (Agree o) e (agrees_itself o)
 
 -- ---- what is filed for a target
-same_text : (f : Filed) (l : Layout) (ds : List Plan) (cs es : List Plain) (ps qs : List polygons.Plain) → cs ≡ es → ArePolygonsFor f l ds ps → ArePolygonsFor f l ds qs → filed_text f cs ps ≡ filed_text f es qs
+same_text : (f : Filed) (l : Layout) (ds : List Plan) (cs es : List Plain) (ps qs : List polygons.Plain)
+    → cs ≡ es → ArePolygonsFor f l ds ps → ArePolygonsFor f l ds qs
+    → filed_text f cs ps ≡ filed_text f es qs
 same_text filed.Certificates l ds cs es ps qs e h k = ap spelling e
 same_text (filed.Trial n) l ds cs es ps qs e h k = ap spelling e
 same_text filed.Polygons l ds cs es ps qs e h k = ap polygons.polygons_text (one_polygons l l.areas ds ps qs h k)
 
 -- ---- a file has one text, and this is within its limit or not
-one_text : (files : Files) (name : List ℕ) (limit : ℕ) (a b : List ℕ) → IsWhole (Some files) name limit a → IsWhole (Some files) name limit b → a ≡ b
+one_text : (files : Files) (name : List ℕ) (limit : ℕ) (a b : List ℕ)
+    → IsWhole (Some files) name limit a → IsWhole (Some files) name limit b → a ≡ b
 one_text files name limit a b h k = let e = sym h.0 ∙ k.0 in cc
 
-not_longer : (files : Files) (name : List ℕ) (limit : ℕ) (a : List ℕ) → IsWhole (Some files) name limit a → IsLonger (Some files) name limit → ⊥
+not_longer : (files : Files) (name : List ℕ) (limit : ℕ) (a : List ℕ)
+    → IsWhole (Some files) name limit a → IsLonger (Some files) name limit → ⊥
 not_longer files name limit a h k =
     let q = sym h.0 ∙ k.1 in
     let e : a ≡ k.0 = cc in
@@ -79,7 +90,8 @@ Same g h = IsUnread g ⊎ (IsUnread h ⊎ (g ≡ h))
 
 module _ (files : Files) (far near : List ℕ → Type 0) where
   module _ (f : File) (name : List ℕ) (g h : Gathered) (P Q : List ℕ → Type 0) (one : (text : List ℕ) → P text → Q text → Same g h) where
-    text_after : (text : List ℕ) → IsWhole (Some files) name (limit_of f) text → P text → Reads (Some files) near (from_file f name) h Q → Same g h
+    text_after : (text : List ℕ) → IsWhole (Some files) name (limit_of f) text → P text
+        → Reads (Some files) near (from_file f name) h Q → Same g h
     text_after text w p k = elim k as (λ z. Same g h) [
       | inl n ↦ inr (inl (is_unread h f n.1))
       | inr n ↦ elim n as (λ z. Same g h) [
@@ -88,7 +100,8 @@ module _ (files : Files) (far near : List ℕ → Type 0) where
       ]
     ]
 
-    long_after : IsLonger (Some files) name (limit_of f) → g ≡ gathering.too_long f → Reads (Some files) near (from_file f name) h Q → Same g h
+    long_after : IsLonger (Some files) name (limit_of f) → g ≡ gathering.too_long f
+        → Reads (Some files) near (from_file f name) h Q → Same g h
     long_after l e k = elim k as (λ z. Same g h) [
       | inl n ↦ inr (inl (is_unread h f n.1))
       | inr n ↦ elim n as (λ z. Same g h) [
@@ -97,7 +110,8 @@ module _ (files : Files) (far near : List ℕ → Type 0) where
       ]
     ]
 
-    same_file : Reads (Some files) far (from_file f name) g P → Reads (Some files) near (from_file f name) h Q → Same g h
+    same_file : Reads (Some files) far (from_file f name) g P
+        → Reads (Some files) near (from_file f name) h Q → Same g h
     same_file r k = elim r as (λ z. Same g h) [
       | inl n ↦ inl (is_unread g f n.1)
       | inr n ↦ elim n as (λ z. Same g h) [
@@ -106,36 +120,45 @@ module _ (files : Files) (far near : List ℕ → Type 0) where
       ]
     ]
 
-  same_read : (s : Source) (g h : Gathered) (P Q : List ℕ → Type 0) → ((text : List ℕ) → P text → Q text → Same g h) → Reads (Some files) far s g P → Reads (Some files) near s h Q → Same g h
+  same_read : (s : Source) (g h : Gathered) (P Q : List ℕ → Type 0)
+      → ((text : List ℕ) → P text → Q text → Same g h) → Reads (Some files) far s g P
+      → Reads (Some files) near s h Q → Same g h
   same_read (from_file f name) g h P Q one r k = same_file f name g h P Q one r k
   same_read (made text) g h P Q one r k = one text r k
 
-  same_all : (l : Layout) (before : List (List ℕ)) (ss : List Source) (g h : Gathered) → ReadsAll (Some files) far l before ss g → ReadsAll (Some files) near l before ss h → Same g h
+  same_all : (l : Layout) (before : List (List ℕ)) (ss : List Source) (g h : Gathered)
+      → ReadsAll (Some files) far l before ss g → ReadsAll (Some files) near l before ss h
+      → Same g h
   same_all l before [] g h r k = inr (inr (r ∙ sym k))
   same_all l before (s ∷ ss) g h r k =
       same_read s g h (λ text. ReadsAll (Some files) far l (before ++ (text ∷ [])) ss g) (λ text. ReadsAll (Some files) near l (before ++ (text ∷ [])) ss h)
       (λ text p q. same_all l (before ++ (text ∷ [])) ss g h p q) r k
 
   module _ (t : Task) (text : List ℕ) (g h : Gathered) where
-    refused_after : (r : Refusal) → IsRefused text r → g ≡ gathering.refused r → Compiles (Some files) near t text h → Same g h
+    refused_after : (r : Refusal) → IsRefused text r → g ≡ gathering.refused r
+        → Compiles (Some files) near t text h → Same g h
     refused_after r i e k = elim k as (λ z. Same g h) [
       | inl n ↦ inr (inr (e ∙ ap gathering.refused (one_refusal text r n.0 i n.1) ∙ sym n.2))
       | inr n ↦ absurd (not_refused text n.0 r n.1 i)
     ]
 
-    laid_after : (l : Layout) → HasLayout text l → ReadsAll (Some files) far l [] (further_files t) g → Compiles (Some files) near t text h → Same g h
+    laid_after : (l : Layout) → HasLayout text l
+        → ReadsAll (Some files) far l [] (further_files t) g → Compiles (Some files) near t text h
+        → Same g h
     laid_after l i r k = elim k as (λ z. Same g h) [
       | inl n ↦ absurd (not_refused text l n.0 i n.1)
       | inr n ↦ same_all n.0 [] (further_files t) g h (subst (λ (x : Layout). ReadsAll (Some files) far x [] (further_files t) g) (one_layout text l n.0 i n.1) r) n.2
     ]
 
-    same_compiled : Compiles (Some files) far t text g → Compiles (Some files) near t text h → Same g h
+    same_compiled : Compiles (Some files) far t text g → Compiles (Some files) near t text h
+        → Same g h
     same_compiled r k = elim r as (λ z. Same g h) [
       | inl n ↦ refused_after n.0 n.1 n.2 k
       | inr n ↦ laid_after n.0 n.1 n.2 k
     ]
 
-  pub same_gathered : (c : Command) (g h : Gathered) → Gathers (Some files) far c g → Gathers (Some files) near c h → Same g h
+  pub same_gathered : (c : Command) (g h : Gathered) → Gathers (Some files) far c g
+      → Gathers (Some files) near c h → Same g h
   same_gathered c g h r k =
       same_read (model_of c) g h (λ text. Compiles (Some files) far (task_of c) text g) (λ text. Compiles (Some files) near (task_of c) text h)
       (λ text p q. same_compiled (task_of c) text g h p q) r k
@@ -147,7 +170,8 @@ PassesIn P t (gathering.texts l ts) = P t l ts
 PassesIn P t _ = ⊥
 
 module _ (P : Task → Layout → List (List ℕ) → Type 0) (files : Files) (far near : List ℕ → Type 0) (words : List (List ℕ)) (p : Passes (Some files) far words P) where
-  reads_too : (h : Gathered) (c : Command) → IsCommand words c → Gathers (Some files) near c h → IsUnread h ⊎ PassesIn P (task_of c) h
+  reads_too : (h : Gathered) (c : Command) → IsCommand words c → Gathers (Some files) near c h
+      → IsUnread h ⊎ PassesIn P (task_of c) h
   reads_too h c i k =
       let e = one_command words p.0 c p.3 i in
       let g = gathering.texts p.1 p.2 in
@@ -160,7 +184,8 @@ module _ (P : Task → Layout → List (List ℕ) → Type 0) (files : Files) (f
       ]
 
   -- two tests that are passed are passed by the same texts
-  pub both_pass : (Q : Task → Layout → List (List ℕ) → Type 0) → Passes (Some files) near words Q → (t : Task) × (l : Layout) × (ts : List (List ℕ)) × P t l ts × Q t l ts
+  pub both_pass : (Q : Task → Layout → List (List ℕ) → Type 0) → Passes (Some files) near words Q
+      → (t : Task) × (l : Layout) × (ts : List (List ℕ)) × P t l ts × Q t l ts
   both_pass Q q = elim (reads_too (gathering.texts q.1 q.2) q.0 q.3 q.4) as (λ z. (t : Task) × (l : Layout) × (ts : List (List ℕ)) × P t l ts × Q t l ts) [
     | inl u ↦ absurd u
     | inr r ↦ (task_of q.0, q.1, q.2, r, q.5)
@@ -179,7 +204,8 @@ differ e = cc
 agree_both : (o p q : Outcome) → o ≡ q → p ≡ q → Agree o p
 agree_both o p q e f = agree_same o p (e ∙ sym f)
 
-unread_status : (t : Task) (g : Gathered) (o : Outcome) → IsUnread g → HasOutcome t g o → o.status ≡ ReadFault
+unread_status : (t : Task) (g : Gathered) (o : Outcome) → IsUnread g → HasOutcome t g o
+    → o.status ≡ ReadFault
 unread_status t (gathering.unread f) o u e = ap (λ (x : Outcome). x.status) e
 unread_status t (gathering.too_long f) o u e = absurd u
 unread_status t (gathering.refused r) o u e = absurd u
@@ -191,7 +217,8 @@ module _ (l : Layout) (text : List ℕ) (Areas : List (List Row) → Outcome →
   one_rows : (t u : List (List Row)) → IsTextOf l text t → IsTextOf l text u → t ≡ u
   one_rows t u h k = one_transfer (form_of l) (lines_of l text).lines t u h.1 k.1
 
-  never_at_fault : (rows : List (List Row)) (n : ℕ) (code : Structure) → IsMisbuilt l text n code → IsTextOf l text rows → ⊥
+  never_at_fault : (rows : List (List Row)) (n : ℕ) (code : Structure) → IsMisbuilt l text n code
+      → IsTextOf l text rows → ⊥
   never_at_fault rows n code h t = never_both (form_of l) (lines_of l text) rows n code t h
 
   agree_judged : (o p : Outcome) → IsJudgedBy l text Areas o → IsJudgedBy l text Areas p → Agree o p
@@ -219,10 +246,12 @@ module _ (name : List ℕ) (l : Layout) (text : List ℕ) where
   same_rows : (a b : List (List Row)) → IsTextOf l text a → IsTextOf l text b → a ≡ b
   same_rows a b h k = one_transfer (form_of l) (lines_of l text).lines a b h.1 k.1
 
-  no_misread : (rows : List (List Row)) (n : ℕ) (code : Structure) → IsMisbuilt l text n code → IsTextOf l text rows → ⊥
+  no_misread : (rows : List (List Row)) (n : ℕ) (code : Structure) → IsMisbuilt l text n code
+      → IsTextOf l text rows → ⊥
   no_misread rows n code h t = never_both (form_of l) (lines_of l text) rows n code t h
 
-  agree_rewritten : (o p : Outcome) → IsRewritten name l text o → IsRewritten name l text p → Agree o p
+  agree_rewritten : (o p : Outcome) → IsRewritten name l text o → IsRewritten name l text p
+      → Agree o p
   agree_rewritten o p (misread n c h e) (misread m d k f) =
       let q = one_fault (form_of l) (lines_of l text) n m c d h k in
       agree_same o p (e ∙ ap (λ (x : ℕ). misbuilt x c) q.0 ∙ ap (misbuilt m) q.1 ∙ sym f)
@@ -236,7 +265,8 @@ module _ (name : List ℕ) (l : Layout) (text : List ℕ) where
   agree_rewritten o p (written rows t k e) (written more u m f) = agree_both o p _ e (f ∙ ap (λ (r : List (List Row)). canonical name (objects r) (canon_of l r)) (same_rows more rows u t))
 
 module _ (laws : AreaLaws) where
-  agree_areas : (target : Target) (l : Layout) (rows : List (List Row)) (o p : Outcome) → AreJudged target l rows o → AreJudged target l rows p → Agree o p
+  agree_areas : (target : Target) (l : Layout) (rows : List (List Row)) (o p : Outcome)
+      → AreJudged target l rows o → AreJudged target l rows p → Agree o p
   agree_areas target l rows o p j k =
       let same = same_drawings l rows l.areas j.drawings k.drawings j.drawn k.drawn in
       let here = subst (λ (ds : List Plan). AreAnswers l l.areas ds j.answers j.certificates) same j.answered in
@@ -252,7 +282,8 @@ module _ (laws : AreaLaws) where
       (areas_agree laws l (objects rows) target rows j.surface_answers k.surface_answers j.surfaces_answered k.surfaces_answered k.drawings j.answers k.answers j.certificates k.certificates j.polygons k.polygons
       texts here k.answered))
 
-  agree_verified : (l : Layout) (filed : List ℕ) (rows : List (List Row)) (o p : Outcome) → AreVerified l filed rows o → AreVerified l filed rows p → Agree o p
+  agree_verified : (l : Layout) (filed : List ℕ) (rows : List (List Row)) (o p : Outcome)
+      → AreVerified l filed rows o → AreVerified l filed rows p → Agree o p
   agree_verified l filed rows o p j k =
       agree_same o p
       (j.is ∙ ap (λ (ds : List Plan). verified l (objects rows) ds j.verification) (same_drawings l rows l.areas j.drawings k.drawings j.drawn k.drawn)
@@ -280,13 +311,16 @@ module _ (laws : AreaLaws) where
       same_rules : (r : Result (List Rule) ℕ) (a b : List Rule) → r ≡ Ok a → r ≡ Ok b → a ≡ b
       same_rules r a b e f = cc
 
-  agree_text : (target : Target) (l : Layout) (text : List ℕ) (o p : Outcome) → IsChecked target l text o → IsChecked target l text p → Agree o p
+  agree_text : (target : Target) (l : Layout) (text : List ℕ) (o p : Outcome)
+      → IsChecked target l text o → IsChecked target l text p → Agree o p
   agree_text target l text = agree_judged l text (AreJudged target l) (agree_areas target l)
 
-  pub agree_filed : (l : Layout) (text filed : List ℕ) (o p : Outcome) → IsVerified l text filed o → IsVerified l text filed p → Agree o p
+  pub agree_filed : (l : Layout) (text filed : List ℕ) (o p : Outcome) → IsVerified l text filed o
+      → IsVerified l text filed p → Agree o p
   agree_filed l text filed = agree_judged l text (AreVerified l filed) (agree_verified l filed)
 
-  agree_amount : (t : Task) (g : Gathered) (o p : Outcome) → HasOutcome t g o → HasOutcome t g p → Agree o p
+  agree_amount : (t : Task) (g : Gathered) (o p : Outcome) → HasOutcome t g o → HasOutcome t g p
+      → Agree o p
   agree_amount t (gathering.unread f) o p h k = agree_both o p _ h k
   agree_amount t (gathering.too_long f) o p h k = agree_both o p _ h k
   agree_amount t (gathering.refused r) o p h k = agree_both o p _ h k
@@ -298,7 +332,8 @@ module _ (laws : AreaLaws) where
       agree_judged l text (AreLinked l links) (agree_links l links) o p h k
   agree_amount t (gathering.texts l ts) o p h k = absurd h
 
-  files_agree : (t : Task) (g h : Gathered) (o p : Outcome) → Same g h → HasOutcome t g o → HasOutcome t h p → AgreeUnlessUnread o p
+  files_agree : (t : Task) (g h : Gathered) (o p : Outcome) → Same g h → HasOutcome t g o
+      → HasOutcome t h p → AgreeUnlessUnread o p
   files_agree t g h o p s a b = elim s as (λ z. AgreeUnlessUnread o p) [
     | inl u ↦ inl (unread_status t g o u a)
     | inr n ↦ elim n as (λ z. AgreeUnlessUnread o p) [
@@ -307,7 +342,8 @@ module _ (laws : AreaLaws) where
     ]
   ]
 
-  pub outcomes_agree : (files : Files) (far near : List ℕ → Type 0) (words : List (List ℕ)) (o p : Outcome) → Decides (Some files) far words o → Decides (Some files) near words p → AgreeUnlessUnread o p
+  pub outcomes_agree : (files : Files) (far near : List ℕ → Type 0) (words : List (List ℕ)) (o p : Outcome)
+      → Decides (Some files) far words o → Decides (Some files) near words p → AgreeUnlessUnread o p
   outcomes_agree files far near words o p (formless u a) (formless v b) = inr (inr (agree_same o p (a ∙ sym b)))
   outcomes_agree files far near words o p (formless u a) (formed d h j y b) = absurd (u d j)
   outcomes_agree files far near words o p (formed c g i x a) (formless v b) = absurd (v c i)

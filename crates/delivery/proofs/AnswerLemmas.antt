@@ -24,7 +24,8 @@ use Rattle.area_search.specs.declared.kinds.AreaAnswer.{AreaAnswer as Found}
 use Rattle.area_search.specs.declared.kinds.AreaAnswer.TheVariants as found
 use Rattle.area_search.specs.declared.kinds.AreaFinding.{AreaFinding}
 use Rattle.delivery.specs.AnswerViews.{certificates_in, named}
-use Rattle.delivery.specs.AreaAnswers.{IsAnswer, faulty, undecided, proved, fault_answer, undecided_answer, AreAnswers}
+use Rattle.delivery.specs.AreaAnswers.{IsAnswer, faulty, undecided, proved, fault_answer}
+use Rattle.delivery.specs.AreaAnswers.{undecided_answer, AreAnswers}
 use Rattle.reports.specs.AreaKinds.{proof_answer, plans}
 use Rattle.delivery.specs.AreaCertificates.{claims_of}
 use Rattle.area_drawings.specs.AreaLimits.{IsSmallPlan}
@@ -147,19 +148,22 @@ go_on l all rest ds es a d as_ fs xs cs x here more kept q r u w n g ys bs h =
     subst (λ (zs : List AreaAnswer). AreAnswers l all ds zs (kept ++ bs)) joined
     (subst (AreAnswers l all ds (xs ++ x ∷ ys)) filed (g (x ∷ ys) (here ++ bs) all_rest))
 
-pub all_answered : (l : Layout) (all rest : List AreaOf) (ds es : List Plan) (xs : List AreaAnswer) (cs : List Plain) → rest ≡ [] → es ≡ [] → GoesOn l all ds rest es xs cs → AreAnswers l all ds xs cs
+pub all_answered : (l : Layout) (all rest : List AreaOf) (ds es : List Plan) (xs : List AreaAnswer) (cs : List Plain)
+    → rest ≡ [] → es ≡ [] → GoesOn l all ds rest es xs cs → AreAnswers l all ds xs cs
 all_answered l all rest ds es xs cs q r g =
     let last : AreAnswers l rest es [] [] = subst (λ (bs_ : List AreaOf). AreAnswers l bs_ es [] []) (sym q) (subst (λ (zs : List Plan). AreAnswers l [] zs [] []) (sym r) refl) in
     subst (λ (zs : List AreaAnswer). AreAnswers l all ds zs cs) (append-nil xs) (subst (AreAnswers l all ds (xs ++ [])) (append-nil cs) (g [] [] last))
 
 -- ---- two lists of one length that are gone through together
-pub shorter_both : {A B : Type 0} (as_ : List A) (a : A) (rest : List A) (bs : List B) (b : B) (more : List B) → as_ ≡ a ∷ rest → bs ≡ b ∷ more → length bs ≡ length as_ → length more ≡ length rest
+pub shorter_both : {A B : Type 0} (as_ : List A) (a : A) (rest : List A) (bs : List B) (b : B) (more : List B)
+    → as_ ≡ a ∷ rest → bs ≡ b ∷ more → length bs ≡ length as_ → length more ≡ length rest
 shorter_both as_ a rest bs b more e f h =
     let n : length as_ ≡ suc (length rest) = ap length e in
     let m : length bs ≡ suc (length more) = ap length f in
     omega (arith, n, m, h)
 
-pub both_ended : {A B : Type 0} (as_ : List A) (bs : List B) → length bs ≡ length as_ → (as_ ≡ []) ⊎ (bs ≡ []) → (as_ ≡ []) × (bs ≡ [])
+pub both_ended : {A B : Type 0} (as_ : List A) (bs : List B) → length bs ≡ length as_
+    → (as_ ≡ []) ⊎ (bs ≡ []) → (as_ ≡ []) × (bs ≡ [])
 both_ended [] [] h k = (refl, refl)
 both_ended [] (b ∷ bs) h k = absurd (omega (arith, h))
 both_ended (a ∷ as_) [] h k = absurd (omega (arith, h))
@@ -167,18 +171,22 @@ both_ended (a ∷ as_) (b ∷ bs) h (inl e) = absurd (cc)
 both_ended (a ∷ as_) (b ∷ bs) h (inr e) = absurd (cc)
 
 -- ---- names of areas, one after the other
-pub named_first : (l : Layout) (all : List CodeArea) (a : CodeArea) (rest : List CodeArea) → all ≡ a ∷ rest → All (HasTitle l) (areas_view all) → HasTitle l (area_view a)
+pub named_first : (l : Layout) (all : List CodeArea) (a : CodeArea) (rest : List CodeArea)
+    → all ≡ a ∷ rest → All (HasTitle l) (areas_view all) → HasTitle l (area_view a)
 named_first l all a rest e h = All-head (HasTitle l) (area_view a) (areas_view rest) (subst (λ (as_ : List CodeArea). All (HasTitle l) (areas_view as_)) e h)
 
-pub named_rest : (l : Layout) (all : List CodeArea) (a : CodeArea) (rest : List CodeArea) → all ≡ a ∷ rest → All (HasTitle l) (areas_view all) → All (HasTitle l) (areas_view rest)
+pub named_rest : (l : Layout) (all : List CodeArea) (a : CodeArea) (rest : List CodeArea)
+    → all ≡ a ∷ rest → All (HasTitle l) (areas_view all) → All (HasTitle l) (areas_view rest)
 named_rest l all a rest e h = All-tail (HasTitle l) (area_view a) (areas_view rest) (subst (λ (as_ : List CodeArea). All (HasTitle l) (areas_view as_)) e h)
 
 -- ---- certificates that can be written, one after the other
-all_append : {X : Type 0} (P : X → Type 0) (xs ys : List X) → AllByRecursion P xs → AllByRecursion P ys → AllByRecursion P (xs ++ ys)
+all_append : {X : Type 0} (P : X → Type 0) (xs ys : List X) → AllByRecursion P xs
+    → AllByRecursion P ys → AllByRecursion P (xs ++ ys)
 all_append P [] ys h k = k
 all_append P (x ∷ xs) ys h k = (h.0, all_append P xs ys h.1 k)
 
-pub fit_more : (cs here more : List Plain) → more ≡ cs ++ here → AllByRecursion Fits cs → AllByRecursion Fits here → AllByRecursion Fits more
+pub fit_more : (cs here more : List Plain) → more ≡ cs ++ here → AllByRecursion Fits cs
+    → AllByRecursion Fits here → AllByRecursion Fits more
 fit_more cs here more e h k = subst (AllByRecursion Fits) (sym e) (all_append Fits cs here h k)
 
 one_at_most : (c : Option Certificate) → length (certificates_in c) ≤ 1
@@ -186,7 +194,8 @@ one_at_most None = omega arith
 one_at_most (Some c) = omega arith
 
 -- there are no more certificates than areas that were answered
-pub count_more : (n : ℕ) (all : List CodeArea) (a : CodeArea) (rest : List CodeArea) (cs more : List Plain) (c : Option Certificate) → all ≡ a ∷ rest → more ≡ cs ++ certificates_in c
+pub count_more : (n : ℕ) (all : List CodeArea) (a : CodeArea) (rest : List CodeArea) (cs more : List Plain) (c : Option Certificate)
+    → all ≡ a ∷ rest → more ≡ cs ++ certificates_in c
     → length cs + length all ≤ n → length more + length rest ≤ n
 count_more n all a rest cs more c e m h =
     let len : length all ≡ suc (length rest) = ap length e in
@@ -194,10 +203,12 @@ count_more n all a rest cs more c e m h =
     omega (arith, len, kept, length-append cs (certificates_in c), one_at_most c, h)
 
 -- ---- drawings with few curves and points, one after the other
-pub few_first : (all : List Drawing) (d : Drawing) (rest : List Drawing) → all ≡ d ∷ rest → All IsSmallPlan (plans all) → IsSmallPlan (plan d)
+pub few_first : (all : List Drawing) (d : Drawing) (rest : List Drawing) → all ≡ d ∷ rest
+    → All IsSmallPlan (plans all) → IsSmallPlan (plan d)
 few_first all d rest e h = All-head IsSmallPlan (plan d) (plans rest) (subst (λ (ds : List Drawing). All IsSmallPlan (plans ds)) e h)
 
-pub few_rest : (all : List Drawing) (d : Drawing) (rest : List Drawing) → all ≡ d ∷ rest → All IsSmallPlan (plans all) → All IsSmallPlan (plans rest)
+pub few_rest : (all : List Drawing) (d : Drawing) (rest : List Drawing) → all ≡ d ∷ rest
+    → All IsSmallPlan (plans all) → All IsSmallPlan (plans rest)
 few_rest all d rest e h = All-tail IsSmallPlan (plan d) (plans rest) (subst (λ (ds : List Drawing). All IsSmallPlan (plans ds)) e h)
 
 -- ---- drawings with the overlaps of their areas, one after the other

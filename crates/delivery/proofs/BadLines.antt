@@ -1,5 +1,6 @@
 -- A text that spells no list of certificates has one first bad line.
-use Rattle.std.proofs.Common.{◌≡◌, ℕ, zero, suc, ◌<◌, ◌≤◌, Bool, true, false, cond, nat_eq, List, [], ◌∷◌, ◌++◌, length, refl, sym, ap, subst, ◌∙◌, append_assoc, arith}
+use Rattle.std.proofs.Common.{◌≡◌, ℕ, zero, suc, ◌<◌, ◌≤◌, Bool, true, false, cond, nat_eq, List}
+use Rattle.std.proofs.Common.{[], ◌∷◌, ◌++◌, length, refl, sym, ap, subst, ◌∙◌, append_assoc, arith}
 use Rattle.std.proofs.lemmas.List.{length-append}
 use Rattle.straight_predicates.proofs.Orders.{by_lt}
 use Rattle.certificate.specs.Spelling.{Spells}
@@ -17,13 +18,15 @@ front_begins front rest b = record {
 }
 
 -- fewer first lines are the front of more
-fewer_lines : (n m : ℕ) (bytes : List ℕ) → n ≤ m → (rest : List ℕ) × (first_lines m bytes ≡ first_lines n bytes ++ rest)
+fewer_lines : (n m : ℕ) (bytes : List ℕ) → n ≤ m
+    → (rest : List ℕ) × (first_lines m bytes ≡ first_lines n bytes ++ rest)
 fewer_lines zero m bytes h = (first_lines m bytes, refl)
 fewer_lines (suc n) zero bytes h = absurd (omega (arith, h))
 fewer_lines (suc n) (suc m) [] h = ([], refl)
 fewer_lines (suc n) (suc m) (c ∷ bytes) h = by_end (nat_eq c 10) (fewer_lines n m bytes (omega (arith, h))) (fewer_lines (suc n) (suc m) bytes h)
   where
-    by_end : (b : Bool) → ((rest : List ℕ) × (first_lines m bytes ≡ first_lines n bytes ++ rest)) → ((rest : List ℕ) × (first_lines (suc m) bytes ≡ first_lines (suc n) bytes ++ rest))
+    by_end : (b : Bool) → ((rest : List ℕ) × (first_lines m bytes ≡ first_lines n bytes ++ rest))
+        → ((rest : List ℕ) × (first_lines (suc m) bytes ≡ first_lines (suc n) bytes ++ rest))
         → (rest : List ℕ) × (c ∷ cond b (first_lines m bytes) (first_lines (suc m) bytes) ≡ (c ∷ cond b (first_lines n bytes) (first_lines (suc n) bytes)) ++ rest)
     by_end true r q = (r.0, ap (λ (x : List ℕ). c ∷ x) r.1)
     by_end false r q = (q.0, ap (λ (x : List ℕ). c ∷ x) q.1)
@@ -34,13 +37,15 @@ few_lf zero bytes = omega arith
 few_lf (suc n) [] = omega arith
 few_lf (suc n) (c ∷ bytes) = by_end (nat_eq c 10) refl (few_lf n bytes) (few_lf (suc n) bytes)
   where
-    by_end : (b : Bool) → nat_eq c 10 ≡ b → lf_count (first_lines n bytes) ≤ n → lf_count (first_lines (suc n) bytes) ≤ suc n
+    by_end : (b : Bool) → nat_eq c 10 ≡ b → lf_count (first_lines n bytes) ≤ n
+        → lf_count (first_lines (suc n) bytes) ≤ suc n
         → cond (nat_eq c 10) (suc (lf_count (cond b (first_lines n bytes) (first_lines (suc n) bytes)))) (lf_count (cond b (first_lines n bytes) (first_lines (suc n) bytes))) ≤ suc n
     by_end true e h k = rw e (omega (arith, h))
     by_end false e h k = rw e k
 
 -- a line after the first bad one ends no front of a text
-not_later : (bytes : List ℕ) (n m : ℕ) → n < m → m ≤ lf_count bytes → Begin (first_lines m bytes) → IsFirstBad bytes n → ⊥
+not_later : (bytes : List ℕ) (n m : ℕ) → n < m → m ≤ lf_count bytes → Begin (first_lines m bytes)
+    → IsFirstBad bytes n → ⊥
 not_later bytes n m l w b f =
     let r = fewer_lines (suc n) m bytes (omega (arith, l)) in
     f.bad (omega (arith, l, w)) (front_begins (first_lines (suc n) bytes) r.0 (subst Begin r.1 b))

@@ -1,5 +1,6 @@
 -- What a call answers and does, by what is decided and what is published.
-use Rattle.std.proofs.Common.{◌≡◌, ◌≢◌, ◌⊎◌, inl, inr, ℕ, ◌≤◌, List, length, Option, Some, sym, ◌∙◌, subst}
+use Rattle.std.proofs.Common.{◌≡◌, ◌≢◌, ◌⊎◌, inl, inr, ℕ, ◌≤◌, List, length, Option, Some, sym, ◌∙◌}
+use Rattle.std.proofs.Common.{subst}
 use Rattle.std.proofs.Common.{arith}
 use Rattle.ports.specs.Faults.{CountsStay, NoReadFell, ReadRose}
 use Rattle.ports.specs.Files.{Files}
@@ -9,9 +10,11 @@ use Rattle.ports.specs.Rooms.{HasRoom}
 use Rattle.ports.proofs.Steps.{stay_then}
 use Rattle.reports.specs.Outcomes.{Outcome, report_of}
 use Rattle.reports.specs.declared.status.Status.{Status}
-use Rattle.reports.specs.declared.status.Status.TheVariants.{Accepted, Undecided, WriteFault, Memory}
+use Rattle.reports.specs.declared.status.Status.TheVariants.{Accepted, Undecided, WriteFault}
+use Rattle.reports.specs.declared.status.Status.TheVariants.{Memory}
 use Rattle.delivery.specs.Answers.{AgreeUnlessUnread, HasCause, IsStopped, Passes}
-use Rattle.delivery.specs.Calls.{AreServed, IsCall, NoCountMoved, PutFailed, ReadFailed, Stores, WriteFailed}
+use Rattle.delivery.specs.Calls.{AreServed, IsCall, NoCountMoved, PutFailed, ReadFailed, Stores}
+use Rattle.delivery.specs.Calls.{WriteFailed}
 use Rattle.delivery.specs.Causes.{HasStraightAreas, IsValidInput}
 use Rattle.delivery.specs.Deciding.{Decides}
 use Rattle.delivery.specs.Effects.{HasEffects, IsBegun, IsFiled}

@@ -1,20 +1,29 @@
 -- What the outcome of the words and the files says of the answer.
-use Rattle.std.proofs.Common.{◌≡◌, ℕ, Bool, true, false, ◌||◌, List, [], ◌∷◌, Option, refl, sym, ◌∙◌, subst, inl, inr}
+use Rattle.std.proofs.Common.{◌≡◌, ℕ, Bool, true, false, ◌||◌, List, [], ◌∷◌, Option, refl, sym}
+use Rattle.std.proofs.Common.{◌∙◌, subst, inl, inr}
 use Rattle.std.specs.Prelude.{◌≢◌, ⊤}
 use Rattle.ports.specs.Files.{Files}
 use Rattle.itf_reader.specs.Forms.{Row}
 use Rattle.table_layout.specs.Layouts.{Layout}
 use Rattle.reports.specs.declared.status.Status.{Status}
-use Rattle.reports.specs.declared.status.Status.TheVariants.{Accepted, Rejected, Undecided, ModelRefused, Usage, ReadFault, WriteFault, OverLimit, Memory, NotProved}
+use Rattle.reports.specs.declared.status.Status.TheVariants.{Accepted, Rejected, Undecided}
+use Rattle.reports.specs.declared.status.Status.TheVariants.{ModelRefused, Usage, ReadFault}
+use Rattle.reports.specs.declared.status.Status.TheVariants.{WriteFault, OverLimit, Memory}
+use Rattle.reports.specs.declared.status.Status.TheVariants.{NotProved}
 use Rattle.delivery.specs.Answers.{HasCause}
-use Rattle.commands.specs.Commands.{Command, Source, Target, Task, lists, judges, verifies, rewrites, tests_points, task_of, IsCommand}
+use Rattle.commands.specs.Commands.{Command, Source, Target, Task, lists, judges, verifies}
+use Rattle.commands.specs.Commands.{rewrites, tests_points, task_of, IsCommand}
 use Rattle.delivery.specs.Deciding.{Decides, formless, formed}
 use Rattle.commands.specs.Gathering as gathering
 use Rattle.commands.specs.Gathering.{Gathered, Gathers}
-use Rattle.delivery.specs.Causes.{HasOutcome, HasFault, HasLargeArea, Accepts, Rejects, LeavesUndecided, Unproves, IsOversized}
-use Rattle.delivery.specs.Judging.{findings, objects, HasSoundRows, AreJudged, IsJudgedBy, at_fault, faulty, oversized, sound, IsChecked}
+use Rattle.delivery.specs.Causes.{HasOutcome, HasFault, HasLargeArea, Accepts, Rejects}
+use Rattle.delivery.specs.Causes.{LeavesUndecided, Unproves, IsOversized}
+use Rattle.delivery.specs.Judging.{findings, objects, HasSoundRows, AreJudged, IsJudgedBy, at_fault}
+use Rattle.delivery.specs.Judging.{faulty, oversized, sound, IsChecked}
 use Rattle.delivery.specs.Rewriting.{canon_of, IsRewritten, misread, without_text, written}
-use Rattle.reports.specs.Outcomes.{bad_link, Outcome, usage, unread, too_long, area_too_large, refused, compiled, misbuilt, rejected, verified, canonical, canon_refused}
+use Rattle.reports.specs.Outcomes.{bad_link, Outcome, usage, unread, too_long, area_too_large}
+use Rattle.reports.specs.Outcomes.{refused, compiled, misbuilt, rejected, verified, canonical}
+use Rattle.reports.specs.Outcomes.{canon_refused}
 use Rattle.std.proofs.Common.{length}
 use Rattle.std.specs.Prelude.{Ok}
 use Rattle.area_links.specs.Rules.{Rule, links_of}
@@ -33,12 +42,15 @@ use Rattle.reports.specs.Verifications.{Verification}
 use Rattle.reports.specs.Surfaces.{surfaces}
 use Rattle.delivery.specs.Surfaces.{AreRightSurfaces}
 use Rattle.delivery.proofs.SurfaceLemmas.{faulty_surface, right_surfaces}
-use Rattle.delivery.proofs.AreaLemmas.{AreaLaws, some_fault, surface_fault, some_undecided, by_answers, outcome_by, faulty_area, left_areas, parted_areas}
+use Rattle.delivery.proofs.AreaLemmas.{AreaLaws, some_fault, surface_fault, some_undecided}
+use Rattle.delivery.proofs.AreaLemmas.{by_answers, outcome_by, faulty_area, left_areas}
+use Rattle.delivery.proofs.AreaLemmas.{parted_areas}
 
 -- ---- the causes
 module _ (laws : AreaLaws) (held : Option Files) (counted : List ℕ → Type 0) (words : List (List ℕ)) where
   -- what is said of an outcome is said of one that is equal
-  moved : (o p : Outcome) → o ≡ p → HasCause held counted words p.status → HasCause held counted words o.status
+  moved : (o p : Outcome) → o ≡ p → HasCause held counted words p.status
+      → HasCause held counted words o.status
   moved o p e h = subst (λ (x : Outcome). HasCause held counted words x.status) (sym e) h
 
   -- a task whose transfer is judged, and what its tests say of its texts
@@ -57,7 +69,8 @@ module _ (laws : AreaLaws) (held : Option Files) (counted : List ℕ → Type 0)
   -- a transfer whose areas are searched
   module _ (c : Command) (s : Source) (target : Target) (e : task_of c ≡ judges s target) (i : IsCommand words c) (l : Layout) (text : List ℕ) (g_ : Gathers held counted c (gathering.texts l (text ∷ []))) where
     -- what a test says of the task, said of the command
-    by_task : (test : Task → Layout → List (List ℕ) → Type 0) → test (judges s target) l (text ∷ []) → test (task_of c) l (text ∷ [])
+    by_task : (test : Task → Layout → List (List ℕ) → Type 0) → test (judges s target) l (text ∷ [])
+        → test (task_of c) l (text ∷ [])
     by_task test h = subst (λ (t : Task). test t l (text ∷ [])) (sym e) h
 
     areas_mean : (o : Outcome) → HasSoundRows l text (λ rows. AreJudged target l rows o)
@@ -149,14 +162,17 @@ module _ (laws : AreaLaws) (held : Option Files) (counted : List ℕ → Type 0)
 
   -- a transfer with filed certificates
   module _ (c : Command) (s r : Source) (e : task_of c ≡ verifies s r) (i : IsCommand words c) (l : Layout) (text filed : List ℕ) (g_ : Gathers held counted c (gathering.texts l (text ∷ filed ∷ []))) where
-    with_filed : (test : Task → Layout → List (List ℕ) → Type 0) → test (verifies s r) l (text ∷ filed ∷ []) → test (task_of c) l (text ∷ filed ∷ [])
+    with_filed : (test : Task → Layout → List (List ℕ) → Type 0)
+        → test (verifies s r) l (text ∷ filed ∷ []) → test (task_of c) l (text ∷ filed ∷ [])
     with_filed test h = subst (λ (t : Task). test t l (text ∷ filed ∷ [])) (sym e) h
 
     -- the status of what certificates prove
-    filed_mean : (o : Outcome) → HasSoundRows l text (λ rows. AreVerified l filed rows o) → HasCause held counted words o.status
+    filed_mean : (o : Outcome) → HasSoundRows l text (λ rows. AreVerified l filed rows o)
+        → HasCause held counted words o.status
     filed_mean o (rows, t, k, b, j) = moved o (verified l (objects rows) j.drawings j.verification) j.is (by j.verification j.judged)
       where
-        by : (v : Verification) → IsVerification l j.drawings filed v → HasCause held counted words (verified l (objects rows) j.drawings v).status
+        by : (v : Verification) → IsVerification l j.drawings filed v
+            → HasCause held counted words (verified l (objects rows) j.drawings v).status
         by (verifications.proved levels) h = (c, l, text ∷ filed ∷ [], i, g_, with_filed Accepts (rows, t, k, b, ((j.drawings, j.drawn, levels, h), laws.verified l rows j.drawings filed levels j.drawn h)))
         by (verifications.not_proved a rule place) h = (c, l, text ∷ filed ∷ [], i, g_, with_filed Unproves (rows, t, k, b, (j.drawings, j.drawn, a, rule, place, h)))
 
@@ -281,7 +297,10 @@ module _ (laws : AreaLaws) (held : Option Files) (counted : List ℕ → Type 0)
         (with_links IsOversized) (AreLinked l links) links_mean
 
   -- a transfer that is written in its canonical text
-  rewrite_means : (c : Command) (s : Source) (name : List ℕ) → task_of c ≡ rewrites s name → IsCommand words c → (l : Layout) (text : List ℕ) → Gathers held counted c (gathering.texts l (text ∷ [])) → (o : Outcome) → IsRewritten name l text o → HasCause held counted words o.status
+  rewrite_means : (c : Command) (s : Source) (name : List ℕ) → task_of c ≡ rewrites s name
+      → IsCommand words c → (l : Layout) (text : List ℕ)
+      → Gathers held counted c (gathering.texts l (text ∷ [])) → (o : Outcome)
+      → IsRewritten name l text o → HasCause held counted words o.status
   rewrite_means c s name e i l text g o (misread n code h q) =
       moved o (misbuilt n code) q (c, l, text ∷ [], i, g, subst (λ (t : Task). Rejects t l (text ∷ [])) (sym e) (inl (n, code, h)))
   rewrite_means c s name e i l text g o (without_text rows t k q) =
@@ -290,7 +309,9 @@ module _ (laws : AreaLaws) (held : Option Files) (counted : List ℕ → Type 0)
       moved o (canonical name (objects rows) (canon_of l rows)) q (c, l, text ∷ [], i, g, subst (λ (t : Task). Accepts t l (text ∷ [])) (sym e) (rows, t, k))
 
   -- a command by its task
-  task_means : (c : Command) (t : Task) (g : Gathered) → task_of c ≡ t → IsCommand words c → Gathers held counted c g → (o : Outcome) → HasOutcome t g o → HasCause held counted words o.status
+  task_means : (c : Command) (t : Task) (g : Gathered) → task_of c ≡ t → IsCommand words c
+      → Gathers held counted c g → (o : Outcome) → HasOutcome t g o
+      → HasCause held counted words o.status
   task_means c t (gathering.unread f) e i h o k = moved o (unread f) k (f, (c, i, h))
   task_means c t (gathering.too_long f) e i h o k = moved o (too_long f) k (inl (f, (c, i, h)))
   task_means c t (gathering.refused r) e i h o k = moved o (refused r) k (r, (c, i, h))
@@ -335,14 +356,17 @@ areas_fixed target l rows o j =
     by false true = tt
     by false false = tt
 
-verified_fixed : (l : Layout) (rows : List (List Row)) (filed : List ℕ) (o : Outcome) → AreVerified l filed rows o → IsFixed o.status
+verified_fixed : (l : Layout) (rows : List (List Row)) (filed : List ℕ) (o : Outcome)
+    → AreVerified l filed rows o → IsFixed o.status
 verified_fixed l rows filed o j = fixed_as o (verified l (objects rows) j.drawings j.verification) j.is (by j.verification)
   where
     by : (v : Verification) → IsFixed (verified l (objects rows) j.drawings v).status
     by (verifications.proved levels) = tt
     by (verifications.not_proved a rule place) = tt
 
-judged_fixed : (l : Layout) (text : List ℕ) (Areas : List (List Row) → Outcome → Type 0) → ((rows : List (List Row)) (o : Outcome) → Areas rows o → IsFixed o.status) → (o : Outcome) → IsJudgedBy l text Areas o → IsFixed o.status
+judged_fixed : (l : Layout) (text : List ℕ) (Areas : List (List Row) → Outcome → Type 0)
+    → ((rows : List (List Row)) (o : Outcome) → Areas rows o → IsFixed o.status) → (o : Outcome)
+    → IsJudgedBy l text Areas o → IsFixed o.status
 judged_fixed l text Areas areas o (at_fault n code h e) = fixed_as o (misbuilt n code) e tt
 judged_fixed l text Areas areas o (faulty rows t n e) = fixed_as o (rejected (findings l rows)) e tt
 judged_fixed l text Areas areas o (oversized rows t k b e) = fixed_as o area_too_large e tt
@@ -370,7 +394,8 @@ links_fixed l links rows o (tested rules q j) =
     by false false true = tt
     by false false false = tt
 
-rewrite_fixed : (name : List ℕ) (l : Layout) (text : List ℕ) (o : Outcome) → IsRewritten name l text o → IsFixed o.status
+rewrite_fixed : (name : List ℕ) (l : Layout) (text : List ℕ) (o : Outcome)
+    → IsRewritten name l text o → IsFixed o.status
 rewrite_fixed name l text o (misread n code h e) = fixed_as o (misbuilt n code) e tt
 rewrite_fixed name l text o (without_text rows t k e) = fixed_as o canon_refused e tt
 rewrite_fixed name l text o (written rows t k e) = fixed_as o (canonical name (objects rows) (canon_of l rows)) e tt
@@ -387,14 +412,17 @@ task_fixed (tests_points s r) (gathering.texts l (text ∷ links ∷ [])) o k =
     judged_fixed l text (AreLinked l links) (λ rows p j. links_fixed l links rows p j) o k
 task_fixed t (gathering.texts l ts) o k = absurd k
 
-fixed : (held : Option Files) (counted : List ℕ → Type 0) (words : List (List ℕ)) (o : Outcome) → Decides held counted words o → IsFixed o.status
+fixed : (held : Option Files) (counted : List ℕ → Type 0) (words : List (List ℕ)) (o : Outcome)
+    → Decides held counted words o → IsFixed o.status
 fixed held counted words o (formless u e) = fixed_as o usage e tt
 fixed held counted words o (formed c g i h a) = task_fixed (task_of c) g o a
 
-pub not_write_fault : (held : Option Files) (counted : List ℕ → Type 0) (words : List (List ℕ)) (o : Outcome) → Decides held counted words o → o.status ≢ WriteFault
+pub not_write_fault : (held : Option Files) (counted : List ℕ → Type 0) (words : List (List ℕ)) (o : Outcome)
+    → Decides held counted words o → o.status ≢ WriteFault
 not_write_fault held counted words o h e = subst IsFixed e (fixed held counted words o h)
 
-pub not_memory : (held : Option Files) (counted : List ℕ → Type 0) (words : List (List ℕ)) (o : Outcome) → Decides held counted words o → o.status ≢ Memory
+pub not_memory : (held : Option Files) (counted : List ℕ → Type 0) (words : List (List ℕ)) (o : Outcome)
+    → Decides held counted words o → o.status ≢ Memory
 not_memory held counted words o h e = subst IsFixed e (fixed held counted words o h)
 
 -- ---- an answer that is that of an outcome, unless a write failed
@@ -411,13 +439,16 @@ by_write A OverLimit f n = n (λ e. cc)
 by_write A Memory f n = n (λ e. cc)
 by_write A NotProved f n = n (λ e. cc)
 
-pub caused : (held : Option Files) (counted : List ℕ → Type 0) (words : List (List ℕ)) (o : Outcome) (s : Status) → (Decides held counted words o → HasCause held counted words o.status) → Decides held counted words o → (s ≢ WriteFault → s ≡ o.status) → HasCause held counted words s
+pub caused : (held : Option Files) (counted : List ℕ → Type 0) (words : List (List ℕ)) (o : Outcome) (s : Status)
+    → (Decides held counted words o → HasCause held counted words o.status)
+    → Decides held counted words o → (s ≢ WriteFault → s ≡ o.status) → HasCause held counted words s
 caused held counted words o s law h e =
     by_write (HasCause held counted words s) s
     (λ w. subst (HasCause held counted words) (sym w) tt)
     (λ n. subst (HasCause held counted words) (sym (e n)) (law h))
 
 -- such an answer is not out of memory
-pub never_memory : (held : Option Files) (counted : List ℕ → Type 0) (words : List (List ℕ)) (o : Outcome) (s : Status) → Decides held counted words o → (s ≢ WriteFault → s ≡ o.status) → s ≢ Memory
+pub never_memory : (held : Option Files) (counted : List ℕ → Type 0) (words : List (List ℕ)) (o : Outcome) (s : Status)
+    → Decides held counted words o → (s ≢ WriteFault → s ≡ o.status) → s ≢ Memory
 never_memory held counted words o s h e m =
     by_write ⊥ s (λ w. let k : WriteFault ≡ Memory = sym w ∙ m in cc) (λ n. not_memory held counted words o h (sym (e n) ∙ m))

@@ -1,5 +1,6 @@
 -- What a certificate claims is known by its text.
-use Rattle.std.proofs.Common.{◌≡◌, ℕ, zero, suc, ◌*◌, List, [], ◌∷◌, length, refl, sym, ap, subst, arith}
+use Rattle.std.proofs.Common.{◌≡◌, ℕ, zero, suc, ◌*◌, List, [], ◌∷◌, length, refl, sym, ap, subst}
+use Rattle.std.proofs.Common.{arith}
 use Rattle.certificate.specs.Spelling.{ArePaired, pairs, view}
 use Rattle.certificate.specs.declared.notes.Certificate.{Certificate}
 use Rattle.certificate.specs.declared.notes.HalfNote.{HalfNote}
@@ -35,5 +36,6 @@ pub proved_view : (d : Plan) (c : Certificate) → Proves d (claims c) → Prove
 proved_view d c p = subst (Proves d) (claims_paired c (proved_paired d c p)) p
 
 -- and what is chosen as it lies in memory is chosen by its text
-pub chosen_view : (d : Plan) (c : Certificate) → Proves d (claims c) → IsChosen d (claims c) → IsChosen d (claims_of (view c))
+pub chosen_view : (d : Plan) (c : Certificate) → Proves d (claims c) → IsChosen d (claims c)
+    → IsChosen d (claims_of (view c))
 chosen_view d c p x = subst (IsChosen d) (claims_paired c (proved_paired d c p)) x

@@ -1,5 +1,6 @@
 -- What a text comes to whose lines were all taken.
-use Rattle.std.proofs.Common.{◌≡◌, ◌≤◌, ◌<◌, ℕ, false, List, [], ◌∷◌, ◌++◌, length, Option, Some, None, Err, refl, ap, sym, ◌∙◌, subst, arith}
+use Rattle.std.proofs.Common.{◌≡◌, ◌≤◌, ◌<◌, ℕ, false, List, [], ◌∷◌, ◌++◌, length, Option, Some}
+use Rattle.std.proofs.Common.{None, Err, refl, ap, sym, ◌∙◌, subst, arith}
 use Rattle.std.proofs.lemmas.List.{append-nil}
 use Rattle.std.specs.List.{All, AllZip}
 use Rattle.itf_lines.specs.LogicalLines.{LogicalLine, LogicalLines, logical}
@@ -76,7 +77,8 @@ module _ (K : Type 0) (Has : Keeps K) (l : Layout) (text : List ℕ) (j : Judge 
         ∙ sym (shown-append (form_of l) (standing start) h.takes.lines last)))
         (t ([] ++ shown_rows (form_of l) h.start.rows.feed.at h.takes.lines) (h.takes.taken [] h.opened.none))
 
-    answered : (o : Option (ℕ × Structure)) → fault_at at end ≡ o → read_from (form_of l) reads.opening (lines_of l text).lines (end_of (lines_of l text)) ≡ answer (form_of l) rows o
+    answered : (o : Option (ℕ × Structure)) → fault_at at end ≡ o
+        → read_from (form_of l) reads.opening (lines_of l text).lines (end_of (lines_of l text)) ≡ answer (form_of l) rows o
     answered o e =
         ap (λ (f : LogicalLines). read_from (form_of l) reads.opening f.lines (end_of f)) found
         ∙ ap (answer (form_of l) rows) (ap (λ (s : Standing). fault_at s end) (sym at_end) ∙ e)
@@ -95,12 +97,16 @@ module _ (K : Type 0) (Has : Keeps K) (l : Layout) (text : List ℕ) (j : Judge 
     }
 
 -- what the code answers to a text that is at fault
-pub kept_err : (K : Type 0) (Has : Keeps K) (l : Layout) (text : List ℕ) (fault : Option (ℕ × Structure)) (e : ReadRefusal) → FindsFault fault (Err e) → ((n : ℕ) (code : Structure) → fault ≡ Some (n, code) → IsRefused (form_of l) (lines_of l text) n code) → IsKept Has l text (Err e)
+pub kept_err : (K : Type 0) (Has : Keeps K) (l : Layout) (text : List ℕ) (fault : Option (ℕ × Structure)) (e : ReadRefusal)
+    → FindsFault fault (Err e)
+    → ((n : ℕ) (code : Structure) → fault ≡ Some (n, code) → IsRefused (form_of l) (lines_of l text) n code)
+    → IsKept Has l text (Err e)
 kept_err K Has l text fault (refusals.At line code) h r = r line (fault_of code) h
 kept_err K Has l text fault refusals.Memory h r = tt
 
 -- ---- findings
-found_tables : (codes : Codes) (ts : List Table) (transfer : List (List Row)) → all_found (tables_found codes ts transfer) ≡ tables_findings codes ts transfer
+found_tables : (codes : Codes) (ts : List Table) (transfer : List (List Row))
+    → all_found (tables_found codes ts transfer) ≡ tables_findings codes ts transfer
 found_tables codes [] transfer = refl
 found_tables codes (t ∷ ts) [] = refl
 found_tables codes (t ∷ ts) (rows ∷ transfer) = ap (λ (fs : List Finding). table_findings codes t rows ++ fs) (found_tables codes ts transfer)

@@ -39,7 +39,8 @@ pub refused_early : (r : Refusal) (o : Outcome) → o ≡ refused r → IsEarly 
 refused_early r o e = subst IsEarly (sym e) (record { unfiled = refl; early = tt })
 
 -- the transfer is at fault, or an area is over its limit
-pub judged_early : (l : Layout) (text : List ℕ) (o : Outcome) → IsJudgedBy l text (λ rows p. ⊥) o → IsEarly o
+pub judged_early : (l : Layout) (text : List ℕ) (o : Outcome) → IsJudgedBy l text (λ rows p. ⊥) o
+    → IsEarly o
 judged_early l text o (at_fault n code h e) = subst IsEarly (sym e) (record { unfiled = refl; early = tt })
 judged_early l text o (faulty rows t n e) = subst IsEarly (sym e) (record { unfiled = refl; early = tt })
 judged_early l text o (oversized rows t k b e) = subst IsEarly (sym e) (record { unfiled = refl; early = tt })

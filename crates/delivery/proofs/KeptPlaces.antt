@@ -1,5 +1,7 @@
 -- Where rows have no findings, what is kept of them has all that their areas are drawn from.
-use Rattle.std.proofs.Common.{◌≡◌, ℕ, zero, suc, ◌+◌, ◌≤◌, Bool, true, false, ◌&&◌, ◌||◌, nat_lt, List, [], ◌∷◌, ◌++◌, length, take, drop, map, Option, Some, None, Result, Ok, Err, refl, sym, ap, ◌∙◌, subst, arith, append-nil}
+use Rattle.std.proofs.Common.{◌≡◌, ℕ, zero, suc, ◌+◌, ◌≤◌, Bool, true, false, ◌&&◌, ◌||◌, nat_lt}
+use Rattle.std.proofs.Common.{List, [], ◌∷◌, ◌++◌, length, take, drop, map, Option, Some, None}
+use Rattle.std.proofs.Common.{Result, Ok, Err, refl, sym, ap, ◌∙◌, subst, arith, append-nil}
 use Rattle.std.specs.Prelude.{slice_get, slice_index_or, if◌then◌else◌, is_none}
 use Rattle.std.specs.List.{All, AllZip, flat_map, list_all, list_any}
 use Rattle.std.proofs.lemmas.Bool.Decides.{nat_tests}
@@ -18,10 +20,14 @@ use Rattle.itf_reader.specs.declared.findings.Code.TheVariants.{Count}
 use Rattle.itf_reader.specs.Findings.{Finding, is_before}
 use Rattle.itf_reader.specs.Forms.{Vertex, Row}
 use Rattle.itf_reader.specs.Layouts.{wanted_of}
-use Rattle.itf_reader.specs.RowFindings.{widths, is_counted, row_findings, line_findings, lines_findings, columns_findings}
+use Rattle.itf_reader.specs.RowFindings.{widths, is_counted, row_findings, line_findings}
+use Rattle.itf_reader.specs.RowFindings.{lines_findings, columns_findings}
 use Rattle.itf_reader.specs.RowForms.{EachRow, IsCounted}
-use Rattle.itf_reader.specs.RowReadings.{Undefined, cell_by, cell_of, cells_of, sound_vertices, lines_vertices}
-use Rattle.itf_reader.specs.StrokeFindings.{Seen, seen, finding_at, vertex_code, vertex_finding, is_clean, are_clean, all_seen, short_finding, arc_findings, stroke_findings}
+use Rattle.itf_reader.specs.RowReadings.{Undefined, cell_by, cell_of, cells_of, sound_vertices}
+use Rattle.itf_reader.specs.RowReadings.{lines_vertices}
+use Rattle.itf_reader.specs.StrokeFindings.{Seen, seen, finding_at, vertex_code, vertex_finding}
+use Rattle.itf_reader.specs.StrokeFindings.{is_clean, are_clean, all_seen, short_finding}
+use Rattle.itf_reader.specs.StrokeFindings.{arc_findings, stroke_findings}
 use Rattle.domain_rules.specs.CleanPlaces as clean
 use Rattle.domain_rules.specs.CleanPlaces.{AreSoundVertices, HasPlaces, RowsHavePlaces, HavePlaces}
 use Rattle.domain_rules.specs.ValueFindings.{table_findings, tables_findings, value_findings}
@@ -35,18 +41,26 @@ use Rattle.plane.specs.declared.window.Window2.{Window2}
 use Rattle.area_drawings.specs.AreaLimits.{area_limit, vertices_in, is_too_large, has_too_large}
 use Rattle.area_drawings.specs.AreaLimits as limits
 use Rattle.area_drawings.specs.Drawable.{IsIn}
-use Rattle.area_drawings.specs.Drawings.{place_read, placed, first_word, words_at, points_at, points_by, points_in, lines_in, columns_in, curves_by, row_curves, line_curves, HasWindow, IsWindowOf, IsDrawing}
+use Rattle.area_drawings.specs.Drawings.{place_read, placed, first_word, words_at, points_at}
+use Rattle.area_drawings.specs.Drawings.{points_by, points_in, lines_in, columns_in, curves_by}
+use Rattle.area_drawings.specs.Drawings.{row_curves, line_curves, HasWindow, IsWindowOf, IsDrawing}
 use Rattle.delivery.specs.Judging.{IsClean}
-use Rattle.area_drawings.specs.KeptDrawings.{seen_curves, cut, total, kept_curves, AreIn, ArePointsIn, vertices_there, is_kept_large, has_kept_large, AreDrawable, AreDrawn, CanBeDrawn, column_points, curves_there, IsDrawnFrom}
+use Rattle.area_drawings.specs.KeptDrawings.{seen_curves, cut, total, kept_curves, AreIn}
+use Rattle.area_drawings.specs.KeptDrawings.{ArePointsIn, vertices_there, is_kept_large}
+use Rattle.area_drawings.specs.KeptDrawings.{has_kept_large, AreDrawable, AreDrawn, CanBeDrawn}
+use Rattle.area_drawings.specs.KeptDrawings.{column_points, curves_there, IsDrawnFrom}
 use Rattle.area_drawings.specs.KeptLines.{row_vertices, vertex_count, Lines, lines_kept}
 use Rattle.area_drawings.specs.KeptPoints.{cell_points, row_points, points_in_column}
-use Rattle.area_drawings.specs.KeptRows.{is_area_point, are_lines, Kept, kept, vertices_in as vertices_of, counts_in}
+use Rattle.area_drawings.specs.KeptRows.{is_area_point, are_lines, Kept, kept}
+use Rattle.area_drawings.specs.KeptRows.{vertices_in as vertices_of, counts_in}
 use Rattle.area_drawings.proofs.RowSteps.{column_asked}
 use Rattle.delivery.specs.KeptRows.{all_kept}
-use Rattle.delivery.proofs.Drawables.{drop_both, area_table, forms as forms_of, in_window, point_in, clean_rows, all_rows, rows_at}
+use Rattle.delivery.proofs.Drawables.{drop_both, area_table, forms as forms_of, in_window, point_in}
+use Rattle.delivery.proofs.Drawables.{clean_rows, all_rows, rows_at}
 
 -- ---- lists
-pub cut_flat : {X : Type 0} (f : X → List Seen) (xs : List X) → cut (map (λ x. length (f x)) xs) (flat_map f xs) ≡ map f xs
+pub cut_flat : {X : Type 0} (f : X → List Seen) (xs : List X)
+    → cut (map (λ x. length (f x)) xs) (flat_map f xs) ≡ map f xs
 cut_flat f [] = refl
 cut_flat f (x ∷ xs) =
     ap (λ (vs : List Seen). vs ∷ cut (map (λ y. length (f y)) xs) (drop (length (f x)) (f x ++ flat_map f xs))) (take_front (f x) (flat_map f xs))
@@ -61,15 +75,18 @@ cut_flat f (x ∷ xs) =
     drop_front [] ys = refl
     drop_front (x ∷ xs) ys = drop_front xs ys
 
-pub total_flat : {X : Type 0} (f : X → List Seen) (xs : List X) → total (map (λ x. length (f x)) xs) ≡ length (flat_map f xs)
+pub total_flat : {X : Type 0} (f : X → List Seen) (xs : List X)
+    → total (map (λ x. length (f x)) xs) ≡ length (flat_map f xs)
 total_flat f [] = refl
 total_flat f (x ∷ xs) = ap (λ (n : ℕ). length (f x) + n) (total_flat f xs) ∙ sym (length-append (f x) (flat_map f xs))
 
-pub flat_of_map : {X : Type 0} (g : List Seen → List Curve) (f : X → List Seen) (xs : List X) → flat_map g (map f xs) ≡ flat_map (λ x. g (f x)) xs
+pub flat_of_map : {X : Type 0} (g : List Seen → List Curve) (f : X → List Seen) (xs : List X)
+    → flat_map g (map f xs) ≡ flat_map (λ x. g (f x)) xs
 flat_of_map g f [] = refl
 flat_of_map g f (x ∷ xs) = ap (λ (l : List Curve). g (f x) ++ l) (flat_of_map g f xs)
 
-pub flat_same : {X Y : Type 0} (f g : X → List Y) (P : X → Type 0) (xs : List X) → ((x : X) → P x → f x ≡ g x) → All P xs → flat_map f xs ≡ flat_map g xs
+pub flat_same : {X Y : Type 0} (f g : X → List Y) (P : X → Type 0) (xs : List X)
+    → ((x : X) → P x → f x ≡ g x) → All P xs → flat_map f xs ≡ flat_map g xs
 flat_same f g P [] h a = refl
 flat_same f g P (x ∷ xs) h a = ap (λ l. l ++ flat_map f xs) (h x (All-head P x xs a)) ∙ ap (λ l. g x ++ l) (flat_same f g P xs h (All-tail P x xs a))
 
@@ -77,18 +94,22 @@ all_append : {X : Type 0} (P : X → Type 0) (xs ys : List X) → All P xs → A
 all_append P [] ys a b = b
 all_append P (x ∷ xs) ys a b = All-cons P x (xs ++ ys) (All-head P x xs a) (all_append P xs ys (All-tail P x xs a) b)
 
-all_flat : {X Y : Type 0} (P : Y → Type 0) (Q : X → Type 0) (f : X → List Y) (xs : List X) → ((x : X) → Q x → All P (f x)) → All Q xs → All P (flat_map f xs)
+all_flat : {X Y : Type 0} (P : Y → Type 0) (Q : X → Type 0) (f : X → List Y) (xs : List X)
+    → ((x : X) → Q x → All P (f x)) → All Q xs → All P (flat_map f xs)
 all_flat P Q f [] h a = All-nil P
 all_flat P Q f (x ∷ xs) h a = all_append P (f x) (flat_map f xs) (h x (All-head Q x xs a)) (all_flat P Q f xs h (All-tail Q x xs a))
 
 -- ---- rows without findings
-pub no_findings : (codes : Codes) (t : Table) (rows : List Row) → table_findings codes t rows ≡ [] → All (λ r. row_findings codes t r ≡ []) rows
+pub no_findings : (codes : Codes) (t : Table) (rows : List Row) → table_findings codes t rows ≡ []
+    → All (λ r. row_findings codes t r ≡ []) rows
 no_findings codes t [] e = All-nil (λ r. row_findings codes t r ≡ [])
 no_findings codes t (r ∷ rows) e =
     let b = empty_both (row_findings codes t r) (table_findings codes t rows) e in
     All-cons (λ r. row_findings codes t r ≡ []) r rows b.0 (no_findings codes t rows b.1)
 
-pub none_at : (codes : Codes) (ts : List Table) (transfer : List (List Row)) (n : ℕ) (t : Table) → tables_findings codes ts transfer ≡ [] → slice_get ts n ≡ Some t → table_findings codes t (slice_index_or transfer n []) ≡ []
+pub none_at : (codes : Codes) (ts : List Table) (transfer : List (List Row)) (n : ℕ) (t : Table)
+    → tables_findings codes ts transfer ≡ [] → slice_get ts n ≡ Some t
+    → table_findings codes t (slice_index_or transfer n []) ≡ []
 none_at codes [] transfer n t e g = absurd (cc)
 none_at codes (u ∷ ts) [] n t e g = refl
 none_at codes (u ∷ ts) (rows ∷ transfer) zero t e g =
@@ -98,7 +119,8 @@ none_at codes (u ∷ ts) (rows ∷ transfer) zero t e g =
     same u t e = cc
 none_at codes (u ∷ ts) (rows ∷ transfer) (suc n) t e g = none_at codes ts transfer n t (empty_both (table_findings codes u rows) (tables_findings codes ts transfer) e).1 g
 
-pub clean_findings : (l : Layout) (rows : List (List Row)) → IsClean l rows → tables_findings l.codes l.tables rows ≡ []
+pub clean_findings : (l : Layout) (rows : List (List Row)) → IsClean l rows
+    → tables_findings l.codes l.tables rows ≡ []
 clean_findings l rows c =
     unsorted is_before (tables_findings l.codes l.tables rows)
     (empty_both (value_findings l rows) (key_findings l rows) (unsorted is_before (value_findings l rows ++ key_findings l rows) c)).0
@@ -108,14 +130,18 @@ pub record IsRight (codes : Codes) (t : Table) (r : Row) : Type 0 where
   pub clean : row_findings codes t r ≡ []
   pub places : HasPlaces codes t r
 
-pub all_right : (codes : Codes) (t : Table) (rows : List Row) → All (λ r. row_findings codes t r ≡ []) rows → All (HasPlaces codes t) rows → All (IsRight codes t) rows
+pub all_right : (codes : Codes) (t : Table) (rows : List Row)
+    → All (λ r. row_findings codes t r ≡ []) rows → All (HasPlaces codes t) rows
+    → All (IsRight codes t) rows
 all_right codes t [] b c = All-nil (IsRight codes t)
 all_right codes t (r ∷ rows) b c =
     All-cons (IsRight codes t) r rows
     (record { clean = All-head (λ r. row_findings codes t r ≡ []) r rows b; places = All-head (HasPlaces codes t) r rows c })
     (all_right codes t rows (All-tail (λ r. row_findings codes t r ≡ []) r rows b) (All-tail (HasPlaces codes t) r rows c))
 
-pub counted_at : (ts : List Table) (transfer : List (List Row)) (n : ℕ) (t : Table) → EachRow IsCounted (map wanted_of ts) transfer → slice_get ts n ≡ Some t → All (IsCounted (length t.lines)) (slice_index_or transfer n [])
+pub counted_at : (ts : List Table) (transfer : List (List Row)) (n : ℕ) (t : Table)
+    → EachRow IsCounted (map wanted_of ts) transfer → slice_get ts n ≡ Some t
+    → All (IsCounted (length t.lines)) (slice_index_or transfer n [])
 counted_at [] transfer n t h g = absurd (cc)
 counted_at (u ∷ ts) [] n t h g = absurd h
 counted_at (u ∷ ts) (rows ∷ transfer) zero t h g = subst (λ (v : Table). All (IsCounted (length v.lines)) rows) (same u t g) h.0
@@ -125,7 +151,8 @@ counted_at (u ∷ ts) (rows ∷ transfer) zero t h g = subst (λ (v : Table). Al
 counted_at (u ∷ ts) (rows ∷ transfer) (suc n) t h g = counted_at ts transfer n t h.1 g
 
 -- ---- the vertices of lines
-clean_by : (l : LineForm) (column : ℕ) (vs : List Vertex) → flat_map (vertex_finding l column) vs ≡ [] → are_clean l vs ≡ true
+clean_by : (l : LineForm) (column : ℕ) (vs : List Vertex)
+    → flat_map (vertex_finding l column) vs ≡ [] → are_clean l vs ≡ true
 clean_by l column [] e = refl
 clean_by l column (v ∷ vs) e =
     let b = empty_both (vertex_finding l column v) (flat_map (vertex_finding l column) vs) e in
@@ -135,18 +162,22 @@ clean_by l column (v ∷ vs) e =
     one None line column e = refl
     one (Some c) line column e = absurd (cc)
 
-clean_stroke : (role : Role) (l : LineForm) (column : ℕ) (vs : List Vertex) → stroke_findings role l column vs ≡ [] → are_clean l vs ≡ true
+clean_stroke : (role : Role) (l : LineForm) (column : ℕ) (vs : List Vertex)
+    → stroke_findings role l column vs ≡ [] → are_clean l vs ≡ true
 clean_stroke role l column vs e = by (short_finding role column (all_seen l vs) ++ arc_findings column (all_seen l vs)) (are_clean l vs) refl e
   where
-    by : (xs : List Finding) (b : Bool) → are_clean l vs ≡ b → (if b then xs else flat_map (vertex_finding l column) vs) ≡ [] → are_clean l vs ≡ true
+    by : (xs : List Finding) (b : Bool) → are_clean l vs ≡ b
+        → (if b then xs else flat_map (vertex_finding l column) vs) ≡ [] → are_clean l vs ≡ true
     by xs true h e = h
     by xs false h e = clean_by l column vs e
 
-clean_line : (role : Role) (line column : ℕ) (l : LineForm) (vs : List Vertex) → line_findings role line column l vs ≡ [] → are_clean l vs ≡ true
+clean_line : (role : Role) (line column : ℕ) (l : LineForm) (vs : List Vertex)
+    → line_findings role line column l vs ≡ [] → are_clean l vs ≡ true
 clean_line role line column l [] e = refl
 clean_line role line column l (v ∷ vs) e = clean_stroke role l column (v ∷ vs) e
 
-sound_all : (l : LineForm) (vs : List Vertex) → are_clean l vs ≡ true → sound_vertices l vs ≡ all_seen l vs
+sound_all : (l : LineForm) (vs : List Vertex) → are_clean l vs ≡ true
+    → sound_vertices l vs ≡ all_seen l vs
 sound_all l [] e = refl
 sound_all l (v ∷ vs) e =
     let b = both (is_clean l v) (are_clean l vs) e in
@@ -158,13 +189,16 @@ sound_all l (v ∷ vs) e =
 
 -- the one line of a row
 module _ (codes : Codes) (t : Table) (l : LineForm) (one : t.lines ≡ l ∷ []) where
-  line_by : (role : Role) (line column : ℕ) (ss : List (List Vertex)) → lines_findings role line column (l ∷ []) ss ≡ [] → lines_vertices (l ∷ []) ss ≡ all_seen l (slice_index_or ss 0 [])
+  line_by : (role : Role) (line column : ℕ) (ss : List (List Vertex))
+      → lines_findings role line column (l ∷ []) ss ≡ []
+      → lines_vertices (l ∷ []) ss ≡ all_seen l (slice_index_or ss 0 [])
   line_by role line column [] e = refl
   line_by role line column (s ∷ ss) e =
       let k = clean_line role line column l s (empty_both (line_findings role line column l s) [] e).0 in
       append-nil (sound_vertices l s) ∙ sound_all l s k
 
-  line_of_row : (r : Row) → IsRight codes t r → row_vertices t r ≡ all_seen l (slice_index_or r.strokes 0 [])
+  line_of_row : (r : Row) → IsRight codes t r
+      → row_vertices t r ≡ all_seen l (slice_index_or r.strokes 0 [])
   line_of_row r h =
       let counted : (if is_counted t r then columns_findings codes r.line 1 t.columns (drop 1 r.fields) ++ lines_findings t.role r.line (1 + length t.columns) t.lines r.strokes else finding_at r.line 0 (Some Count))
       ≡ columns_findings codes r.line 1 t.columns (drop 1 r.fields) ++ lines_findings t.role r.line (1 + length t.columns) t.lines r.strokes =
@@ -174,23 +208,27 @@ module _ (codes : Codes) (t : Table) (l : LineForm) (one : t.lines ≡ l ∷ [])
       ∙ ap (λ (ls : List LineForm). lines_vertices ls r.strokes) one
       ∙ line_by t.role r.line (1 + length t.columns) r.strokes (subst (λ (ls : List LineForm). lines_findings t.role r.line (1 + length t.columns) ls r.strokes ≡ []) one e)
 
-  length_of_row : (r : Row) → IsRight codes t r → length (row_vertices t r) ≡ length (slice_index_or r.strokes 0 [])
+  length_of_row : (r : Row) → IsRight codes t r
+      → length (row_vertices t r) ≡ length (slice_index_or r.strokes 0 [])
   length_of_row r h = ap (λ (vs : List Seen). length vs) (line_of_row r h) ∙ length-map (slice_index_or r.strokes 0 []) (seen l)
 
-  pub curves_of_row : (r : Row) → IsRight codes t r → seen_curves (row_vertices t r) ≡ row_curves l r
+  pub curves_of_row : (r : Row) → IsRight codes t r
+      → seen_curves (row_vertices t r) ≡ row_curves l r
   curves_of_row r h = ap seen_curves (line_of_row r h) ∙ by (slice_index_or r.strokes 0 [])
     where
       by : (vs : List Vertex) → seen_curves (all_seen l vs) ≡ line_curves l vs
       by [] = refl
       by (v ∷ vs) = refl
 
-  pub inside_of_row : (w : Window2) → IsWindowOf l.window w → (r : Row) → IsRight codes t r → AreIn w (row_vertices t r)
+  pub inside_of_row : (w : Window2) → IsWindowOf l.window w → (r : Row) → IsRight codes t r
+      → AreIn w (row_vertices t r)
   inside_of_row w i r h = subst (AreIn w) (sym (line_of_row r h)) (by (slice_index_or r.strokes 0 []) (sound r h))
     where
       sound : (r : Row) → IsRight codes t r → AreSoundVertices l (slice_index_or r.strokes 0 [])
       sound r h = first r.strokes (subst (λ (ls : List LineForm). clean.AreLines ls r.strokes) one h.places.lines)
         where
-          first : (ss : List (List Vertex)) → clean.AreLines (l ∷ []) ss → AreSoundVertices l (slice_index_or ss 0 [])
+          first : (ss : List (List Vertex)) → clean.AreLines (l ∷ []) ss
+              → AreSoundVertices l (slice_index_or ss 0 [])
           first [] k = tt
           first (s ∷ ss) k = k.0.0
 
@@ -198,13 +236,15 @@ module _ (codes : Codes) (t : Table) (l : LineForm) (one : t.lines ≡ l ∷ [])
       by [] k = All-nil (λ (v : Seen). IsIn w v.at)
       by (v ∷ vs) k = All-cons (λ (v : Seen). IsIn w v.at) (seen l v) (all_seen l vs) (in_window l.window w (seen l v).at i k.0.inside) (by vs k.1)
 
-  pub curves_kept : (rows : List Row) → All (IsRight codes t) rows → kept_curves (map (vertex_count t) rows) (flat_map (row_vertices t) rows) ≡ flat_map (row_curves l) rows
+  pub curves_kept : (rows : List Row) → All (IsRight codes t) rows
+      → kept_curves (map (vertex_count t) rows) (flat_map (row_vertices t) rows) ≡ flat_map (row_curves l) rows
   curves_kept rows h =
       ap (flat_map seen_curves) (cut_flat (row_vertices t) rows)
       ∙ flat_of_map seen_curves (row_vertices t) rows
       ∙ flat_same (λ r. seen_curves (row_vertices t r)) (row_curves l) (IsRight codes t) rows curves_of_row h
 
-  pub inside_kept : (w : Window2) → IsWindowOf l.window w → (rows : List Row) → All (IsRight codes t) rows → AreIn w (flat_map (row_vertices t) rows)
+  pub inside_kept : (w : Window2) → IsWindowOf l.window w → (rows : List Row)
+      → All (IsRight codes t) rows → AreIn w (flat_map (row_vertices t) rows)
   inside_kept w i rows h = all_flat (λ (v : Seen). IsIn w v.at) (IsRight codes t) (row_vertices t) rows (inside_of_row w i) h
 
   -- a line is no longer than all lines of its row, and as long where the row has one
@@ -212,12 +252,14 @@ module _ (codes : Codes) (t : Table) (l : LineForm) (one : t.lines ≡ l ∷ [])
   first_few [] = omega arith
   first_few (s ∷ ss) = omega arith
 
-  first_counted : (ss : List (List Vertex)) → length ss ≡ 1 → length (slice_index_or ss 0 []) ≡ vertices_in ss
+  first_counted : (ss : List (List Vertex)) → length ss ≡ 1
+      → length (slice_index_or ss 0 []) ≡ vertices_in ss
   first_counted [] c = absurd (cc)
   first_counted (s ∷ []) c = omega arith
   first_counted (s ∷ r ∷ ss) c = absurd (omega (arith, c))
 
-  pub few_kept : (rows : List Row) → All (IsRight codes t) rows → length (flat_map (row_vertices t) rows) ≤ limits.vertex_count rows
+  pub few_kept : (rows : List Row) → All (IsRight codes t) rows
+      → length (flat_map (row_vertices t) rows) ≤ limits.vertex_count rows
   few_kept [] h = omega arith
   few_kept (r ∷ rows) h =
       let a = length_of_row r (All-head (IsRight codes t) r rows h) in
@@ -226,7 +268,9 @@ module _ (codes : Codes) (t : Table) (l : LineForm) (one : t.lines ≡ l ∷ [])
       let s = length-append (row_vertices t r) (flat_map (row_vertices t) rows) in
       omega (arith, a, b, k, s)
 
-  pub counted_kept : (rows : List Row) → All (IsCounted (length t.lines)) rows → All (IsRight codes t) rows → length (flat_map (row_vertices t) rows) ≡ limits.vertex_count rows
+  pub counted_kept : (rows : List Row) → All (IsCounted (length t.lines)) rows
+      → All (IsRight codes t) rows
+      → length (flat_map (row_vertices t) rows) ≡ limits.vertex_count rows
   counted_kept [] c h = refl
   counted_kept (r ∷ rows) c h =
       let n = All-head (IsCounted (length t.lines)) r rows c ∙ ap (λ (ls : List LineForm). length ls) one in
@@ -235,7 +279,9 @@ module _ (codes : Codes) (t : Table) (l : LineForm) (one : t.lines ≡ l ∷ [])
       ∙ ap (λ (n : ℕ). vertices_in r.strokes + n) (counted_kept rows (All-tail (IsCounted (length t.lines)) r rows c) (All-tail (IsRight codes t) r rows h))
 
 -- ---- the points of objects
-cell_at : (codes : Codes) (cs : List Column) (k : ℕ) (c : Column) (words : List (List ℕ)) → slice_get cs k ≡ Some c → slice_get (cells_of codes cs words) k ≡ Some (cell_of codes c (take (width c.form) (drop (widths (take k cs)) words)))
+cell_at : (codes : Codes) (cs : List Column) (k : ℕ) (c : Column) (words : List (List ℕ))
+    → slice_get cs k ≡ Some c
+    → slice_get (cells_of codes cs words) k ≡ Some (cell_of codes c (take (width c.form) (drop (widths (take k cs)) words)))
 cell_at codes [] k c words e = absurd (cc)
 cell_at codes (b ∷ cs) zero c words e = ap (λ (x : Column). Some (cell_of codes x (take (width x.form) words))) (same b c e)
   where
@@ -245,7 +291,8 @@ cell_at codes (b ∷ cs) (suc k) c words e =
     cell_at codes cs k c (drop (width b.form) words) e
     ∙ ap (λ (ws : List (List ℕ)). Some (cell_of codes c (take (width c.form) ws))) (sym (drop_both (width b.form) (widths (take k cs)) words))
 
-cell_is : (line : ℕ) (r : Result Value ValueFault) → cell_points line (Some (cell_by r)) ≡ map (placed line) (place_read r)
+cell_is : (line : ℕ) (r : Result Value ValueFault)
+    → cell_points line (Some (cell_by r)) ≡ map (placed line) (place_read r)
 cell_is line (Err f) = refl
 cell_is line (Ok (Bytes w)) = refl
 cell_is line (Ok (Numbers [])) = refl
@@ -254,15 +301,18 @@ cell_is line (Ok (Numbers (x ∷ y ∷ []))) = refl
 cell_is line (Ok (Numbers (x ∷ y ∷ z ∷ ns))) = refl
 
 module _ (codes : Codes) (v : Window) (line : ℕ) where
-  nowhere : (o : Option ValueFault) (value : Value) → place_read (Ok value) ≡ [] → [] ≡ map (placed line) (place_read (reading o value))
+  nowhere : (o : Option ValueFault) (value : Value) → place_read (Ok value) ≡ []
+      → [] ≡ map (placed line) (place_read (reading o value))
   nowhere None value e = ap (map (placed line)) (sym e)
   nowhere (Some f) value e = refl
 
-  of_undefined : (b : Bool) (o : Option ValueFault) (value : Value) → b ≡ true → [] ≡ map (placed line) (place_read (reading (if b then Some UndefinedFault else o) value))
+  of_undefined : (b : Bool) (o : Option ValueFault) (value : Value) → b ≡ true
+      → [] ≡ map (placed line) (place_read (reading (if b then Some UndefinedFault else o) value))
   of_undefined true o value h = refl
   of_undefined false o value h = absurd (cc)
 
-  undefined_place : (words : List (List ℕ)) → list_all (is_undefined codes) words ≡ true → [] ≡ map (placed line) (place_read (column_reading (AreaPoint v) codes words))
+  undefined_place : (words : List (List ℕ)) → list_all (is_undefined codes) words ≡ true
+      → [] ≡ map (placed line) (place_read (column_reading (AreaPoint v) codes words))
   undefined_place [] h = nowhere (field_fault (AreaPoint v) codes []) (value_of (AreaPoint v) []) refl
   undefined_place (x ∷ []) h = nowhere (field_fault (AreaPoint v) codes (x ∷ [])) (value_of (AreaPoint v) (x ∷ [])) refl
   undefined_place (x ∷ y ∷ ws) h =
@@ -284,7 +334,8 @@ module _ (codes : Codes) (v : Window) (line : ℕ) where
       by false h = cell_is line (column_reading (AreaPoint v) codes words)
 
 module _ (codes : Codes) (t : Table) (k : ℕ) (c : Column) (v : Window) (at : slice_get t.columns k ≡ Some c) (form : c.form ≡ AreaPoint v) where
-  points_of_row : (r : Row) → HasPlaces codes t r → row_points codes t k r ≡ points_at codes (first_word t.columns k) c r
+  points_of_row : (r : Row) → HasPlaces codes t r
+      → row_points codes t k r ≡ points_at codes (first_word t.columns k) c r
   points_of_row r h =
       let words = take (width c.form) (drop (widths (take k t.columns)) (drop 1 r.fields)) in
       ap (λ (b : Bool). cell_points r.line (slice_get (if b then cells_of codes t.columns (drop 1 r.fields) else []) k)) h.counted
@@ -303,7 +354,8 @@ module _ (codes : Codes) (t : Table) (k : ℕ) (c : Column) (v : Window) (at : s
       (HasPlaces codes t) rows points_of_row h
 
 -- ---- an area
-pub kept_there : (codes : Codes) (ts : List Table) (transfer : List (List Row)) (n : ℕ) (t : Table) → EachRow IsCounted (map wanted_of ts) transfer → slice_get ts n ≡ Some t
+pub kept_there : (codes : Codes) (ts : List Table) (transfer : List (List Row)) (n : ℕ) (t : Table)
+    → EachRow IsCounted (map wanted_of ts) transfer → slice_get ts n ≡ Some t
     → slice_get (all_kept codes ts transfer) n ≡ Some (kept codes t (slice_index_or transfer n []))
 kept_there codes [] transfer n t h e = absurd (cc)
 kept_there codes (u ∷ ts) [] n t h e = absurd h
@@ -325,7 +377,8 @@ module _ (l : Layout) (rows : List (List Row)) (v : IsValid l) (c : IsClean l ro
   abbrev places : HavePlaces l.codes l.tables rows
   places = clean_rows l rows c
 
-  right_at : (k : ℕ) (t : Table) → slice_get l.tables k ≡ Some t → All (IsRight l.codes t) (slice_index_or rows k [])
+  right_at : (k : ℕ) (t : Table) → slice_get l.tables k ≡ Some t
+      → All (IsRight l.codes t) (slice_index_or rows k [])
   right_at k t e =
       let rs = slice_index_or rows k [] in
       all_right l.codes t rs (no_findings l.codes t rs (none_at l.codes l.tables rows k t (clean_findings l rows c) e)) (all_rows l.codes t rs (rows_at l.codes l.tables rows k t places e))
@@ -381,7 +434,8 @@ module _ (l : Layout) (rows : List (List Row)) (v : IsValid l) (c : IsClean l ro
   placed_are : placed_points ≡ flat_map (points_at l.codes (first_word area.owner.columns a.column) area.point) objects
   placed_are = points_kept l.codes area.owner a.column area.point area.line.window area.column area.form objects owner_places
 
-  pub area_drawable : is_too_large rows a ≡ false → AreDrawable area.line counts vertices placed_points
+  pub area_drawable : is_too_large rows a ≡ false
+      → AreDrawable area.line counts vertices placed_points
   area_drawable e = record {
     counted = (let k = ap total counts_are ∙ total_flat (row_vertices h.helper) line_rows in let m = ap (λ (vs : List Seen). length vs) vertices_are in omega (arith, k, m));
     inside = λ w i. subst (AreIn w) (sym vertices_are) (inside_kept l.codes h.helper area.line area.lines w i line_rows lines_right);
@@ -390,15 +444,18 @@ module _ (l : Layout) (rows : List (List Row)) (v : IsValid l) (c : IsClean l ro
     few_points = (let m = (within (limits.vertex_count line_rows) (length objects) e).1 in let k = few_points objects in let j = ap (λ (ps : List Placed). length ps) placed_are in omega (arith, m, k, j));
   }
     where
-      within : (n m : ℕ) → (nat_lt area_limit n || nat_lt area_limit m) ≡ false → (n ≤ area_limit) × (m ≤ area_limit)
+      within : (n m : ℕ) → (nat_lt area_limit n || nat_lt area_limit m) ≡ false
+          → (n ≤ area_limit) × (m ≤ area_limit)
       within n m e = (grind (arith, nat_tests), grind (arith, nat_tests))
 
-      all_inside : (w : Window2) → IsWindowOf area.line.window w → ArePointsIn w (flat_map (points_at l.codes (first_word area.owner.columns a.column) area.point) objects)
+      all_inside : (w : Window2) → IsWindowOf area.line.window w
+          → ArePointsIn w (flat_map (points_at l.codes (first_word area.owner.columns a.column) area.point) objects)
       all_inside w i =
           all_flat (λ (p : Placed). IsInside w.low w.high p.at) (HasPlaces l.codes area.owner) (points_at l.codes (first_word area.owner.columns a.column) area.point) objects
           (point_in l.codes area.owner a.column area.point area.line.window w area.column area.form i) owner_places
 
-      at_most_one : (r : List Placed) (o : Result Value ValueFault) (line : ℕ) → r ≡ map (placed line) (place_read o) → length r ≤ 1
+      at_most_one : (r : List Placed) (o : Result Value ValueFault) (line : ℕ)
+          → r ≡ map (placed line) (place_read o) → length r ≤ 1
       at_most_one r (Err f) line e = (let k = ap (λ (ps : List Placed). length ps) e in omega (arith, k))
       at_most_one r (Ok (Bytes w)) line e = (let k = ap (λ (ps : List Placed). length ps) e in omega (arith, k))
       at_most_one r (Ok (Numbers [])) line e = (let k = ap (λ (ps : List Placed). length ps) e in omega (arith, k))
@@ -406,7 +463,8 @@ module _ (l : Layout) (rows : List (List Row)) (v : IsValid l) (c : IsClean l ro
       at_most_one r (Ok (Numbers (x ∷ y ∷ []))) line e = (let k = ap (λ (ps : List Placed). length ps) e in omega (arith, k))
       at_most_one r (Ok (Numbers (x ∷ y ∷ z ∷ ns))) line e = (let k = ap (λ (ps : List Placed). length ps) e in omega (arith, k))
 
-      few_points : (rs : List Row) → length (flat_map (points_at l.codes (first_word area.owner.columns a.column) area.point) rs) ≤ length rs
+      few_points : (rs : List Row)
+          → length (flat_map (points_at l.codes (first_word area.owner.columns a.column) area.point) rs) ≤ length rs
       few_points [] = omega arith
       few_points (r ∷ rs) =
           let f = points_at l.codes (first_word area.owner.columns a.column) area.point in
@@ -415,7 +473,8 @@ module _ (l : Layout) (rows : List (List Row)) (v : IsValid l) (c : IsClean l ro
           let s = length-append (f r) (flat_map f rs) in
           omega (arith, k, m, s)
 
-  pub is_drawing : (d : Plan) → AreDrawn area.line counts vertices placed_points d → IsDrawing l rows a d
+  pub is_drawing : (d : Plan) → AreDrawn area.line counts vertices placed_points d
+      → IsDrawing l rows a d
   is_drawing d k =
       let there : lines_in (slice_get l.tables a.lines) ≡ area.line ∷ [] = ap lines_in h.lines ∙ area.lines in
       let own_columns : columns_in (slice_get l.tables a.main) ≡ area.owner.columns = ap columns_in area.main in
@@ -446,13 +505,15 @@ module _ (l : Layout) (rows : List (List Row)) (v : IsValid l) (c : IsClean l ro
       points_own : ps ≡ placed_points
       points_own = p ∙ ap (λ (x : Kept). points_in_column a.column x.points) g
 
-      pub drawable_as : is_too_large rows a ≡ false → AreDrawable own (counts_in k.lines) (vertices_of k.lines) ps
+      pub drawable_as : is_too_large rows a ≡ false
+          → AreDrawable own (counts_in k.lines) (vertices_of k.lines) ps
       drawable_as e =
           subst (λ (x : LineForm). AreDrawable x (counts_in k.lines) (vertices_of k.lines) ps) line_own
           (subst (λ (x : Kept). AreDrawable area.line (counts_in x.lines) (vertices_of x.lines) ps) (sym f)
           (subst (AreDrawable area.line counts vertices) (sym points_own) (area_drawable e)))
 
-      pub drawing_as : (d : Plan) → AreDrawn own (counts_in k.lines) (vertices_of k.lines) ps d → IsDrawing l rows a d
+      pub drawing_as : (d : Plan) → AreDrawn own (counts_in k.lines) (vertices_of k.lines) ps d
+          → IsDrawing l rows a d
       drawing_as d w =
           is_drawing d
           (subst (λ (x : LineForm). AreDrawn x counts vertices placed_points d) (sym line_own)
@@ -501,7 +562,8 @@ module _ (l : Layout) (rows : List (List Row)) (v : IsValid l) (c : IsClean l ro
 
 -- ---- all areas
 module _ (l : Layout) (rows : List (List Row)) (v : IsValid l) (c : IsClean l rows) (n : EachRow IsCounted (map wanted_of l.tables) rows) where
-  has_large : (as_ : List AreaOf) → All (IsArea l.tables) as_ → has_kept_large (all_kept l.codes l.tables rows) rows as_ ≡ has_too_large rows as_
+  has_large : (as_ : List AreaOf) → All (IsArea l.tables) as_
+      → has_kept_large (all_kept l.codes l.tables rows) rows as_ ≡ has_too_large rows as_
   has_large [] h = refl
   has_large (a ∷ as_) h =
       ap (λ (b : Bool). b || has_kept_large (all_kept l.codes l.tables rows) rows as_) (large l rows v c a (All-head (IsArea l.tables) a as_ h) n)
@@ -510,7 +572,8 @@ module _ (l : Layout) (rows : List (List Row)) (v : IsValid l) (c : IsClean l ro
   pub all_large : has_kept_large (all_kept l.codes l.tables rows) rows l.areas ≡ has_too_large rows l.areas
   all_large = has_large l.areas v.areas
 
-  each_drawn : (as_ : List AreaOf) → All (IsArea l.tables) as_ → has_too_large rows as_ ≡ false → All (CanBeDrawn l (all_places l rows)) as_
+  each_drawn : (as_ : List AreaOf) → All (IsArea l.tables) as_ → has_too_large rows as_ ≡ false
+      → All (CanBeDrawn l (all_places l rows)) as_
   each_drawn [] h e = All-nil (CanBeDrawn l (all_places l rows))
   each_drawn (a ∷ as_) h e =
       let b = neither (is_too_large rows a) (has_too_large rows as_) e in
@@ -520,14 +583,17 @@ module _ (l : Layout) (rows : List (List Row)) (v : IsValid l) (c : IsClean l ro
       neither true c h = absurd (cc)
       neither false c h = (refl, h)
 
-  pub all_can_be_drawn : has_too_large rows l.areas ≡ false → All (CanBeDrawn l (all_places l rows)) l.areas
+  pub all_can_be_drawn : has_too_large rows l.areas ≡ false
+      → All (CanBeDrawn l (all_places l rows)) l.areas
   all_can_be_drawn e = each_drawn l.areas v.areas e
 
-  drawings_of : (as_ : List AreaOf) (ds : List Plan) → All (IsArea l.tables) as_ → AllZip (IsDrawnFrom l (all_places l rows)) as_ ds → AllZip (IsDrawing l rows) as_ ds
+  drawings_of : (as_ : List AreaOf) (ds : List Plan) → All (IsArea l.tables) as_
+      → AllZip (IsDrawnFrom l (all_places l rows)) as_ ds → AllZip (IsDrawing l rows) as_ ds
   drawings_of [] [] h z = z
   drawings_of [] (d ∷ ds) h z = z
   drawings_of (a ∷ as_) [] h z = z
   drawings_of (a ∷ as_) (d ∷ ds) h z = (drawn_from l rows v c a (All-head (IsArea l.tables) a as_ h) n d z.0, drawings_of as_ ds (All-tail (IsArea l.tables) a as_ h) z.1)
 
-  pub all_drawings : (ds : List Plan) → AllZip (IsDrawnFrom l (all_places l rows)) l.areas ds → AllZip (IsDrawing l rows) l.areas ds
+  pub all_drawings : (ds : List Plan) → AllZip (IsDrawnFrom l (all_places l rows)) l.areas ds
+      → AllZip (IsDrawing l rows) l.areas ds
   all_drawings ds z = drawings_of l.areas ds v.areas z

@@ -1,6 +1,7 @@
 -- What is kept of rows, one row more.
 use Rattle.std.proofs.Common.{◌≡◌, ℕ, zero, suc, ◌+◌, ◌<◌, ◌≤◌, Bool, true, false}
-use Rattle.std.proofs.Common.{List, [], ◌∷◌, ◌++◌, length, map, take, drop, get_or, set, Some, Result, Ok}
+use Rattle.std.proofs.Common.{List, [], ◌∷◌, ◌++◌, length, map, take, drop, get_or, set, Some}
+use Rattle.std.proofs.Common.{Result, Ok}
 use Rattle.std.proofs.Common.{Err, OnOk, refl, sym, ap, ◌∙◌, arith, append_assoc, append-nil}
 use Rattle.std.specs.Prelude.{slice_get, IfSome, if◌then◌else◌}
 use Rattle.std.specs.List.{flat_map}
@@ -26,12 +27,14 @@ use Rattle.area_drawings.specs.KeptRows.{Kept, kept, with_row}
 use Rattle.area_drawings.specs.KeptLines.{row_vertices}
 use Rattle.area_drawings.specs.KeptPoints.{row_cells}
 use Rattle.area_drawings.proofs.RowSteps as steps
-use Rattle.delivery.specs.KeptRows.{Found, rows_found, with_found, of_tables, tables_found, all_kept}
+use Rattle.delivery.specs.KeptRows.{Found, rows_found, with_found, of_tables, tables_found}
+use Rattle.delivery.specs.KeptRows.{all_kept}
 use Rattle.delivery.specs.KeptRows.{changed_at, transfer_so_far}
 use Rattle.delivery.specs.KeptViews.{AreReadAs}
 
 -- ---- the rows of all tables
-pub row_came : (l : Layout) (n : ℕ) (rows : List (ℕ × Row)) (r : Row) → transfer_so_far l (rows ++ (n, r) ∷ []) ≡ with_row_at n r (transfer_so_far l rows)
+pub row_came : (l : Layout) (n : ℕ) (rows : List (ℕ × Row)) (r : Row)
+    → transfer_so_far l (rows ++ (n, r) ∷ []) ≡ with_row_at n r (transfer_so_far l rows)
 row_came l n rows r = came.row_came (form_of l) n rows r
 
 -- ---- what was read of a row
@@ -64,12 +67,14 @@ read_as codes t r values h = by (is_counted t r) refl
 
 -- ---- what is kept of the rows of a slice, one row more
 -- the rows of a slice, one row more
-rows_front : (rows : List CodeRow) (i : ℕ) (r : CodeRow) → i < length rows → r ≡ get_or rows i r → rows_of (take (suc i) rows) ≡ rows_of (take i rows) ++ row_of r ∷ []
+rows_front : (rows : List CodeRow) (i : ℕ) (r : CodeRow) → i < length rows → r ≡ get_or rows i r
+    → rows_of (take (suc i) rows) ≡ rows_of (take i rows) ++ row_of r ∷ []
 rows_front [] i r lt e = absurd (omega (arith, lt))
 rows_front (q ∷ rows) zero r lt e = ap (λ (x : CodeRow). row_of x ∷ []) (sym e)
 rows_front (q ∷ rows) (suc i) r lt e = ap (λ (rs : List Row). row_of q ∷ rs) (rows_front rows i r (omega (arith, lt)) e)
 
-rows_next : (rows : List CodeRow) (i : ℕ) (r : CodeRow) → i < length rows → r ≡ get_or rows i r → rows_of (take (i + 1) rows) ≡ rows_of (take i rows) ++ row_of r ∷ []
+rows_next : (rows : List CodeRow) (i : ℕ) (r : CodeRow) → i < length rows → r ≡ get_or rows i r
+    → rows_of (take (i + 1) rows) ≡ rows_of (take i rows) ++ row_of r ∷ []
 rows_next rows i r lt e = ap (λ (m : ℕ). rows_of (take m rows)) (let s : i + 1 ≡ suc i = omega arith in s) ∙ rows_front rows i r lt e
 
 pub kept_next : (codes : Codes) (t : Table) (rows : List CodeRow) (i : ℕ) (r : CodeRow)
@@ -161,18 +166,21 @@ some_at view P (y ∷ xs) zero d lt h = h
 some_at view P (y ∷ xs) (suc place) d lt h = some_at view P xs place d (omega (arith, lt)) h
 
 -- ---- a table of the layout
-pub table_there : (ts : List CodeTable) (n : ℕ) (t : CodeTable) → n < length ts → t ≡ get_or ts n t → slice_get (tables_view ts) n ≡ Some (table_view t)
+pub table_there : (ts : List CodeTable) (n : ℕ) (t : CodeTable) → n < length ts → t ≡ get_or ts n t
+    → slice_get (tables_view ts) n ≡ Some (table_view t)
 table_there [] n t lt e = absurd (omega (arith, lt))
 table_there (u ∷ ts) zero t lt e = ap (λ (x : CodeTable). Some (table_view x)) (sym e)
 table_there (u ∷ ts) (suc n) t lt e = table_there ts n t (omega (arith, lt)) e
 
-pub table_within : (ts : List CodeTable) (n : ℕ) (t : Table) → slice_get (tables_view ts) n ≡ Some t → n < length ts
+pub table_within : (ts : List CodeTable) (n : ℕ) (t : Table) → slice_get (tables_view ts) n ≡ Some t
+    → n < length ts
 table_within [] n t e = absurd (cc)
 table_within (u ∷ ts) zero t e = omega arith
 table_within (u ∷ ts) (suc n) t e = let h = table_within ts n t e in omega (arith, h)
 
 -- what is kept of rows of that table
-pub kept_of_table : (codes : Codes) (ts : List CodeTable) (n : ℕ) (u : CodeTable) (t : Table) → n < length ts → u ≡ get_or ts n u → slice_get (tables_view ts) n ≡ Some t
+pub kept_of_table : (codes : Codes) (ts : List CodeTable) (n : ℕ) (u : CodeTable) (t : Table)
+    → n < length ts → u ≡ get_or ts n u → slice_get (tables_view ts) n ≡ Some t
     → (k : Kept) (rs rows : List Row) → k ≡ kept codes (table_view u) rs → rs ≡ rows → k ≡ kept codes t rows
 kept_of_table codes ts n u t lt e q k rs rows h r =
     h ∙ ap (kept codes (table_view u)) r ∙ ap (λ (x : Table). kept codes x rows) (same (table_view u) t (sym (table_there ts n u lt e) ∙ q))
@@ -189,7 +197,9 @@ on_ok (Ok a) f p = f p
 on_ok (Err e) f p = tt
 
 -- ---- what is kept of no row, table by table
-pub one_table_more : {X Y Z W : Type 0} (g : X → Z) (v : Y → W) (f : W → Z) (old : List X) (x : X) (ts : List Y) (i : ℕ) (t : Y) → i < length ts → t ≡ get_or ts i t → g x ≡ f (v t) → map g old ≡ map f (map v (take i ts)) → map g (old ++ x ∷ []) ≡ map f (map v (take (i + 1) ts))
+pub one_table_more : {X Y Z W : Type 0} (g : X → Z) (v : Y → W) (f : W → Z) (old : List X) (x : X) (ts : List Y) (i : ℕ) (t : Y)
+    → i < length ts → t ≡ get_or ts i t → g x ≡ f (v t) → map g old ≡ map f (map v (take i ts))
+    → map g (old ++ x ∷ []) ≡ map f (map v (take (i + 1) ts))
 one_table_more g v f old x ts i t lt at here front =
     map_push g old x
     ∙ ((λ k. front k ++ here k ∷ [])

@@ -87,7 +87,8 @@ module _ (l : Layout) (objects : ℕ) (ss : List SurfaceAnswer) (xs : List AreaA
   link_undecided [] = refl
   link_undecided (n ∷ ns) = link_undecided ns
 
-  tested_is : has_fault (judged_lines l ss xs) ≡ false → has_undecided (judged_lines l ss xs) ≡ false
+  tested_is : has_fault (judged_lines l ss xs) ≡ false
+      → has_undecided (judged_lines l ss xs) ≡ false
       → unfiled_outcome all_lines objects ≡ tested_by (some_misplaced ms)
   tested_is f g =
       let fault : has_fault all_lines ≡ some_misplaced ms =

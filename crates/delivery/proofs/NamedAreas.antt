@@ -1,5 +1,6 @@
 -- The names of areas are such as certificates can hold, and areas are few.
-use Rattle.std.proofs.Common.{◌≡◌, ℕ, ◌+◌, ◌≤◌, Bool, true, false, not, ◌&&◌, ◌==◌, List, [], ◌∷◌, length, Option, Some, refl, sym, ap, ◌∙◌, subst, arith, inl, inr}
+use Rattle.std.proofs.Common.{◌≡◌, ℕ, ◌+◌, ◌≤◌, Bool, true, false, not, ◌&&◌, ◌==◌, List, [], ◌∷◌}
+use Rattle.std.proofs.Common.{length, Option, Some, refl, sym, ap, ◌∙◌, subst, arith, inl, inr}
 use Rattle.std.specs.Prelude.{get_or, slice_get, slice_index_or}
 use Rattle.std.specs.Char.{is_ascii_alphabetic}
 use Rattle.std.specs.List.{All, AllPass, AllByRecursion}
@@ -24,11 +25,13 @@ is_other p k c fails passes = elim (eqb_tells c k) as (λ z. (c == k) ≡ false)
   | inr n ↦ n.0
 ]
 
-name_byte : (p : ℕ → Bool) → p 32 ≡ false → p 10 ≡ false → (c : ℕ) → p c ≡ true → is_name_byte c ≡ true
+name_byte : (p : ℕ → Bool) → p 32 ≡ false → p 10 ≡ false → (c : ℕ) → p c ≡ true
+    → is_name_byte c ≡ true
 name_byte p blank lf c h =
     ap (λ (b : Bool). not b && not (c == 10)) (is_other p 32 c blank h) ∙ ap (λ (b : Bool). not false && not b) (is_other p 10 c lf h)
 
-word_bytes : (bytes : List ℕ) → AllPass is_word_byte bytes → AllByRecursion (λ c. is_name_byte c ≡ true) bytes
+word_bytes : (bytes : List ℕ) → AllPass is_word_byte bytes
+    → AllByRecursion (λ c. is_name_byte c ≡ true) bytes
 word_bytes [] h = tt
 word_bytes (c ∷ bytes) h =
     (name_byte is_word_byte refl refl c (All-head (λ x. is_word_byte x ≡ true) c bytes h), word_bytes bytes (All-tail (λ x. is_word_byte x ≡ true) c bytes h))
@@ -39,7 +42,8 @@ held_name bytes w =
     (record { some = omega arith; bytes = (name_byte is_ascii_alphabetic refl refl w.first w.letter, word_bytes w.rest w.behind) })
 
 -- ---- areas are no more than tables
-rising : (tables : List Table) (from : ℕ) (as_ : List AreaOf) → from ≤ length tables → Rise from as_ → All (IsArea tables) as_ → from + length as_ ≤ length tables
+rising : (tables : List Table) (from : ℕ) (as_ : List AreaOf) → from ≤ length tables → Rise from as_
+    → All (IsArea tables) as_ → from + length as_ ≤ length tables
 rising tables from [] b r h = omega (arith, b)
 rising tables from (a ∷ as_) b r h =
     let one = All-head (IsArea tables) a as_ h in

@@ -1,5 +1,6 @@
 -- The polygons of the faces of a drawing are those of its objects.
-use Rattle.std.proofs.Common.{◌≡◌, ℕ, ◌<◌, ◌⊎◌, inl, inr, List, [], ◌∷◌, ◌++◌, length, slice_index, ap, sym, subst, append-nil, append_assoc, ◌∙◌, pos, arith}
+use Rattle.std.proofs.Common.{◌≡◌, ℕ, ◌<◌, ◌⊎◌, inl, inr, List, [], ◌∷◌, ◌++◌, length, slice_index}
+use Rattle.std.proofs.Common.{ap, sym, subst, append-nil, append_assoc, ◌∙◌, pos, arith}
 use Rattle.std.specs.List.{All}
 use Rattle.std.proofs.lemmas.List.{length-map}
 use Rattle.std.proofs.lemmas.List.Elements.{All-head, All-tail}
@@ -23,14 +24,16 @@ use Rattle.tubes.specs.DrawnEdges.{AreStraights}
 use Rattle.delivery.specs.AreaPolygons.{HasHalfArc, IsSkippedOrArea, IsWrittenArea, AreWrittenAreas}
 
 -- of straights it is an area
-pub is_area : (d : Plan) → AreStraights d → HasHalfArc d ⊎ (IsPartition d × HasNoCut d) → IsPartition d × HasNoCut d
+pub is_area : (d : Plan) → AreStraights d → HasHalfArc d ⊎ (IsPartition d × HasNoCut d)
+    → IsPartition d × HasNoCut d
 is_area d s (inr a) = a
 is_area d s (inl (i, h)) = absurd (kinds (sym (s i h.there) ∙ h.kind))
   where
     kinds : kind.Straight ≡ kind.HalfArc → ⊥
     kinds e = cc
 
-pub object_polygons : (d : Plan) (f : FacedDrawing) (at : List Point) (faces : List ℕ) (os : List (List (List Point))) → HasNoCut d → IsFacedDrawing d f → at ≡ f.at.items → faces ≡ f.points.items
+pub object_polygons : (d : Plan) (f : FacedDrawing) (at : List Point) (faces : List ℕ) (os : List (List (List Point)))
+    → HasNoCut d → IsFacedDrawing d f → at ≡ f.at.items → faces ≡ f.points.items
     → AreChosen f.mesh at faces os → ArePolygonsOf d (edge d) os
 object_polygons d f at faces os whole is places given chosen = record {
   size = chosen.size ∙ (ap length given ∙ is.points);
@@ -43,7 +46,8 @@ object_polygons d f at faces os whole is places given chosen = record {
 }
 
 -- there are as many polygons as objects
-pub rings_size : (d : Plan) (polygons : List Polygon) → ArePolygonsOf d (edge d) (outlines polygons) → length polygons ≡ length d.points
+pub rings_size : (d : Plan) (polygons : List Polygon) → ArePolygonsOf d (edge d) (outlines polygons)
+    → length polygons ≡ length d.points
 rings_size d polygons h = sym (length-map polygons (λ (p : Polygon). shapes p.rings.items)) ∙ h.size
 
 -- ---- one area after the other
@@ -51,7 +55,8 @@ rings_size d polygons h = sym (length-map polygons (λ (p : Polygon). shapes p.r
 abbrev pub WrittenOn : Layout → List AreaOf → List Plan → List AreaOf → List Plan → List Plain → Type 0
 WrittenOn l all ds rest es ps = (qs : List Plain) → AreWrittenAreas l rest es qs → AreWrittenAreas l all ds (ps ++ qs)
 
-pub write_first : (l : Layout) (all rest : List AreaOf) (ds es : List Plan) (ps : List Plain) → rest ≡ all → es ≡ ds → ps ≡ [] → WrittenOn l all ds rest es ps
+pub write_first : (l : Layout) (all rest : List AreaOf) (ds es : List Plan) (ps : List Plain)
+    → rest ≡ all → es ≡ ds → ps ≡ [] → WrittenOn l all ds rest es ps
 write_first l all rest ds es ps e f n qs h =
     subst (λ (zs : List Plain). AreWrittenAreas l all ds (zs ++ qs)) (sym n) (subst (λ (bs : List AreaOf). AreWrittenAreas l bs ds qs) e (subst (λ (zs : List Plan). AreWrittenAreas l rest zs qs) f h))
 
@@ -63,14 +68,17 @@ write_on l all rest ds es a d as_ fs ps p more e f m h g qs k =
     let joined : ps ++ p ∷ qs ≡ more ++ qs = sym (append_assoc ps (p ∷ []) qs) ∙ ap (λ (zs : List Plain). zs ++ qs) (sym m) in
     subst (AreWrittenAreas l all ds) joined (g (p ∷ qs) whole)
 
-pub all_written : (l : Layout) (all rest : List AreaOf) (ds es : List Plan) (ps : List Plain) → rest ≡ [] → es ≡ [] → WrittenOn l all ds rest es ps → AreWrittenAreas l all ds ps
+pub all_written : (l : Layout) (all rest : List AreaOf) (ds es : List Plan) (ps : List Plain)
+    → rest ≡ [] → es ≡ [] → WrittenOn l all ds rest es ps → AreWrittenAreas l all ds ps
 all_written l all rest ds es ps e f g =
     let last : AreWrittenAreas l rest es [] = subst (λ (bs : List AreaOf). AreWrittenAreas l bs es []) (sym e) (subst (λ (zs : List Plan). AreWrittenAreas l [] zs []) (sym f) tt) in
     subst (AreWrittenAreas l all ds) (append-nil ps) (g [] last)
 
 -- drawings that can be written, one after the other
-pub area_first : (all : List Drawing) (d : Drawing) (rest : List Drawing) → all ≡ d ∷ rest → All IsSkippedOrArea (plans all) → IsSkippedOrArea (plan d)
+pub area_first : (all : List Drawing) (d : Drawing) (rest : List Drawing) → all ≡ d ∷ rest
+    → All IsSkippedOrArea (plans all) → IsSkippedOrArea (plan d)
 area_first all d rest e h = All-head IsSkippedOrArea (plan d) (plans rest) (subst (λ (ds : List Drawing). All IsSkippedOrArea (plans ds)) e h)
 
-pub area_rest : (all : List Drawing) (d : Drawing) (rest : List Drawing) → all ≡ d ∷ rest → All IsSkippedOrArea (plans all) → All IsSkippedOrArea (plans rest)
+pub area_rest : (all : List Drawing) (d : Drawing) (rest : List Drawing) → all ≡ d ∷ rest
+    → All IsSkippedOrArea (plans all) → All IsSkippedOrArea (plans rest)
 area_rest all d rest e h = All-tail IsSkippedOrArea (plan d) (plans rest) (subst (λ (ds : List Drawing). All IsSkippedOrArea (plans ds)) e h)

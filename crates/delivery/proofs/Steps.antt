@@ -5,7 +5,8 @@ use Rattle.ports.specs.Faults.{Rose}
 use Rattle.ports.specs.Files.{Files}
 use Rattle.itf_reader.specs.Forms.{Row}
 use Rattle.table_layout.specs.Layouts.{Layout}
-use Rattle.commands.specs.Commands.{Command, Task, task_of, Source, from_file, made, limit_of, model_of, further_files}
+use Rattle.commands.specs.Commands.{Command, Task, task_of, Source, from_file, made, limit_of}
+use Rattle.commands.specs.Commands.{model_of, further_files}
 use Rattle.delivery.specs.Deciding.{Decides, formless, formed}
 use Rattle.delivery.specs.Answers.{Passes}
 use Rattle.delivery.specs.Ending.{EndsAfter, EndsModel}
@@ -33,7 +34,8 @@ rose_before a b c h k = omega arith
 
 -- what is read is read still where more counts have risen
 module _ (held : Option Files) (near far : List ℕ → Type 0) (counted : (name : List ℕ) → near name → far name) where
-  reads_on : (s : Source) (g : Gathered) (P Q : List ℕ → Type 0) → ((text : List ℕ) → P text → Q text) → Reads held near s g P → Reads held far s g Q
+  reads_on : (s : Source) (g : Gathered) (P Q : List ℕ → Type 0)
+      → ((text : List ℕ) → P text → Q text) → Reads held near s g P → Reads held far s g Q
   reads_on (made text) g P Q f h = f text h
   reads_on (from_file n name) g P Q f h = elim h as (λ z. Reads held far (from_file n name) g Q) [
     | inl k ↦ inl (counted name k.0, k.1)
@@ -43,13 +45,15 @@ module _ (held : Option Files) (near far : List ℕ → Type 0) (counted : (name
     ]
   ]
 
-  all_on : (l : Layout) (before : List (List ℕ)) (ss : List Source) (g : Gathered) → ReadsAll held near l before ss g → ReadsAll held far l before ss g
+  all_on : (l : Layout) (before : List (List ℕ)) (ss : List Source) (g : Gathered)
+      → ReadsAll held near l before ss g → ReadsAll held far l before ss g
   all_on l before [] g h = h
   all_on l before (s ∷ ss) g h =
       reads_on s g (λ text. ReadsAll held near l (before ++ (text ∷ [])) ss g) (λ text. ReadsAll held far l (before ++ (text ∷ [])) ss g)
       (λ text k. all_on l (before ++ (text ∷ [])) ss g k) h
 
-  compiles_on : (t : Task) (text : List ℕ) (g : Gathered) → Compiles held near t text g → Compiles held far t text g
+  compiles_on : (t : Task) (text : List ℕ) (g : Gathered) → Compiles held near t text g
+      → Compiles held far t text g
   compiles_on t text g h = elim h as (λ z. Compiles held far t text g) [
     | inl k ↦ inl k
     | inr k ↦ inr (k.0, k.1, all_on k.0 [] (further_files t) g k.2)
@@ -58,16 +62,20 @@ module _ (held : Option Files) (near far : List ℕ → Type 0) (counted : (name
   gathers_on : (c : Command) (g : Gathered) → Gathers held near c g → Gathers held far c g
   gathers_on c g h = reads_on (model_of c) g (λ text. Compiles held near (task_of c) text g) (λ text. Compiles held far (task_of c) text g) (λ text k. compiles_on (task_of c) text g k) h
 
-  pub passes_on : (words : List (List ℕ)) (test : Task → Layout → List (List ℕ) → Type 0) → Passes held near words test → Passes held far words test
+  pub passes_on : (words : List (List ℕ)) (test : Task → Layout → List (List ℕ) → Type 0)
+      → Passes held near words test → Passes held far words test
   passes_on words test (c, l, ts, i, g, h) = (c, l, ts, i, gathers_on c (gathering.texts l ts) g, h)
 
-  pub ends_on : (t : Task) (l : Layout) (before : List (List ℕ)) (rest : List Source) (o : Outcome) → EndsAfter held near t l before rest o → EndsAfter held far t l before rest o
+  pub ends_on : (t : Task) (l : Layout) (before : List (List ℕ)) (rest : List Source) (o : Outcome)
+      → EndsAfter held near t l before rest o → EndsAfter held far t l before rest o
   ends_on t l before rest o h = record { gathered = h.gathered; reads = all_on l before rest h.gathered h.reads; amounts = h.amounts }
 
-  pub model_on : (t : Task) (text : List ℕ) (o : Outcome) → EndsModel held near t text o → EndsModel held far t text o
+  pub model_on : (t : Task) (text : List ℕ) (o : Outcome) → EndsModel held near t text o
+      → EndsModel held far t text o
   model_on t text o h = record { gathered = h.gathered; compiles = compiles_on t text h.gathered h.compiles; amounts = h.amounts }
 
-  pub decides_on : (words : List (List ℕ)) (o : Outcome) → Decides held near words o → Decides held far words o
+  pub decides_on : (words : List (List ℕ)) (o : Outcome) → Decides held near words o
+      → Decides held far words o
   decides_on words o (formless u e) = formless u e
   decides_on words o (formed c g i h a) = formed c g i (gathers_on c g h) a
 
@@ -79,21 +87,26 @@ not_read_ends T held counted f name TooLong o P a b e = (gathering.too_long f, i
 not_read_ends T held counted f name Memory o P a b e = absurd e
 
 -- and the transfer's, which is judged while it is read
-pub unread_ends : (held : Option Files) (counted : List ℕ → Type 0) (rose : Type 0) (name : List ℕ) (l : Layout) (r : FileRefusal) (o : Outcome) (P : Gathered → List ℕ → Type 0) → IsTransfer held name l rose (reading.Unread r) → (rose → counted name) → IsNotRead Transfer r o
+pub unread_ends : (held : Option Files) (counted : List ℕ → Type 0) (rose : Type 0) (name : List ℕ) (l : Layout) (r : FileRefusal) (o : Outcome) (P : Gathered → List ℕ → Type 0)
+    → IsTransfer held name l rose (reading.Unread r) → (rose → counted name)
+    → IsNotRead Transfer r o
     → (g : Gathered) × Reads held counted (from_file Transfer name) g (P g) × ((t : Task) → HasOutcome t g o)
 unread_ends held counted rose name l Failed o P h f e = (gathering.unread Transfer, inl (f h, refl), λ t. e)
 unread_ends held counted rose name l TooLong o P h f e = (gathering.too_long Transfer, inr (inl (h, refl)), λ t. e)
 unread_ends held counted rose name l Memory o P h f e = absurd e
 
 -- an outcome that its areas have no part in is one whatever is said of them
-pub ended_for : (l : Layout) (text : List ℕ) (Areas : List (List Row) → Outcome → Type 0) (o : Outcome) → IsJudgedBy l text (λ rows p. ⊥) o → IsJudgedBy l text Areas o
+pub ended_for : (l : Layout) (text : List ℕ) (Areas : List (List Row) → Outcome → Type 0) (o : Outcome)
+    → IsJudgedBy l text (λ rows p. ⊥) o → IsJudgedBy l text Areas o
 ended_for l text Areas o (at_fault n code h e) = at_fault n code h e
 ended_for l text Areas o (faulty rows t n e) = faulty rows t n e
 ended_for l text Areas o (oversized rows t k b e) = oversized rows t k b e
 ended_for l text Areas o (sound h) = absurd h.4
 
 -- the rows of a file that was not read are a transfer that was not read
-pub rows_unread : (K : Type 0) (Has : Keeps K) (held : Option Files) (name : List ℕ) (l : Layout) (rose : Type 0) (r : FileRefusal) → AreFileRows Has held name l rose (rows_reading.Unread r) → IsTransfer held name l rose (reading.Unread r)
+pub rows_unread : (K : Type 0) (Has : Keeps K) (held : Option Files) (name : List ℕ) (l : Layout) (rose : Type 0) (r : FileRefusal)
+    → AreFileRows Has held name l rose (rows_reading.Unread r)
+    → IsTransfer held name l rose (reading.Unread r)
 rows_unread K Has held name l rose Failed h = h
 rows_unread K Has held name l rose TooLong h = h
 rows_unread K Has held name l rose Memory h = absurd h

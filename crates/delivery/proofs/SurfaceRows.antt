@@ -1,7 +1,8 @@
 -- What is kept of the rows of a SURFACE's helper table has the boundaries of its objects.
 use Rattle.std.proofs.Common.{◌≡◌, inl, inr, ℕ, zero, suc, ◌+◌, ◌≤◌, Bool, true, false, List}
 use Rattle.std.proofs.Common.{[], ◌∷◌, None}
-use Rattle.std.proofs.Common.{◌++◌, length, map, drop, Option, Some, refl, sym, ap, ◌∙◌, subst, arith}
+use Rattle.std.proofs.Common.{◌++◌, length, map, drop, Option, Some, refl, sym, ap, ◌∙◌, subst}
+use Rattle.std.proofs.Common.{arith}
 use Rattle.std.proofs.Common.{if◌then◌else◌}
 use Rattle.std.specs.Prelude.{◌||◌, nat_lt, slice_get, slice_index_or, IfOk, Result}
 use Rattle.std.specs.List.{All, filter, flat_map, list_any, position_from}

@@ -1,5 +1,6 @@
 -- Filed certificates of the code, by their texts.
-use Rattle.std.proofs.Common.{◌≡◌, ℕ, ℤ, zero, suc, ◌+◌, ◌<◌, ◌≤◌, List, [], ◌∷◌, ◌++◌, length, map, take, get_or, Some, Ok, slice_get, refl, sym, ap, ◌∙◌, subst, arith}
+use Rattle.std.proofs.Common.{◌≡◌, ℕ, ℤ, zero, suc, ◌+◌, ◌<◌, ◌≤◌, List, [], ◌∷◌, ◌++◌, length, map}
+use Rattle.std.proofs.Common.{take, get_or, Some, Ok, slice_get, refl, sym, ap, ◌∙◌, subst, arith}
 use Rattle.std.specs.Option.{option_map}
 use Rattle.std.specs.List.{All, AllByRecursion, AllZip}
 use Rattle.std.proofs.lemmas.List.{map-append, take_more}
@@ -20,29 +21,35 @@ use Rattle.area_drawings.specs.Drawings.{area_tolerance}
 use Rattle.area_drawings.specs.KeptViews.{HasTolerance}
 use Rattle.reports.specs.AreaKinds.{plans}
 use Rattle.delivery.specs.AreaCertificates.{claims_of}
-use Rattle.delivery.specs.Verifying.{AreChecked, AreNamed, IsBadLine, IsBrokenAt, IsLineOf, IsProvedAt, IsVerification, AreFiledIn, all_proved, bad, broken, levels_of, missing}
+use Rattle.delivery.specs.Verifying.{AreChecked, AreNamed, IsBadLine, IsBrokenAt, IsLineOf}
+use Rattle.delivery.specs.Verifying.{IsProvedAt, IsVerification, AreFiledIn, all_proved, bad}
+use Rattle.delivery.specs.Verifying.{broken, levels_of, missing}
 use Rattle.reports.specs.Verifications.{Verification, proved, not_proved}
 use Rattle.delivery.proofs.Drawables.{all_at}
 use Rattle.delivery.proofs.Verifications.{certificates_of}
 
 -- an element of a list and of its view
-pub mapped_there : {X Y : Type 0} (f : X → Y) (xs : List X) (i : ℕ) (x : X) → i < length xs → x ≡ get_or xs i x → slice_get (map f xs) i ≡ Some (f x)
+pub mapped_there : {X Y : Type 0} (f : X → Y) (xs : List X) (i : ℕ) (x : X) → i < length xs
+    → x ≡ get_or xs i x → slice_get (map f xs) i ≡ Some (f x)
 mapped_there f xs i x w e = slice_get-map f xs i ∙ ap (option_map f) (slice_get_read xs (length xs) i x refl w e)
 
-pub paired_at : {X : Type 0} (P : X → Type 0) (xs : List X) (i : ℕ) (x : X) → AllByRecursion P xs → i < length xs → x ≡ get_or xs i x → P x
+pub paired_at : {X : Type 0} (P : X → Type 0) (xs : List X) (i : ℕ) (x : X) → AllByRecursion P xs
+    → i < length xs → x ≡ get_or xs i x → P x
 paired_at P [] i x h w e = absurd (omega (arith, w))
 paired_at P (y ∷ xs) zero x h w e = subst P (sym e) h.0
 paired_at P (y ∷ xs) (suc i) x h w e = paired_at P xs i x h.1 (omega (arith, w)) e
 
 -- ---- the text
-pub bad_line_named : (text : List ℕ) (e : CertFault) (line : ℕ) → IsFault text e → IsLineOf e line → IsBadLine text line
+pub bad_line_named : (text : List ℕ) (e : CertFault) (line : ℕ) → IsFault text e → IsLineOf e line
+    → IsBadLine text line
 bad_line_named text (faults.Line k) line (bad_line n h) q = bad n h q
 bad_line_named text (faults.Number k) line (bad_number n h) q = bad n h q
 bad_line_named text (faults.Short k) line (too_short n h) q = missing n h q
 bad_line_named text faults.Memory line out_of_memory q = absurd q
 
 -- a fault with a line is that of a text that spells no list
-pub no_list : (e : CertFault) (line : ℕ) (list : List Plain) → IsLineOf e line → Fails e (Ok list) → ⊥
+pub no_list : (e : CertFault) (line : ℕ) (list : List Plain) → IsLineOf e line → Fails e (Ok list)
+    → ⊥
 no_list (faults.Line k) line list q h = absurd (cc)
 no_list (faults.Number k) line list q h = absurd (cc)
 no_list (faults.Short k) line list q h = absurd (cc)
@@ -100,7 +107,8 @@ module _ (l : Layout) (ds : List Drawing) (cs : List Certificate) (k : ℕ) (d :
       }
 
 -- what holds before a number and at it
-pub one_further : (P : ℕ → Type 0) (n : ℕ) → ((j : ℕ) → j < n → P j) → P n → (j : ℕ) → j < n + 1 → P j
+pub one_further : (P : ℕ → Type 0) (n : ℕ) → ((j : ℕ) → j < n → P j) → P n → (j : ℕ) → j < n + 1
+    → P j
 one_further P n h p j w = by_lt j n (h j) (λ (x : n ≤ j). (let e : n ≡ j = omega (arith, w, x) in subst P e p))
 
 pub whole_take : {X : Type 0} (xs : List X) (n : ℕ) → n ≡ length xs → take n xs ≡ xs
@@ -113,11 +121,15 @@ abbrev level : Certificate → ℕ
 level c = c.level
 
 -- the levels of one certificate more
-pub levels_more : (cs : List Certificate) (n : ℕ) (c : Certificate) (old new : List ℕ) → n < length cs → new ≡ old ++ (get_or cs n c).level ∷ [] → old ≡ map (λ (x : Certificate). x.level) (take n cs) → new ≡ map (λ (x : Certificate). x.level) (take (n + 1) cs)
+pub levels_more : (cs : List Certificate) (n : ℕ) (c : Certificate) (old new : List ℕ)
+    → n < length cs → new ≡ old ++ (get_or cs n c).level ∷ []
+    → old ≡ map (λ (x : Certificate). x.level) (take n cs)
+    → new ≡ map (λ (x : Certificate). x.level) (take (n + 1) cs)
 levels_more cs n c old new w p q =
     p ∙ ap (λ (ns : List ℕ). ns ++ (get_or cs n c).level ∷ []) q ∙ sym (map-append level (take n cs) (get_or cs n c ∷ [])) ∙ ap (map level) (sym (take_more cs n c w))
 
-pub levels_view : (cs : List Certificate) → map (λ (c : Certificate). c.level) cs ≡ levels_of (views cs)
+pub levels_view : (cs : List Certificate)
+    → map (λ (c : Certificate). c.level) cs ≡ levels_of (views cs)
 levels_view [] = refl
 levels_view (c ∷ cs) = ap (λ (ns : List ℕ). c.level ∷ ns) (levels_view cs)
 

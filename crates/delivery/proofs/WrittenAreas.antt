@@ -1,6 +1,7 @@
 -- The polygons of areas: all answers are fine where an outcome is accepted, then there are polygons,
 -- and they are given by the drawings.
-use Rattle.std.proofs.Common.{◌≡◌, ◌⊎◌, inl, inr, ℕ, zero, suc, ℤ, ◌<◌, arith, Bool, true, false, ◌&&◌, ◌||◌, List, [], ◌∷◌, length, Some, refl, sym, ap, ◌∙◌, subst}
+use Rattle.std.proofs.Common.{◌≡◌, ◌⊎◌, inl, inr, ℕ, zero, suc, ℤ, ◌<◌, arith, Bool, true, false}
+use Rattle.std.proofs.Common.{◌&&◌, ◌||◌, List, [], ◌∷◌, length, Some, refl, sym, ap, ◌∙◌, subst}
 use Rattle.std.specs.List.{All}
 use Rattle.std.proofs.lemmas.List.{ext_get_or}
 use Rattle.std.proofs.lemmas.List.Elements.{All-nil, All-cons}
@@ -41,13 +42,17 @@ use Rattle.reports.specs.declared.status.Status.TheVariants as status
 use Rattle.reports.specs.declared.status.Status.TheVariants.{Accepted}
 use Rattle.table_layout.specs.Layouts.{AreaOf, Layout}
 use Rattle.tubes.specs.DrawnEdges.{AreAllStraight, AreStraights, nth_curve}
-use Rattle.delivery.specs.AreaAnswers.{IsAnswer, faulty, undecided, proved, fault_answer, AreAnswers}
-use Rattle.delivery.specs.AreaPolygons.{HasHalfArc, HasRun, IsSkippedOrArea, IsPolygonAnswer, objects_of, IsWrittenArea, AreWrittenAreas, ArePolygonsFor}
+use Rattle.delivery.specs.AreaAnswers.{IsAnswer, faulty, undecided, proved, fault_answer}
+use Rattle.delivery.specs.AreaAnswers.{AreAnswers}
+use Rattle.delivery.specs.AreaPolygons.{HasHalfArc, HasRun, IsSkippedOrArea, IsPolygonAnswer}
+use Rattle.delivery.specs.AreaPolygons.{objects_of, IsWrittenArea, AreWrittenAreas, ArePolygonsFor}
 use Rattle.delivery.specs.Certified.{AreBounded}
 use Rattle.delivery.specs.Judging.{lines_of, objects, AreJudged}
 use Rattle.delivery.specs.declared.polygon_answers.PolygonAnswer.{PolygonAnswer}
 use Rattle.delivery.specs.declared.polygon_answers.PolygonAnswer.TheVariants as polygon
-use Rattle.delivery.proofs.AreaLemmas.{answer_is_fault, answer_is_undecided, some_fault, surface_fault, some_undecided, by_answers, outcome_by, differ, neither, no_half_arc}
+use Rattle.delivery.proofs.AreaLemmas.{answer_is_fault, answer_is_undecided, some_fault}
+use Rattle.delivery.proofs.AreaLemmas.{surface_fault, some_undecided, by_answers, outcome_by}
+use Rattle.delivery.proofs.AreaLemmas.{differ, neither, no_half_arc}
 
 -- ---- answers that are fine
 both : (b c : Bool) → b ≡ true → c ≡ true → (b && c) ≡ true
@@ -63,7 +68,8 @@ fine_kind kind.Fault f u = absurd (cc)
 fine_kind kind.Undecided f u = absurd (cc)
 fine_kind kind.Fine f u = refl
 
-fine_answers : (xs : List AreaAnswer) → some_fault xs ≡ false → some_undecided xs ≡ false → are_fine xs ≡ true
+fine_answers : (xs : List AreaAnswer) → some_fault xs ≡ false → some_undecided xs ≡ false
+    → are_fine xs ≡ true
 fine_answers [] f u = refl
 fine_answers (x ∷ xs) f u =
     let n = neither (answer_is_fault x) (some_fault xs) f in
@@ -118,7 +124,8 @@ abbrev pub HasArcIn : List Curve → Type 0
 HasArcIn cs = (i : ℕ) × (i < length cs) × ((nth_curve cs i).kind ≡ curve_kind.HalfArc)
 
 -- a half arc is among the curves, or all are straights
-one_more : (c : Curve) (cs : List Curve) (k : CurveKind) → c.kind ≡ k → HasArcIn cs ⊎ AreAllStraight cs → HasArcIn (c ∷ cs) ⊎ AreAllStraight (c ∷ cs)
+one_more : (c : Curve) (cs : List Curve) (k : CurveKind) → c.kind ≡ k
+    → HasArcIn cs ⊎ AreAllStraight cs → HasArcIn (c ∷ cs) ⊎ AreAllStraight (c ∷ cs)
 one_more c cs curve_kind.HalfArc e r = inl (0, omega arith, e)
 one_more c cs curve_kind.Straight e (inl f) = inl (suc f.0, (let l = f.1 in omega (arith, l)), f.2)
 one_more c cs curve_kind.Straight e (inr s) = inr at
@@ -138,7 +145,8 @@ arc_or_straights d = elim (arc_or d.curves) as (λ y. HasHalfArc d ⊎ AreStraig
 ]
 
 module _ (grounds : StraightGrounds) (l : Layout) where
-  fine_plan : (a : AreaOf) (d : Plan) (x : AreaAnswer) (cs : List Plain) → is_fine (answer_kind x) ≡ true → IsAnswer l a d x cs → IsSkippedOrArea d
+  fine_plan : (a : AreaOf) (d : Plan) (x : AreaAnswer) (cs : List Plain)
+      → is_fine (answer_kind x) ≡ true → IsAnswer l a d x cs → IsSkippedOrArea d
   fine_plan a d x cs t (faulty f h e z) = differ (is_fine (answer_kind x)) t (ap (λ (y : AreaAnswer). is_fine (answer_kind y)) e ∙ fault_not_fine d f)
   fine_plan a d x cs t (undecided i j h e z) = differ (is_fine (answer_kind x)) t (ap (λ (y : AreaAnswer). is_fine (answer_kind y)) e)
   fine_plan a d x cs t (proved c n h e z) = elim (arc_or_straights d) as (λ y. IsSkippedOrArea d) [
@@ -146,7 +154,8 @@ module _ (grounds : StraightGrounds) (l : Layout) where
     | inr s ↦ (let own : h.g ≡ d = grounds (area_tolerance l a) d h.g c.bent h.origin s h.right in inr (subst IsPartition own h.area.parts, subst HasNoCut own h.area.uncut))
   ]
 
-  pub all_fine : (as_ : List AreaOf) (ds : List Plan) (xs : List AreaAnswer) (cs : List Plain) → AreAnswers l as_ ds xs cs → are_fine xs ≡ true → All IsSkippedOrArea ds
+  pub all_fine : (as_ : List AreaOf) (ds : List Plan) (xs : List AreaAnswer) (cs : List Plain)
+      → AreAnswers l as_ ds xs cs → are_fine xs ≡ true → All IsSkippedOrArea ds
   all_fine [] [] [] cs h f = All-nil IsSkippedOrArea
   all_fine [] [] (x ∷ xs) cs h f = absurd h
   all_fine [] (d ∷ ds) xs cs h f = absurd h
@@ -157,7 +166,8 @@ module _ (grounds : StraightGrounds) (l : Layout) where
       All-cons IsSkippedOrArea d ds (fine_plan a d x h.0 p.0 h.2) (all_fine as_ ds xs h.1 h.3 p.1)
 
 -- ---- polygons are given by the drawing
-one_list : (d : Plan) → HasRun d → (os ps : List (List (List Point))) → ArePolygonsOf d (edge d) os → ArePolygonsOf d (edge d) ps → os ≡ ps
+one_list : (d : Plan) → HasRun d → (os ps : List (List (List Point))) → ArePolygonsOf d (edge d) os
+    → ArePolygonsOf d (edge d) ps → os ≡ ps
 one_list d run os ps h k =
     ext_get_or [] os ps (h.size ∙ sym k.size)
     (λ i m.
@@ -166,13 +176,15 @@ one_list d run os ps h k =
     let q = k.each i n in
     one_polygon d (edge d) run.0 run.1 (object d i) p.order.m p.order.at p.order.f p.order.halves q.order.m q.order.at q.order.f q.order.halves (outline os i) (outline ps i) p.order.rings_are q.order.rings_are)
 
-one_answer : (d : Plan) (a b : PolygonAnswer) → IsPolygonAnswer d a → IsPolygonAnswer d b → objects_of d a ≡ objects_of d b
+one_answer : (d : Plan) (a b : PolygonAnswer) → IsPolygonAnswer d a → IsPolygonAnswer d b
+    → objects_of d a ≡ objects_of d b
 one_answer d polygon.Skipped polygon.Skipped h k = refl
 one_answer d polygon.Skipped (polygon.Rings ps) h k = absurd (no_half_arc d h.0 k.0 h.1)
 one_answer d (polygon.Rings os) polygon.Skipped h k = absurd (no_half_arc d k.0 h.0 k.1)
 one_answer d (polygon.Rings os) (polygon.Rings ps) h k = ap (λ (rings : List (List (List Point))). Some (with_lines d.points rings)) (one_list d h.1 (outlines os.items) (outlines ps.items) h.2 k.2)
 
-one_area : (l : Layout) (a : AreaOf) (d : Plan) (p q : polygons.Plain) → IsWrittenArea l a d p → IsWrittenArea l a d q → p ≡ q
+one_area : (l : Layout) (a : AreaOf) (d : Plan) (p q : polygons.Plain) → IsWrittenArea l a d p
+    → IsWrittenArea l a d q → p ≡ q
 one_area l a d p q h k =
     let t = h.topic ∙ sym k.topic in
     let n = h.table ∙ sym k.table in
@@ -180,7 +192,8 @@ one_area l a d p q h k =
     let o = h.objects ∙ one_answer d h.answer k.answer h.is_answer k.is_answer ∙ sym k.objects in
     λ i. record { topic = t i; table = n i; attribute = m i; objects = o i }
 
-pub one_text : (l : Layout) (as_ : List AreaOf) (ds : List Plan) (ps qs : List polygons.Plain) → AreWrittenAreas l as_ ds ps → AreWrittenAreas l as_ ds qs → ps ≡ qs
+pub one_text : (l : Layout) (as_ : List AreaOf) (ds : List Plan) (ps qs : List polygons.Plain)
+    → AreWrittenAreas l as_ ds ps → AreWrittenAreas l as_ ds qs → ps ≡ qs
 one_text l [] [] [] [] h k = refl
 one_text l [] [] [] (q ∷ qs) h k = absurd k
 one_text l [] [] (p ∷ ps) qs h k = absurd h
@@ -191,7 +204,8 @@ one_text l (a ∷ as_) (d ∷ ds) (p ∷ ps) [] h k = absurd k
 one_text l (a ∷ as_) (d ∷ ds) (p ∷ ps) (q ∷ qs) h k =
     ap (λ (x : polygons.Plain). x ∷ ps) (one_area l a d p q h.0 k.0) ∙ ap (λ (xs : List polygons.Plain). q ∷ xs) (one_text l as_ ds ps qs h.1 k.1)
 
-pub one_bounded : (l : Layout) (text : List ℕ) (ps qs : List polygons.Plain) → AreBounded l text ps → AreBounded l text qs → ps ≡ qs
+pub one_bounded : (l : Layout) (text : List ℕ) (ps qs : List polygons.Plain) → AreBounded l text ps
+    → AreBounded l text qs → ps ≡ qs
 one_bounded l text ps qs h k =
     let rows : h.rows ≡ k.rows = one_transfer (form_of l) (lines_of l text).lines h.rows k.rows h.rows_of.1 k.rows_of.1 in
     let plans : h.drawings ≡ k.drawings = same_drawings l k.rows l.areas h.drawings k.drawings (subst (λ (r : List (List Row)). AreDrawings l r h.drawings) rows h.drawn) k.drawn in
@@ -214,20 +228,24 @@ uncertified l objects target ss xs cs es ps f = by target.filed f
     by (filed.Trial n) e = absurd (cc)
 
 -- where certificates are filed, nothing is asked of polygons
-pub unbounded : (f : Filed) → (f ≡ filed.Polygons → ⊥) → (l : Layout) (ds : List Plan) (ps : List polygons.Plain) → ArePolygonsFor f l ds ps
+pub unbounded : (f : Filed) → (f ≡ filed.Polygons → ⊥)
+    → (l : Layout) (ds : List Plan) (ps : List polygons.Plain) → ArePolygonsFor f l ds ps
 unbounded filed.Polygons n l ds ps = absurd (n refl)
 unbounded filed.Certificates n l ds ps = tt
 unbounded (filed.Trial m) n l ds ps = tt
 
 -- polygons of all areas are such as are to be filed
-pub bounded_for : (f : Filed) → f ≡ filed.Polygons → (l : Layout) (ds : List Plan) (ps : List polygons.Plain) → AreWrittenAreas l l.areas ds ps → ArePolygonsFor f l ds ps
+pub bounded_for : (f : Filed) → f ≡ filed.Polygons
+    → (l : Layout) (ds : List Plan) (ps : List polygons.Plain) → AreWrittenAreas l l.areas ds ps
+    → ArePolygonsFor f l ds ps
 bounded_for f e l ds ps h = subst (λ (k : Filed). ArePolygonsFor k l ds ps) (sym e) h
 
 -- ---- what is judged
 module _ (target : Target) (l : Layout) (rows : List (List Row)) (o : Outcome) (n : ℕ) (ss : List SurfaceAnswer) (ds : List Plan) (xs : List AreaAnswer) (cs : List Plain) (ps : List polygons.Plain)
     (count : n ≡ objects rows) (told : AreSurfaceAnswers l rows (surfaces l) ss) (drawn : AreDrawings l rows ds) (answered : AreAnswers l l.areas ds xs cs) (spelt : AreSpelt cs) where
   -- where certificates are filed
-  pub judged_certified : (target.filed ≡ filed.Polygons → ⊥) → o ≡ areas_outcome l n target ss xs cs ps → AreJudged target l rows o
+  pub judged_certified : (target.filed ≡ filed.Polygons → ⊥)
+      → o ≡ areas_outcome l n target ss xs cs ps → AreJudged target l rows o
   judged_certified other e = record {
     surface_answers = ss;
     surfaces_answered = told;
@@ -243,7 +261,9 @@ module _ (target : Target) (l : Layout) (rows : List (List Row)) (o : Outcome) (
   }
 
   -- where polygons are filed
-  pub judged_bounded : (es : List Plain) → target.filed ≡ filed.Polygons → o ≡ areas_outcome l n target ss xs es ps → (are_fine xs ≡ true → AreWrittenAreas l l.areas ds ps) → AreJudged target l rows o
+  pub judged_bounded : (es : List Plain) → target.filed ≡ filed.Polygons
+      → o ≡ areas_outcome l n target ss xs es ps
+      → (are_fine xs ≡ true → AreWrittenAreas l l.areas ds ps) → AreJudged target l rows o
   judged_bounded es polygons_filed e written =
       let same : o ≡ areas_outcome l (objects rows) target ss xs cs ps = e ∙ uncertified l n target ss xs es cs ps polygons_filed ∙ ap (λ (k : ℕ). areas_outcome l k target ss xs cs ps) count in
       record {

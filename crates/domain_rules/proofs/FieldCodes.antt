@@ -12,11 +12,13 @@ use Rattle.itf_reader.specs.declared.findings.Code.{Code}
 use Rattle.itf_reader.specs.RowFindings.{field_code}
 use Rattle.itf_reader.specs.StrokeFindings.{code_of}
 
-pub none_found : (o : Option ValueFault) (a v : Value) → Ok v ≡ reading o a → None ≡ option_map code_of o
+pub none_found : (o : Option ValueFault) (a v : Value) → Ok v ≡ reading o a
+    → None ≡ option_map code_of o
 none_found None a v h = refl
 none_found (Some f) a v h = cc
 
-pub one_found : (o : Option ValueFault) (a : Value) (f : ValueFault) → Err f ≡ reading o a → Some (code_of f) ≡ option_map code_of o
+pub one_found : (o : Option ValueFault) (a : Value) (f : ValueFault) → Err f ≡ reading o a
+    → Some (code_of f) ≡ option_map code_of o
 one_found None a f h = cc
 one_found (Some g) a f h = cc
 
@@ -24,7 +26,8 @@ none_both : (o : Option ValueFault) → (option_map code_of o ≡ None) ↔ (o �
 none_both None = (λ h. refl, λ h. refl)
 none_both (Some f) = (λ h. cc, λ h. cc)
 
-pub meets_by : (form : Form) (codes : Codes) (words : List (List ℕ)) (r : Option Code) → r ≡ field_code form codes words → (r ≡ None) ↔ Meets form codes words
+pub meets_by : (form : Form) (codes : Codes) (words : List (List ℕ)) (r : Option Code)
+    → r ≡ field_code form codes words → (r ≡ None) ↔ Meets form codes words
 meets_by form codes words r e =
     let n = none_both (field_fault form codes words) in
     let x = exact form codes words in

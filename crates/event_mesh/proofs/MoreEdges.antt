@@ -1,11 +1,13 @@
 -- One edge more in a mesh of events.
-use Rattle.std.proofs.Common.{◌≡◌, ℕ, ◌+◌, ◌*◌, ◌%◌, List, slice_index, arith, ap, sym, ◌∙◌, refl, inl, inr, replicate}
+use Rattle.std.proofs.Common.{◌≡◌, ℕ, ◌+◌, ◌*◌, ◌%◌, List, slice_index, arith, ap, sym, ◌∙◌, refl}
+use Rattle.std.proofs.Common.{inl, inr, replicate}
 use Rattle.std.proofs.lemmas.Bool.{cases_lt}
 use Rattle.half_edges.specs.HalfEdges.{HalfEdges, size, origin_of, twin_of}
 use Rattle.half_edges.specs.Meshes.{with_edge, without_edges}
 use Rattle.half_edges.specs.Stars.{IsUnlinked, turned}
 use Rattle.half_edges.proofs.Twins.{twin_within}
-use Rattle.half_edges.proofs.Extending.{below_pair, pair_before, pair_first, pair_second, pair_length}
+use Rattle.half_edges.proofs.Extending.{below_pair, pair_before, pair_first, pair_second}
+use Rattle.half_edges.proofs.Extending.{pair_length}
 use Rattle.half_edges.proofs.Elsewhere.{unlinked_none}
 use Rattle.event_mesh.specs.Built.{IsMeshOf}
 
@@ -20,7 +22,8 @@ no_edges events low high = record {
   faces = refl;
 }
 
-unlinked_one_more : (m : HalfEdges) (low high : ℕ) → size m % 2 ≡ 0 → IsUnlinked m → IsUnlinked (with_edge m low high)
+unlinked_one_more : (m : HalfEdges) (low high : ℕ) → size m % 2 ≡ 0 → IsUnlinked m
+    → IsUnlinked (with_edge m low high)
 unlinked_one_more m low high even alone =
     let n = size m in
     let up : twin_of n ≡ n + 1 = omega (arith, even) in
@@ -33,7 +36,8 @@ unlinked_one_more m low high even alone =
           h (rw (pair_length m.next n _ _ refl) at l);
     }
 
-pub one_edge_more : (events : ℕ) (low high : List ℕ) (n : ℕ) (m : HalfEdges) (l h : ℕ) → l ≡ slice_index low n → h ≡ slice_index high n
+pub one_edge_more : (events : ℕ) (low high : List ℕ) (n : ℕ) (m : HalfEdges) (l h : ℕ)
+    → l ≡ slice_index low n → h ≡ slice_index high n
     → IsMeshOf events low high n m → IsMeshOf events low high (n + 1) (with_edge m l h)
 one_edge_more events low high n m l h el eh is =
     let long = is.size in

@@ -1,5 +1,6 @@
 -- The events of moves.
-use Rattle.std.proofs.Common.{◌≡◌, ℕ, suc, ◌<◌, List, [], ◌∷◌, length, map, take, get_or, refl, arith, ap, sym, ◌∙◌, subst}
+use Rattle.std.proofs.Common.{◌≡◌, ℕ, suc, ◌<◌, List, [], ◌∷◌, length, map, take, get_or, refl}
+use Rattle.std.proofs.Common.{arith, ap, sym, ◌∙◌, subst}
 use Rattle.std.proofs.Math.ListN.{get_or-map}
 use Rattle.std.proofs.Math.Seq.{take-suc}
 use Rattle.plane.specs.declared.kinds.Point.{Point}
@@ -19,7 +20,8 @@ points_of_moves now [] ps e = refl
 points_of_moves now (t ∷ table) [] e = absurd (omega (arith, e))
 points_of_moves now (t ∷ table) (p ∷ ps) e = ap (λ (pts : List Point). t.at ∷ pts) (points_of_moves (after (step_of now (move_at t p))) table ps (omega (arith, e)))
 
-pub move_event_at : (now : List ℕ) (table : List Timed) (ps : List ℕ) (k : ℕ) → length ps ≡ length table → k < length table
+pub move_event_at : (now : List ℕ) (table : List Timed) (ps : List ℕ) (k : ℕ)
+    → length ps ≡ length table → k < length table
     → IsEventAt (steps_from now (moves_at table ps)) k (get_or table k no_event).at
 move_event_at now table ps k e l =
     let steps = steps_from now (moves_at table ps) in
@@ -32,7 +34,8 @@ move_event_at now table ps k e l =
     }
 
 -- a good move is an event
-pub good_event : (m : ℕ) (E : ℕ → Edge) (vs : List Move) (k : ℕ) → k < length vs → AreGood m E [] (take (suc k) vs)
+pub good_event : (m : ℕ) (E : ℕ → Edge) (vs : List Move) (k : ℕ) → k < length vs
+    → AreGood m E [] (take (suc k) vs)
     → IsEvent m E (steps_from [] vs) k (get_or vs k no_move).starting (ending_at (live_from [] (take k vs)) (get_or vs k no_move))
 good_event m E vs k l good =
     let v = get_or vs k no_move in

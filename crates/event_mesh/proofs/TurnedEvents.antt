@@ -1,5 +1,6 @@
 -- Events are turned one after another.
-use Rattle.std.proofs.Common.{◌≡◌, ◌↔◌, ℕ, zero, suc, ℤ, ◌<◌, ◌≤◌, ◌+◌, ◌*◌, ◌^◌, List, length, slice_index, refl, arith, ap, sym, ◌∙◌, subst, inl, inr}
+use Rattle.std.proofs.Common.{◌≡◌, ◌↔◌, ℕ, zero, suc, ℤ, ◌<◌, ◌≤◌, ◌+◌, ◌*◌, ◌^◌, List, length}
+use Rattle.std.proofs.Common.{slice_index, refl, arith, ap, sym, ◌∙◌, subst, inl, inr}
 use Rattle.std.proofs.lemmas.Bool.{cases_lt}
 use Rattle.plane.specs.declared.kinds.Edge.{Edge}
 use Rattle.plane.specs.Lists.{Has}
@@ -11,7 +12,8 @@ use Rattle.plane.specs.Faces.Directions.{origin}
 use Rattle.plane.specs.Faces.FanNumbers.{fan_numbers, place_before}
 use Rattle.plane.specs.Faces.Replays.{replay}
 use Rattle.plane.proofs.ListLemmas.SortedLists.{has_at}
-use Rattle.plane.proofs.Turning.FanNumbers.{number_below, below_number, fan_is, numbers_once, numbers_in, in_numbers, next_number_is}
+use Rattle.plane.proofs.Turning.FanNumbers.{number_below, below_number, fan_is, numbers_once}
+use Rattle.plane.proofs.Turning.FanNumbers.{numbers_in, in_numbers, next_number_is}
 use Rattle.plane.proofs.Turning.Numbering.{number_half}
 use Rattle.half_edges.specs.HalfEdges.{HalfEdges, next_of, origin_of}
 use Rattle.half_edges.specs.Stars.{IsStar, IsLoose, IsLinked, center, before}
@@ -22,7 +24,8 @@ use Rattle.event_mesh.specs.Turned.{IsEvent, IsEventAt, IsTurned, IsTurnedAt, po
 use Rattle.event_mesh.proofs.Apart.{events_apart, point_has}
 
 -- ---- no event is turned yet
-pub begin : (E : ℕ → Edge) (steps : List Step) (events : ℕ) (low high : List ℕ) (mesh : HalfEdges) → IsMeshOf events low high (length low) mesh
+pub begin : (E : ℕ → Edge) (steps : List Step) (events : ℕ) (low high : List ℕ) (mesh : HalfEdges)
+    → IsMeshOf events low high (length low) mesh
     → ((e : ℕ) → e < length low → IsEventAt steps (slice_index low e) (E e).low)
     → ((e : ℕ) → e < length low → IsEventAt steps (slice_index high e) (E e).high)
     → IsTurned (length low) E steps mesh 0
@@ -33,7 +36,8 @@ begin E steps events low high mesh is lows highs = record {
   loose = λ h l b. is.unlinked.alone h l;
 }
   where
-    at : (h : Half) → edge_of h < length low → IsEventAt steps (origin_of mesh (number h)) (origin E h)
+    at : (h : Half) → edge_of h < length low
+        → IsEventAt steps (origin_of mesh (number h)) (origin E h)
     at (under e) l =
         let n : e + e ≡ 2 * e = omega arith in
         subst (λ (k : ℕ). IsEventAt steps k (E e).high) (sym (ap (λ (i : ℕ). origin_of mesh i) n ∙ is.highs e l)) (highs e l)
@@ -44,14 +48,16 @@ begin E steps events low high mesh is lows highs = record {
 module _ (m : ℕ) (E : ℕ → Edge) (steps : List Step) (events : IsEventList m E (points_of steps)) where
   -- ---- the half-edges of an event
   -- a number of an event's list is that of a half-edge that begins there
-  number_of : (k i : ℕ) → GoodStep m E (nth_step steps k) → i < length (fan_numbers (nth_step steps k))
+  number_of : (k i : ℕ) → GoodStep m E (nth_step steps k)
+      → i < length (fan_numbers (nth_step steps k))
       → (h : Half) × (edge_of h < m) × (origin E h ≡ (nth_step steps k).at) × (number h ≡ slice_index (fan_numbers (nth_step steps k)) i)
   number_of k i good l =
       let n = slice_index (fan_numbers (nth_step steps k)) i in
       let is = (fan_is m E (nth_step steps k) good (half_of n)).0 (numbers_in (nth_step steps k) i l) in
       (half_of n, is.0, is.1, number_half n)
 
-  filled : (k : ℕ) → k < length steps → GoodStep m E (nth_step steps k) → 0 < length (fan_numbers (nth_step steps k))
+  filled : (k : ℕ) → k < length steps → GoodStep m E (nth_step steps k)
+      → 0 < length (fan_numbers (nth_step steps k))
   filled k l good =
       let (e, b, q) = events.events (nth_step steps k).at (point_has steps k l) in
       elim q [
@@ -64,13 +70,16 @@ module _ (m : ℕ) (E : ℕ → Edge) (steps : List Step) (events : IsEventList 
     around = fan_numbers (nth_step steps k)
 
     -- a half-edge begins at the event's vertex exactly where it begins at its point
-    vertex_is : (h : Half) → edge_of h < m → origin E h ≡ (nth_step steps k).at → origin_of mesh (number h) ≡ k
+    vertex_is : (h : Half) → edge_of h < m → origin E h ≡ (nth_step steps k).at
+        → origin_of mesh (number h) ≡ k
     vertex_is h b e = let a = is.begins h b in events_apart steps (origin_of mesh (number h)) k events.rises a.within l (a.point ∙ e)
 
-    point_is : (h : Half) → edge_of h < m → origin_of mesh (number h) ≡ k → origin E h ≡ (nth_step steps k).at
+    point_is : (h : Half) → edge_of h < m → origin_of mesh (number h) ≡ k
+        → origin E h ≡ (nth_step steps k).at
     point_is h b e = sym (is.begins h b).point ∙ ap (λ (j : ℕ). (nth_step steps j).at) e
 
-    begins_there : (i : ℕ) → i < length (fan_numbers (nth_step steps k)) → origin_of mesh (slice_index (fan_numbers (nth_step steps k)) i) ≡ k
+    begins_there : (i : ℕ) → i < length (fan_numbers (nth_step steps k))
+        → origin_of mesh (slice_index (fan_numbers (nth_step steps k)) i) ≡ k
     begins_there i b = let (h, c, p, q) = number_of k i good b in ap (λ (j : ℕ). origin_of mesh j) (sym q) ∙ vertex_is h c p
 
     pub event_center : center mesh (fan_numbers (nth_step steps k)) ≡ k
@@ -125,7 +134,8 @@ module _ (m : ℕ) (E : ℕ → Edge) (steps : List Step) (events : IsEventList 
       origin_same : (h : ℕ) → origin_of new h ≡ origin_of mesh h
       origin_same h = ap (λ (xs : List ℕ). slice_index xs h) linked.origins
 
-      earlier : (j : ℕ) → j < k → IsTurnedAt mesh j (fan_numbers (nth_step steps j)) → IsTurnedAt new j (fan_numbers (nth_step steps j))
+      earlier : (j : ℕ) → j < k → IsTurnedAt mesh j (fan_numbers (nth_step steps j))
+          → IsTurnedAt new j (fan_numbers (nth_step steps j))
       earlier j l at = record {
         star = star_stays mesh new (fan_numbers (nth_step steps k)) (fan_numbers (nth_step steps j)) linked at.star;
         event = origin_same (slice_index (fan_numbers (nth_step steps j)) 0) ∙ at.event;
@@ -156,7 +166,8 @@ module _ (m : ℕ) (E : ℕ → Edge) (steps : List Step) (events : IsEventList 
                 turned_elsewhere mesh new (fan_numbers (nth_step steps k)) h star linked (λ e. omega (arith, a, b, c, e)) ∙ is.loose h (omega (arith, l, long)) (omega (arith, a, b));
           }
 
-    pub turned_more : (new : HalfEdges) → IsLinked mesh new (fan_of starting ending) → IsTurned m E steps new (suc k)
+    pub turned_more : (new : HalfEdges) → IsLinked mesh new (fan_of starting ending)
+        → IsTurned m E steps new (suc k)
     turned_more new linked = one_turned_more new (subst (λ (xs : List ℕ). IsLinked mesh new xs) (sym fan_same) linked)
 
 -- ---- all events are turned
@@ -164,7 +175,8 @@ before_same : (n k : ℕ) → before n k ≡ place_before n k
 before_same n zero = refl
 before_same n (suc k) = refl
 
-pub next_is : (w : ℤ) (m : ℕ) (E : ℕ → Edge) (steps : List Step) (mesh : HalfEdges) (h g : Half) → Run m E steps → IsTurned m E steps mesh (length steps) → edge_of h < m
+pub next_is : (w : ℤ) (m : ℕ) (E : ℕ → Edge) (steps : List Step) (mesh : HalfEdges) (h g : Half)
+    → Run m E steps → IsTurned m E steps mesh (length steps) → edge_of h < m
     → (next_of mesh (number h) ≡ number g) ↔ Next (replay w m E steps) h g
 next_is w m E steps mesh h g run is l =
     next_number_is w m E steps run (next_of mesh)

@@ -1,5 +1,6 @@
 -- A list that holds the half-edges over the starting edges and under the ending ones is the fan.
-use Rattle.std.proofs.Common.{◌≡◌, ℕ, suc, ◌<◌, ◌≤◌, ◌+◌, ◌-◌, List, ◌++◌, length, take, drop, subst, slice_index, arith, ap, sym, ◌∙◌, inl, inr}
+use Rattle.std.proofs.Common.{◌≡◌, ℕ, suc, ◌<◌, ◌≤◌, ◌+◌, ◌-◌, List, ◌++◌, length, take, drop}
+use Rattle.std.proofs.Common.{subst, slice_index, arith, ap, sym, ◌∙◌, inl, inr}
 use Rattle.std.proofs.lemmas.Bool.{cases_lt}
 use Rattle.std.proofs.lemmas.List.{ext_get_or, length-take-le}
 use Rattle.std.proofs.Math.Seq.{take-append_seam}
@@ -7,10 +8,12 @@ use Rattle.plane.specs.Faces.Replays.{no_step}
 use Rattle.plane.proofs.Turning.FanNumbers.{fan_length, over_at, under_at}
 use Rattle.event_mesh.specs.Fans.{fan_of, IsOver, IsUnder}
 
-pub fan_size : (starting ending : List ℕ) → length (fan_of starting ending) ≡ length starting + length ending
+pub fan_size : (starting ending : List ℕ)
+    → length (fan_of starting ending) ≡ length starting + length ending
 fan_size starting ending = fan_length (record no_step { starting = starting; ending = ending })
 
-pub fan_is : (starting ending before fan : List ℕ) → length fan ≡ length starting + length ending → IsOver starting before (length starting)
+pub fan_is : (starting ending before fan : List ℕ) → length fan ≡ length starting + length ending
+    → IsOver starting before (length starting)
     → ((i : ℕ) → i + length ending < length fan → slice_index fan i ≡ slice_index before i) → IsUnder ending fan (length ending) → fan ≡ fan_of starting ending
 fan_is starting ending before fan long over kept under =
     let s = record no_step { starting = starting; ending = ending } in
@@ -26,7 +29,8 @@ fan_is starting ending before fan long over kept under =
     ])
 
 -- the same, of a list of which only the first places were written
-pub fan_whole : (starting ending fan over under : List ℕ) → length starting + length ending ≤ length fan
+pub fan_whole : (starting ending fan over under : List ℕ)
+    → length starting + length ending ≤ length fan
     → length over ≡ length (take (length starting + length ending) fan)
     → length under ≡ length (take (length starting + length ending) (over ++ drop (length starting + length ending) fan))
     → IsOver starting over (length starting)

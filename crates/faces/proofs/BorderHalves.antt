@@ -1,5 +1,6 @@
 -- The half-edges at the border, cell by cell.
-use Rattle.std.proofs.Common.{◌≡◌, ◌⊎◌, inl, inr, ℕ, zero, suc, ◌<◌, ◌^◌, ◌↔◌, Option, Some, None, List, [], ◌∷◌, length, get_or, refl, sym, subst, arith}
+use Rattle.std.proofs.Common.{◌≡◌, ◌⊎◌, inl, inr, ℕ, zero, suc, ◌<◌, ◌^◌, ◌↔◌, Option, Some, None}
+use Rattle.std.proofs.Common.{List, [], ◌∷◌, length, get_or, refl, sym, subst, arith}
 use Rattle.std.specs.List.{flat_map}
 use Rattle.plane.specs.Lists.{Has}
 use Rattle.plane.specs.Runs.Gaps.{Gap}
@@ -13,7 +14,8 @@ has_border : (cells : List Gap) (h : ℕ) → AtBorder cells h → Has h (flat_m
 has_border cells h (lowest e (g, k, p, q) w) = has_flat border_halves cells g h k (subst (λ (l : Option ℕ). Has h (border_half l g.upper)) (sym p) (subst (λ (u : Option ℕ). Has h (border_half None u)) (sym q) (inl w)))
 has_border cells h (highest e (g, k, p, q) w) = has_flat border_halves cells g h k (subst (λ (l : Option ℕ). Has h (border_half l g.upper)) (sym p) (subst (λ (u : Option ℕ). Has h (border_half (Some e) u)) (sym q) (inl w)))
 
-of_cell : (cells : List Gap) (h : ℕ) (g : Gap) → Has g cells → (l u : Option ℕ) → g.lower ≡ l → g.upper ≡ u → Has h (border_half l u) → AtBorder cells h
+of_cell : (cells : List Gap) (h : ℕ) (g : Gap) → Has g cells → (l u : Option ℕ) → g.lower ≡ l
+    → g.upper ≡ u → Has h (border_half l u) → AtBorder cells h
 of_cell cells h g k None None p q w = absurd w
 of_cell cells h g k None (Some e) p q (inl w) = lowest e (g, k, p, q) w
 of_cell cells h g k None (Some e) p q (inr w) = absurd w
@@ -29,16 +31,19 @@ border_is cells h = (
 )
 
 -- ---- numbers of edges are small
-gap_has : (cells : List Cell) (k : ℕ) (c : Cell) → k < length cells → Has (gap_of (get_or cells k c)) (gaps_of cells)
+gap_has : (cells : List Cell) (k : ℕ) (c : Cell) → k < length cells
+    → Has (gap_of (get_or cells k c)) (gaps_of cells)
 gap_has [] k c l = absurd (omega (arith, l))
 gap_has (d ∷ cells) zero c l = inl refl
 gap_has (d ∷ cells) (suc k) c l = inr (gap_has cells k c (omega (arith, l)))
 
-small_side : (n : ℕ) (gs : List Gap) → AreKnown n gs → n < 2 ^ 32 → (g : Gap) → Has g gs → (o : Option ℕ) → (g.lower ≡ o) ⊎ (g.upper ≡ o) → IsSmall o
+small_side : (n : ℕ) (gs : List Gap) → AreKnown n gs → n < 2 ^ 32 → (g : Gap) → Has g gs
+    → (o : Option ℕ) → (g.lower ≡ o) ⊎ (g.upper ≡ o) → IsSmall o
 small_side n gs known few g h None e = tt
 small_side n gs known few g h (Some e) q = let k = known g e h q in omega (arith, k, few)
 
-pub small_cells : (n : ℕ) (cells : List Cell) → AreKnown n (gaps_of cells) → n < 2 ^ 32 → (k : ℕ) (c : Cell) → k < length cells → IsSmallCell (get_or cells k c)
+pub small_cells : (n : ℕ) (cells : List Cell) → AreKnown n (gaps_of cells) → n < 2 ^ 32
+    → (k : ℕ) (c : Cell) → k < length cells → IsSmallCell (get_or cells k c)
 small_cells n cells known few k c l =
     let h = gap_has cells k c l in
     let g = gap_of (get_or cells k c) in

@@ -1,5 +1,6 @@
 -- The half-edges at the border get face 0.
-use Rattle.std.proofs.Common.{◌≡◌, ℕ, ◌<◌, Option, Some, None, List, length, get_or, refl, arith, ap, sym, ◌∙◌, vec_capacity}
+use Rattle.std.proofs.Common.{◌≡◌, ℕ, ◌<◌, Option, Some, None, List, length, get_or, refl, arith}
+use Rattle.std.proofs.Common.{ap, sym, ◌∙◌, vec_capacity}
 use Rattle.plane.specs.Runs.Gaps.{Gap}
 use Rattle.half_edges.specs.HalfEdges.{HalfEdges, size}
 use Rattle.half_edges.specs.Meshes.{IsMesh}

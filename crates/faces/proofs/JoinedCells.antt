@@ -1,5 +1,6 @@
 -- The cells of joins join half-edges as those of which the joins are.
-use Rattle.std.proofs.Common.{◌≡◌, ◌⊎◌, inl, inr, ℕ, zero, suc, ◌*◌, ◌/◌, ◌%◌, ◌<◌, ◌≤◌, Some, None, List, length, map, refl, sym, ap, subst, ◌∙◌, arith}
+use Rattle.std.proofs.Common.{◌≡◌, ◌⊎◌, inl, inr, ℕ, zero, suc, ◌*◌, ◌/◌, ◌%◌, ◌<◌, ◌≤◌, Some, None}
+use Rattle.std.proofs.Common.{List, length, map, refl, sym, ap, subst, ◌∙◌, arith}
 use Rattle.half_edges.specs.HalfEdges.{over_of, under_of}
 use Rattle.plane.specs.Lists.{Has}
 use Rattle.plane.specs.Runs.Gaps.{Gap}
@@ -14,7 +15,8 @@ use Rattle.faces.proofs.PairCounts.{by_lt}
 use Rattle.faces.proofs.PlaneLaws.{has_append, has_back, has_front, has_map}
 
 -- ---- the cells of rows
-has_over : (p : Partners) (m e g : ℕ) → e < m → Has g (row_of p (over_of e)) → Has (cell_over e g) (cells_over p m)
+has_over : (p : Partners) (m e g : ℕ) → e < m → Has g (row_of p (over_of e))
+    → Has (cell_over e g) (cells_over p m)
 has_over p zero e g l k = absurd (omega (arith, l))
 has_over p (suc m) e g l k = by_lt e m
     (λ (b : e < m). has_back (cell_over e g) (map (cell_over m) (row_of p (over_of m))) (cells_over p m) (has_over p m e g b k))
@@ -22,7 +24,8 @@ has_over p (suc m) e g l k = by_lt e m
     has_front (cell_over e g) (map (cell_over m) (row_of p (over_of m))) (cells_over p m)
     (subst (λ (x : ℕ). Has (cell_over e g) (map (cell_over x) (row_of p (over_of x)))) q (has_map (cell_over e) g (row_of p (over_of e)) k)))
 
-over_has : (p : Partners) (m : ℕ) (c : Gap) → Has c (cells_over p m) → (e : ℕ) × (g : ℕ) × (e < m) × Has g (row_of p (over_of e)) × (cell_over e g ≡ c)
+over_has : (p : Partners) (m : ℕ) (c : Gap) → Has c (cells_over p m)
+    → (e : ℕ) × (g : ℕ) × (e < m) × Has g (row_of p (over_of e)) × (cell_over e g ≡ c)
 over_has p zero c h = absurd h
 over_has p (suc m) c h = elim (has_append c (map (cell_over m) (row_of p (over_of m))) (cells_over p m) h) [
   | inl k ↦ (let (g, w, q) = map_has (cell_over m) (row_of p (over_of m)) c k in (m, g, omega arith, w, q))
@@ -61,7 +64,8 @@ module _ (n : ℕ) (cells : List Gap) (j : Joins) (is : AreJoins n cells j) (eve
   abbrev Inner : Gap → Type 0
   Inner c = (l : ℕ) × (u : ℕ) × (c.lower ≡ Some l) × (c.upper ≡ Some u) × IsBetween cells (over_of l) (under_of u)
 
-  by_rest : (c : Gap) (h x : ℕ) → AtBorder cells h → h % 2 ≡ x → cell_beside x (h / 2) ≡ c → Lowest c ⊎ Highest c
+  by_rest : (c : Gap) (h x : ℕ) → AtBorder cells h → h % 2 ≡ x → cell_beside x (h / 2) ≡ c
+      → Lowest c ⊎ Highest c
   by_rest c h zero b r q =
       let e : h ≡ under_of (h / 2) = omega (arith, r) in
       inl (h / 2, ap (λ (g : Gap). g.lower) (sym q), ap (λ (g : Gap). g.upper) (sym q), subst (AtBorder cells) e b)
@@ -154,7 +158,8 @@ module _ (n : ℕ) (cells : List Gap) (j : Joins) (is : AreJoins n cells j) (eve
   ]
 
   -- ---- numbers
-  between_known : (l u : ℕ) → IsBetween cells (over_of l) (under_of u) → (over_of l < n) × (over_of u < n)
+  between_known : (l u : ℕ) → IsBetween cells (over_of l) (under_of u)
+      → (over_of l < n) × (over_of u < n)
   between_known l u b =
       let (c, k, x, y) = b.cell in
       let low = is.known c b.lower k (inl x) in
@@ -163,7 +168,8 @@ module _ (n : ℕ) (cells : List Gap) (j : Joins) (is : AreJoins n cells j) (eve
       let q = b.high_side in
       (omega (arith, low, p), omega (arith, high, q))
 
-  border_known : (h : ℕ) → AtBorder cells h → (e : ℕ) → (h ≡ under_of e) ⊎ (h ≡ over_of e) → over_of e < n
+  border_known : (h : ℕ) → AtBorder cells h → (e : ℕ) → (h ≡ under_of e) ⊎ (h ≡ over_of e)
+      → over_of e < n
   border_known h (lowest d (c, k, x, y) w) e (inl q) = let l = is.known c d k (inr y) in omega (arith, l, w, q)
   border_known h (lowest d (c, k, x, y) w) e (inr q) = absurd (omega (arith, w, q))
   border_known h (highest d (c, k, x, y) w) e (inl q) = absurd (omega (arith, w, q))
@@ -175,7 +181,8 @@ module _ (n : ℕ) (cells : List Gap) (j : Joins) (is : AreJoins n cells j) (eve
   all_known : AreKnown n (cells_of j)
   all_known c f h w = by_kind (kind c h) w
     where
-      by_kind : Inner c ⊎ (Lowest c ⊎ Highest c) → (c.lower ≡ Some f) ⊎ (c.upper ≡ Some f) → over_of f < n
+      by_kind : Inner c ⊎ (Lowest c ⊎ Highest c) → (c.lower ≡ Some f) ⊎ (c.upper ≡ Some f)
+          → over_of f < n
       by_kind (inl (l, u, p, q, b)) (inl e) = known_as f l (some_is c.lower l f p e) (between_known l u b).0
       by_kind (inl (l, u, p, q, b)) (inr e) = known_as f u (some_is c.upper u f q e) (between_known l u b).1
       by_kind (inr (inl (x, p, q, b))) (inl e) = none_some c.lower f p e

@@ -8,7 +8,9 @@ use Rattle.faces.specs.Joined.{AreKnown}
 use Rattle.faces.specs.Ranking.{AreRanks, LeadsIn, at_root, one_step}
 use Rattle.faces.proofs.Searches.{near_within}
 
-pub rank_least : (mesh : HalfEdges) (cells : List Gap) (roots ranks : List ℕ) → IsMesh mesh → AreKnown (size mesh) cells → AreRanks mesh cells roots ranks → (n h r : ℕ) → h < size mesh → Has r roots → LeadsIn mesh cells n h r → get_or ranks h 0 ≤ n
+pub rank_least : (mesh : HalfEdges) (cells : List Gap) (roots ranks : List ℕ) → IsMesh mesh
+    → AreKnown (size mesh) cells → AreRanks mesh cells roots ranks → (n h r : ℕ) → h < size mesh
+    → Has r roots → LeadsIn mesh cells n h r → get_or ranks h 0 ≤ n
 rank_least mesh cells roots ranks is known a _ _ _ l k (at_root n h r e q) =
     let z = (a.root r (subst (λ (i : ℕ). i < size mesh) q l)).1 k in
     let w = ap (λ (i : ℕ). get_or ranks i 0) q in
@@ -18,7 +20,9 @@ rank_least mesh cells roots ranks is known a _ _ _ l k (one_step n m h g r e s j
     let c = a.near h g l s in
     omega (arith, b, c, e)
 
-pub rank_reached : (mesh : HalfEdges) (cells : List Gap) (roots ranks : List ℕ) → IsMesh mesh → AreKnown (size mesh) cells → AreRanks mesh cells roots ranks → (n h : ℕ) → h < size mesh → get_or ranks h 0 ≡ n → (r : ℕ) × Has r roots × LeadsIn mesh cells n h r
+pub rank_reached : (mesh : HalfEdges) (cells : List Gap) (roots ranks : List ℕ) → IsMesh mesh
+    → AreKnown (size mesh) cells → AreRanks mesh cells roots ranks → (n h : ℕ) → h < size mesh
+    → get_or ranks h 0 ≡ n → (r : ℕ) × Has r roots × LeadsIn mesh cells n h r
 rank_reached mesh cells roots ranks is known a zero h l e = (h, (a.root h l).0 e, at_root zero h h refl refl)
 rank_reached mesh cells roots ranks is known a (suc n) h l e =
     let (g, s, q) = a.less h n l e in

@@ -1,5 +1,6 @@
 -- Links to the first half-edge whose rank is one less.
-use Rattle.std.proofs.Common.{◌≡◌, ℕ, zero, suc, ◌+◌, ◌-◌, ◌^◌, ◌<◌, ◌≤◌, min, ◌⊎◌, inl, inr, List, [], ◌∷◌, ◌++◌, length, get_or, refl, arith, ap, sym, ◌∙◌, subst}
+use Rattle.std.proofs.Common.{◌≡◌, ℕ, zero, suc, ◌+◌, ◌-◌, ◌^◌, ◌<◌, ◌≤◌, min, ◌⊎◌, inl, inr, List}
+use Rattle.std.proofs.Common.{[], ◌∷◌, ◌++◌, length, get_or, refl, arith, ap, sym, ◌∙◌, subst}
 use Rattle.std.proofs.lemmas.List.{length-append}
 use Rattle.plane.specs.Lists.{Has}
 use Rattle.plane.specs.Runs.Gaps.{Gap}
@@ -18,7 +19,8 @@ use Rattle.faces.proofs.Searches.{near_within}
 
 -- ---- the least of a row
 module _ (ranks row : List ℕ) (rank k least new g : ℕ) (l : k < length row) (at : g ≡ get_or row k 0) (all : (i : ℕ) → i < k → get_or ranks (get_or row i 0) 0 ≡ rank → least ≤ get_or row i 0) (is : (least ≡ 2 ^ 32 - 1) ⊎ HasRank ranks row rank least) where
-  pub least_put : get_or ranks g 0 ≡ rank → new ≡ min least g → ((i : ℕ) → i < k + 1 → get_or ranks (get_or row i 0) 0 ≡ rank → new ≤ get_or row i 0) × ((new ≡ 2 ^ 32 - 1) ⊎ HasRank ranks row rank new)
+  pub least_put : get_or ranks g 0 ≡ rank → new ≡ min least g
+      → ((i : ℕ) → i < k + 1 → get_or ranks (get_or row i 0) 0 ≡ rank → new ≤ get_or row i 0) × ((new ≡ 2 ^ 32 - 1) ⊎ HasRank ranks row rank new)
   least_put e m = (
     (λ i b q. by_lt i k
         (λ (c : i < k). let z = all i c q in omega (arith, z, m))
@@ -29,7 +31,8 @@ module _ (ranks row : List ℕ) (rank k least new g : ℕ) (l : k < length row) 
         inr (subst (λ (j : ℕ). HasRank ranks row rank j) (sym w) (subst (λ (j : ℕ). Has j row) (sym at) (has_at row k 0 l), e))),
   )
 
-  pub least_skip : (get_or ranks g 0 ≡ rank → ⊥) → new ≡ least → ((i : ℕ) → i < k + 1 → get_or ranks (get_or row i 0) 0 ≡ rank → new ≤ get_or row i 0) × ((new ≡ 2 ^ 32 - 1) ⊎ HasRank ranks row rank new)
+  pub least_skip : (get_or ranks g 0 ≡ rank → ⊥) → new ≡ least
+      → ((i : ℕ) → i < k + 1 → get_or ranks (get_or row i 0) 0 ≡ rank → new ≤ get_or row i 0) × ((new ≡ 2 ^ 32 - 1) ⊎ HasRank ranks row rank new)
   least_skip n m = (
     (λ i b q. by_lt i k
         (λ (c : i < k). let z = all i c q in omega (arith, z, m))
@@ -75,7 +78,8 @@ module _ (mesh : HalfEdges) (cells : List Gap) (is : IsMesh mesh) (known : AreKn
     pub across_link : IsLink mesh cells ranks h (link.Across least)
     across_link = by_found found
       where
-        by_found : (least ≡ 2 ^ 32 - 1) ⊎ HasRank ranks row (rank - 1) least → IsLink mesh cells ranks h (link.Across least)
+        by_found : (least ≡ 2 ^ 32 - 1) ⊎ HasRank ranks row (rank - 1) least
+            → IsLink mesh cells ranks h (link.Across least)
         by_found (inl z) =
             let (g, a, q) = some_across in
             let m = across_least g a q in
@@ -92,7 +96,8 @@ module _ (mesh : HalfEdges) (cells : List Gap) (is : IsMesh mesh) (known : AreKn
         )
 
 -- ---- one note more
-pub notes_next : (mesh : HalfEdges) (cells : List Gap) (ranks : List ℕ) (notes new : List HalfNote) (h : ℕ) (note : HalfNote) → length notes ≡ h → new ≡ notes ++ note ∷ [] → IsNote mesh cells ranks h note
+pub notes_next : (mesh : HalfEdges) (cells : List Gap) (ranks : List ℕ) (notes new : List HalfNote) (h : ℕ) (note : HalfNote)
+    → length notes ≡ h → new ≡ notes ++ note ∷ [] → IsNote mesh cells ranks h note
     → ((g : ℕ) → g < h → IsNote mesh cells ranks g (get_or notes g no_note)) → (length new ≡ h + 1) × ((g : ℕ) → g < h + 1 → IsNote mesh cells ranks g (get_or new g no_note))
 notes_next mesh cells ranks notes new h note s e n all = (
   (let z = ap length e ∙ length-append notes (note ∷ []) in omega (arith, z, s)),
@@ -101,7 +106,8 @@ notes_next mesh cells ranks notes new h note s e n all = (
       (λ (b : h ≤ g). let w : h ≡ g = omega (arith, l, b) in subst (λ (i : ℕ). IsNote mesh cells ranks i (get_or (notes ++ note ∷ []) i no_note)) w (subst (λ (x : HalfNote). IsNote mesh cells ranks h x) (sym (last notes h s)) n)))),
 )
   where
-    front : (xs : List HalfNote) (i : ℕ) → i < length xs → get_or (xs ++ note ∷ []) i no_note ≡ get_or xs i no_note
+    front : (xs : List HalfNote) (i : ℕ) → i < length xs
+        → get_or (xs ++ note ∷ []) i no_note ≡ get_or xs i no_note
     front [] i m = absurd (omega (arith, m))
     front (x ∷ xs) zero m = refl
     front (x ∷ xs) (suc i) m = front xs i (omega (arith, m))

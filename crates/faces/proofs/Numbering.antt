@@ -1,5 +1,7 @@
 -- Faces by number: the next half-edge without face gets the next number.
-use Rattle.std.proofs.Common.{◌≡◌, ℕ, zero, suc, ◌+◌, ◌<◌, ◌≤◌, max, ◌==◌, Bool, true, false, not, ◌⊎◌, inl, inr, List, [], ◌∷◌, ◌++◌, length, take, replicate, get_or, refl, arith, ap, sym, ◌∙◌, subst}
+use Rattle.std.proofs.Common.{◌≡◌, ℕ, zero, suc, ◌+◌, ◌<◌, ◌≤◌, max, ◌==◌, Bool, true, false, not}
+use Rattle.std.proofs.Common.{◌⊎◌, inl, inr, List, [], ◌∷◌, ◌++◌, length, take, replicate, get_or}
+use Rattle.std.proofs.Common.{refl, arith, ap, sym, ◌∙◌, subst}
 use Rattle.std.proofs.lemmas.Bool.Decides.{Decides-eqb}
 use Rattle.std.proofs.lemmas.List.{take_more}
 use Rattle.plane.specs.Lists.{Has}
@@ -9,14 +11,16 @@ use Rattle.half_edges.specs.Meshes.{AgreesAlong, IsMesh}
 use Rattle.faces.specs.declared.searching.Search.{Search}
 use Rattle.faces.specs.Joined.{AreKnown, AtBorder, Joined, across, back, onward, outside, same}
 use Rattle.faces.specs.Labels.{AreFaces, IsNumbered, greatest}
-use Rattle.faces.specs.Searching.{HasSearched, IsGiven, IsKept, IsNear, IsNumberedTo, IsSet, IsWaiting, unset}
+use Rattle.faces.specs.Searching.{HasSearched, IsGiven, IsKept, IsNear, IsNumberedTo, IsSet}
+use Rattle.faces.specs.Searching.{IsWaiting, unset}
 use Rattle.faces.proofs.PairCounts.{by_lt}
 use Rattle.faces.proofs.PairRows.{place_of}
 use Rattle.faces.proofs.PlaneLaws.{has_back, has_front}
 use Rattle.faces.proofs.Searches.{border_within, near_within}
 
 -- ---- lists of faces
-same_front : (xs ys : List ℕ) (k : ℕ) → length xs ≡ length ys → ((i : ℕ) → i < k → get_or xs i 0 ≡ get_or ys i 0) → take k xs ≡ take k ys
+same_front : (xs ys : List ℕ) (k : ℕ) → length xs ≡ length ys
+    → ((i : ℕ) → i < k → get_or xs i 0 ≡ get_or ys i 0) → take k xs ≡ take k ys
 same_front xs ys zero e f = refl
 same_front [] [] (suc k) e f = refl
 same_front [] (y ∷ ys) (suc k) e f = absurd (omega (arith, e))
@@ -27,7 +31,8 @@ greatest_append : (xs : List ℕ) (y : ℕ) → greatest (xs ++ y ∷ []) ≡ ma
 greatest_append [] y = omega arith
 greatest_append (x ∷ xs) y = let r = greatest_append xs y in omega (arith, r)
 
-greatest_next : (xs : List ℕ) (i : ℕ) → i < length xs → greatest (take (i + 1) xs) ≡ max (greatest (take i xs)) (get_or xs i 0)
+greatest_next : (xs : List ℕ) (i : ℕ) → i < length xs
+    → greatest (take (i + 1) xs) ≡ max (greatest (take i xs)) (get_or xs i 0)
 greatest_next xs i l = ap greatest (take_more xs i 0 l) ∙ greatest_append (take i xs) (get_or xs i 0)
 
 front_has : (xs : List ℕ) (i x : ℕ) → i < length xs → Has x (take i xs) → Has x (take (i + 1) xs)
@@ -65,7 +70,8 @@ module _ (mesh : HalfEdges) (cells : List Gap) (h count : ℕ) (old : Search) (n
         border = n.border;
       }
     where
-      by_zero : (f : ℕ) → get_or old.faces.items h 0 ≡ f → get_or old.faces.items h 0 < count → IsNumbered old.faces.items h
+      by_zero : (f : ℕ) → get_or old.faces.items h 0 ≡ f → get_or old.faces.items h 0 < count
+          → IsNumbered old.faces.items h
       by_zero zero e v = inl (inl e)
       by_zero (suc f) e v = inl (inr (n.seeds (get_or old.faces.items h 0) (omega (arith, e)) v))
 
@@ -95,7 +101,8 @@ module _ (mesh : HalfEdges) (cells : List Gap) (h count : ℕ) (old : Search) (n
           | inr q ↦ inr (e ∙ q ∙ ap (λ (xs : List ℕ). suc (greatest xs)) (sym t))
         ]
 
-    values_next : (g : ℕ) → g < size mesh → IsSet new.faces.items g → get_or new.faces.items g 0 < count + 1
+    values_next : (g : ℕ) → g < size mesh → IsSet new.faces.items g
+        → get_or new.faces.items g 0 < count + 1
     values_next g m k = elim (fine g m k) [
       | inl o ↦ (let v = n.values g m o in let e = kept g o in omega (arith, v, e))
       | inr q ↦ omega (arith, q)
@@ -143,13 +150,15 @@ module _ (mesh : HalfEdges) (cells : List Gap) (is : IsMesh mesh) (known : AreKn
   set_all = n.reached
 
   -- all that one step leads to has the same face
-  near_same : (g h : ℕ) → g < size mesh → IsNear mesh cells g h → get_or faces h 0 ≡ get_or faces g 0
+  near_same : (g h : ℕ) → g < size mesh → IsNear mesh cells g h
+      → get_or faces h 0 ≡ get_or faces g 0
   near_same g h l m =
       let (i, b, e) = place_of g s.queue.items (n.searched.searched.all g l (set_all g l)) in
       let c = n.searched.searched.closed i h (let d = n.done in omega (arith, b, d)) (subst (λ (x : ℕ). IsNear mesh cells x h) (sym e) m) in
       c ∙ ap (λ (x : ℕ). get_or faces x 0) e
 
-  joined_same : (g h : ℕ) → g < size mesh → Joined mesh cells g h → get_or faces g 0 ≡ get_or faces h 0
+  joined_same : (g h : ℕ) → g < size mesh → Joined mesh cells g h
+      → get_or faces g 0 ≡ get_or faces h 0
   joined_same _ _ l (same g h e) = ap (λ (x : ℕ). get_or faces x 0) e
   joined_same _ _ l (onward g f h b e j) = sym (near_same g f l (inl e)) ∙ joined_same f h (near_within mesh cells is known g f l (inl e)) j
   joined_same _ _ l (back g f h b e j) = near_same f g b (inl e) ∙ joined_same f h b j
@@ -215,12 +224,16 @@ has_none x n e = by_test (x == n) refl
     by_test false q = absurd (clash (sym (e ∙ ap not q)))
 
 -- no half-edge has the next number yet
-pub none_joins : (mesh : HalfEdges) (cells : List Gap) (h count : ℕ) (s : Search) → IsNumberedTo mesh cells h count s → count < unset → (g : ℕ) → g < size mesh → get_or s.faces.items g 0 ≡ count → Joined mesh cells h g
+pub none_joins : (mesh : HalfEdges) (cells : List Gap) (h count : ℕ) (s : Search)
+    → IsNumberedTo mesh cells h count s → count < unset → (g : ℕ) → g < size mesh
+    → get_or s.faces.items g 0 ≡ count → Joined mesh cells h g
 none_joins mesh cells h count s n f g l e = absurd (let v = n.values g l (λ (q : get_or s.faces.items g 0 ≡ unset). omega (arith, q, e, f)) in omega (arith, v, e))
 
-pub never_zero : (mesh : HalfEdges) (cells : List Gap) (h count : ℕ) (s : Search) {P : Type 0} → IsNumberedTo mesh cells h count s → count ≡ 0 → P
+pub never_zero : (mesh : HalfEdges) (cells : List Gap) (h count : ℕ) (s : Search) {P : Type 0}
+    → IsNumberedTo mesh cells h count s → count ≡ 0 → P
 never_zero mesh cells h count s n e = absurd (let c = n.count_is in omega (arith, c, e))
 
 -- what the numbers say along the way round a face
-pub faces_agree : (mesh : HalfEdges) (cells : List Gap) (faces : List ℕ) → IsMesh mesh → AreFaces mesh cells faces → AgreesAlong mesh.next faces
+pub faces_agree : (mesh : HalfEdges) (cells : List Gap) (faces : List ℕ) → IsMesh mesh
+    → AreFaces mesh cells faces → AgreesAlong mesh.next faces
 faces_agree mesh cells faces is f = record { same = λ h l. (f.one (next_of mesh h) h (is.next_within h l) l).1 (back (next_of mesh h) h h l refl (same h h refl)) }

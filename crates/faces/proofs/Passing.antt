@@ -1,27 +1,32 @@
 -- One half-edge of the queue is passed.
-use Rattle.std.proofs.Common.{◌≡◌, ℕ, zero, suc, ◌+◌, ◌<◌, ◌≤◌, ◌⊎◌, inl, inr, List, [], ◌∷◌, ◌++◌, length, get_or, refl, arith, ap, sym, ◌∙◌, subst, vec_capacity}
+use Rattle.std.proofs.Common.{◌≡◌, ℕ, zero, suc, ◌+◌, ◌<◌, ◌≤◌, ◌⊎◌, inl, inr, List, [], ◌∷◌, ◌++◌}
+use Rattle.std.proofs.Common.{length, get_or, refl, arith, ap, sym, ◌∙◌, subst, vec_capacity}
 use Rattle.std.proofs.lemmas.List.{get_or-set_same, get_or-set_other, length-append}
 use Rattle.plane.specs.Runs.Gaps.{Gap}
 use Rattle.half_edges.specs.HalfEdges.{HalfEdges, size}
 use Rattle.half_edges.specs.Meshes.{IsMesh}
 use Rattle.faces.specs.declared.searching.Search.{Search}
 use Rattle.faces.specs.Joined.{AreKnown, AtBorder, Joined}
-use Rattle.faces.specs.Searching.{AreWaiting, HasSearched, IsGiven, IsKept, IsNear, IsPassing, IsReached, IsSearched, IsSet, IsWaiting, unset}
+use Rattle.faces.specs.Searching.{AreWaiting, HasSearched, IsGiven, IsKept, IsNear, IsPassing}
+use Rattle.faces.specs.Searching.{IsReached, IsSearched, IsSet, IsWaiting, unset}
 use Rattle.faces.proofs.PairCounts.{by_lt, same_or}
 use Rattle.faces.proofs.PlaneLaws.{has_at}
 use Rattle.faces.proofs.PairRows.{place_of}
-use Rattle.faces.proofs.Searches.{joined_back, joined_more, kept_put, near_back, near_joined, near_within, room_left, searched_put, waiting_put}
+use Rattle.faces.proofs.Searches.{joined_back, joined_more, kept_put, near_back, near_joined}
+use Rattle.faces.proofs.Searches.{near_within, room_left, searched_put, waiting_put}
 
 pub kept_all : (a b d : List ℕ) → IsKept a b → IsKept b d → IsKept a d
 kept_all a b d f g h k = g h (λ (e : get_or b h 0 ≡ unset). k (sym (f h k) ∙ e)) ∙ f h k
 
-pub given_all : (face : ℕ) (a b d : List ℕ) → IsGiven face a b → IsGiven face b d → IsKept b d → IsGiven face a d
+pub given_all : (face : ℕ) (a b d : List ℕ) → IsGiven face a b → IsGiven face b d → IsKept b d
+    → IsGiven face a d
 given_all face a b d f g k h s = elim (g h s) [
   | inl m ↦ elim (f h m) [ inl o ↦ inl o | inr e ↦ inr (k h m ∙ e) ]
   | inr e ↦ inr e
 ]
 
-pub reached_given : (h face : ℕ) (old new : Search) → IsReached h face old new → IsGiven face old.faces.items new.faces.items
+pub reached_given : (h face : ℕ) (old new : Search) → IsReached h face old new
+    → IsGiven face old.faces.items new.faces.items
 reached_given h face old new (inl q) g s = elim (same_or g h) [
   | inl e ↦ inr (by_length (by_lt h (length old.faces.items) (λ (l : h < length old.faces.items). inl l) (λ (l : length old.faces.items ≤ h). inr l)) e)
   | inr n ↦ inl (λ (e : get_or old.faces.items g 0 ≡ unset). s (ap (λ (xs : List ℕ). get_or xs g 0) q.faces ∙ get_or-set_other old.faces.items h g face 0 n ∙ e))
@@ -32,7 +37,8 @@ reached_given h face old new (inl q) g s = elim (same_or g h) [
     past (x ∷ xs) zero l = absurd (omega (arith, l))
     past (x ∷ xs) (suc i) l = past xs i (omega (arith, l))
 
-    by_length : (h < length old.faces.items) ⊎ (length old.faces.items ≤ h) → g ≡ h → get_or new.faces.items g 0 ≡ face
+    by_length : (h < length old.faces.items) ⊎ (length old.faces.items ≤ h) → g ≡ h
+        → get_or new.faces.items g 0 ≡ face
     by_length (inl l) e = ap (λ (i : ℕ). get_or new.faces.items i 0) e ∙ ap (λ (xs : List ℕ). get_or xs h 0) q.faces ∙ get_or-set_same old.faces.items h face 0 l
     by_length (inr l) e = absurd (let z = past old.faces.items h l in let f = q.free in omega (arith, z, f))
 reached_given h face old new (inr q) g s = inl (λ (e : get_or old.faces.items g 0 ≡ unset). s (ap (λ (xs : List ℕ). get_or xs g 0) q.faces ∙ e))
@@ -41,7 +47,8 @@ reached_given h face old new (inr q) g s = inl (λ (e : get_or old.faces.items g
 module _ (mesh : HalfEdges) (cells : List Gap) (is : IsMesh mesh) (known : AreKnown (size mesh) cells) (h face : ℕ) (l : h < size mesh) (f : face < unset) (old new : Search) (s : HasSearched mesh cells old)
     (joins : (g : ℕ) → g < size mesh → get_or old.faces.items g 0 ≡ face → Joined mesh cells h g) (out : face ≡ 0 → (t : ℕ) × Joined mesh cells h t × AtBorder cells t)
     (r : IsReached h face old new) (p : new.passed ≡ old.passed) (c : vec_capacity new.queue ≡ vec_capacity old.queue) where
-  searched_next : IsReached h face old new → IsSearched mesh cells new.faces.items new.queue.items new.passed
+  searched_next : IsReached h face old new
+      → IsSearched mesh cells new.faces.items new.queue.items new.passed
   searched_next (inl q) =
       subst (λ (n : ℕ). IsSearched mesh cells new.faces.items new.queue.items n) (sym p)
       (subst (λ (xs : List ℕ). IsSearched mesh cells new.faces.items xs old.passed) (sym q.queue)
@@ -76,15 +83,19 @@ module _ (mesh : HalfEdges) (cells : List Gap) (is : IsMesh mesh) (known : AreKn
   pub reached_waiting : IsWaiting old face → IsWaiting new face
   reached_waiting = waiting_next r
 
-  put_face : IsReached h face old new → (IsSet old.faces.items h → get_or old.faces.items h 0 ≡ face) → get_or new.faces.items h 0 ≡ face
+  put_face : IsReached h face old new
+      → (IsSet old.faces.items h → get_or old.faces.items h 0 ≡ face)
+      → get_or new.faces.items h 0 ≡ face
   put_face (inl q) k = ap (λ (xs : List ℕ). get_or xs h 0) q.faces ∙ get_or-set_same old.faces.items h face 0 (let z = s.searched.sized in omega (arith, l, z))
   put_face (inr q) k = ap (λ (xs : List ℕ). get_or xs h 0) q.faces ∙ k q.has
 
   -- the half-edge has the face now, if it had no other
-  pub reached_face : (IsSet old.faces.items h → get_or old.faces.items h 0 ≡ face) → get_or new.faces.items h 0 ≡ face
+  pub reached_face : (IsSet old.faces.items h → get_or old.faces.items h 0 ≡ face)
+      → get_or new.faces.items h 0 ≡ face
   reached_face = put_face r
 
-  queue_next : IsReached h face old new → (i : ℕ) → i < length old.queue.items → (i < length new.queue.items) × (get_or new.queue.items i 0 ≡ get_or old.queue.items i 0)
+  queue_next : IsReached h face old new → (i : ℕ) → i < length old.queue.items
+      → (i < length new.queue.items) × (get_or new.queue.items i 0 ≡ get_or old.queue.items i 0)
   queue_next (inl q) i m = (
     (let z = length-append old.queue.items (h ∷ []) in let e = ap length q.queue in omega (arith, z, e, m)),
     ap (λ (xs : List ℕ). get_or xs i 0) q.queue ∙ front old.queue.items i m,
@@ -96,7 +107,8 @@ module _ (mesh : HalfEdges) (cells : List Gap) (is : IsMesh mesh) (known : AreKn
       front (x ∷ xs) (suc i) m = front xs i (omega (arith, m))
   queue_next (inr q) i m = ((let e = ap length q.queue in omega (arith, e, m)), ap (λ (xs : List ℕ). get_or xs i 0) q.queue)
 
-  pub reached_queue : (i : ℕ) → i < length old.queue.items → (i < length new.queue.items) × (get_or new.queue.items i 0 ≡ get_or old.queue.items i 0)
+  pub reached_queue : (i : ℕ) → i < length old.queue.items
+      → (i < length new.queue.items) × (get_or new.queue.items i 0 ≡ get_or old.queue.items i 0)
   reached_queue = queue_next r
 
 -- ---- one that a step leads to from the half-edge that is passed
@@ -113,7 +125,8 @@ module _ (mesh : HalfEdges) (cells : List Gap) (is : IsMesh mesh) (known : AreKn
   pub passing_sized : length s.faces.items ≡ size mesh
   passing_sized = p.searched.searched.sized
 
-  pub passing_room : (g : ℕ) → g < size mesh → get_or s.faces.items g 0 ≡ unset → length s.queue.items < vec_capacity s.queue
+  pub passing_room : (g : ℕ) → g < size mesh → get_or s.faces.items g 0 ≡ unset
+      → length s.queue.items < vec_capacity s.queue
   passing_room g l e = let r = room_left mesh cells is known s.faces.items s.queue.items s.passed g p.searched.searched l e in let c = p.searched.room in omega (arith, r, c)
 
   module _ (g : ℕ) (n : IsNear mesh cells h g) where
@@ -158,7 +171,8 @@ module _ (mesh : HalfEdges) (cells : List Gap) (is : IsMesh mesh) (known : AreKn
 
   -- all that a step leads to have the face
   module _ (all : (g : ℕ) → IsNear mesh cells h g → get_or s.faces.items g 0 ≡ face) (new : Search) (ef : new.faces.items ≡ s.faces.items) (eq : new.queue.items ≡ s.queue.items) (ec : vec_capacity new.queue ≡ vec_capacity s.queue) (ep : new.passed ≡ s.passed + 1) where
-    closed_next : (i x : ℕ) → i < s.passed + 1 → IsNear mesh cells (get_or s.queue.items i 0) x → get_or s.faces.items x 0 ≡ get_or s.faces.items (get_or s.queue.items i 0) 0
+    closed_next : (i x : ℕ) → i < s.passed + 1 → IsNear mesh cells (get_or s.queue.items i 0) x
+        → get_or s.faces.items x 0 ≡ get_or s.faces.items (get_or s.queue.items i 0) 0
     closed_next i x l n = by_lt i s.passed
         (λ (b : i < s.passed). p.searched.searched.closed i x b n)
         (λ (b : s.passed ≤ i).

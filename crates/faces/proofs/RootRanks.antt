@@ -1,5 +1,6 @@
 -- The roots get rank 0, and what is so of ranks when the search ends.
-use Rattle.std.proofs.Common.{◌≡◌, ℕ, zero, suc, ◌+◌, ◌<◌, ◌≤◌, inl, inr, List, [], ◌∷◌, length, get_or, replicate, refl, arith, ap, sym, ◌∙◌, subst, vec_capacity}
+use Rattle.std.proofs.Common.{◌≡◌, ℕ, zero, suc, ◌+◌, ◌<◌, ◌≤◌, inl, inr, List, [], ◌∷◌, length}
+use Rattle.std.proofs.Common.{get_or, replicate, refl, arith, ap, sym, ◌∙◌, subst, vec_capacity}
 use Rattle.std.proofs.lemmas.List.{get_or-set_other}
 use Rattle.plane.specs.Lists.{Has}
 use Rattle.plane.specs.Runs.Gaps.{Gap}
@@ -7,7 +8,8 @@ use Rattle.half_edges.specs.HalfEdges.{HalfEdges, size}
 use Rattle.half_edges.specs.Meshes.{IsMesh}
 use Rattle.faces.specs.declared.ranks.Ranks.{Ranks}
 use Rattle.faces.specs.Joined.{AreKnown}
-use Rattle.faces.specs.Ranking.{AreRanks, AreRooted, HasRankMost, HasRanked, IsRankReached, IsRanked, Leads, step, there}
+use Rattle.faces.specs.Ranking.{AreRanks, AreRooted, HasRankMost, HasRanked, IsRankReached}
+use Rattle.faces.specs.Ranking.{IsRanked, Leads, step, there}
 use Rattle.faces.specs.Searching.{IsKept, IsNear, IsSet, unset}
 use Rattle.faces.proofs.Numbering.{none_replicated}
 use Rattle.faces.proofs.PairCounts.{by_lt, same_or}
@@ -21,7 +23,9 @@ replicated_size : (n x : ℕ) → length (replicate n x) ≡ n
 replicated_size zero x = refl
 replicated_size (suc n) x = ap (λ (k : ℕ). suc k) (replicated_size n x)
 
-pub ranked_begun : (mesh : HalfEdges) (cells : List Gap) (s : Ranks) → s.ranks.items ≡ replicate (size mesh) unset → s.queue.items ≡ [] → s.passed ≡ 0 → size mesh ≤ vec_capacity s.queue → HasRanked mesh cells s
+pub ranked_begun : (mesh : HalfEdges) (cells : List Gap) (s : Ranks)
+    → s.ranks.items ≡ replicate (size mesh) unset → s.queue.items ≡ [] → s.passed ≡ 0
+    → size mesh ≤ vec_capacity s.queue → HasRanked mesh cells s
 ranked_begun mesh cells s e q p room = record {
   ranked = subst (λ (n : ℕ). IsRanked mesh cells s.ranks.items s.queue.items n) (sym p)
       (subst (λ (xs : List ℕ). IsRanked mesh cells s.ranks.items xs 0) (sym q) (subst (λ (xs : List ℕ). IsRanked mesh cells xs [] 0) (sym e) begun));
@@ -53,10 +57,12 @@ module _ (mesh : HalfEdges) (cells : List Gap) (s new : Ranks) (ranked : HasRank
   top : (i : ℕ) → i < length s.queue.items → get_or s.ranks.items (get_or s.queue.items i 0) 0 ≤ 0
   top i m = let e = all (get_or s.queue.items i 0) (has_at s.queue.items i 0 m) in omega (arith, e)
 
-  flat : s.passed < length s.queue.items → 0 ≤ suc (get_or s.ranks.items (get_or s.queue.items s.passed 0) 0)
+  flat : s.passed < length s.queue.items
+      → 0 ≤ suc (get_or s.ranks.items (get_or s.queue.items s.passed 0) 0)
   flat m = omega arith
 
-  parent : (k : ℕ) → 0 ≡ suc k → (g : ℕ) × IsNear mesh cells h g × IsSet s.ranks.items g × (get_or s.ranks.items g 0 ≡ k)
+  parent : (k : ℕ) → 0 ≡ suc k
+      → (g : ℕ) × IsNear mesh cells h g × IsSet s.ranks.items g × (get_or s.ranks.items g 0 ≡ k)
   parent k e = absurd (omega (arith, e))
 
   pub root_ranked : HasRanked mesh cells new
@@ -80,12 +86,16 @@ module _ (mesh : HalfEdges) (cells : List Gap) (s new : Ranks) (ranked : HasRank
       ]
       by_reach (inr x) = still_faced 0 s.ranks.items new.ranks.items g root_kept (omega arith) (all g (subst (λ (xs : List ℕ). Has g xs) x.queue k))
 
-  pub roots_next : (roots : List ℕ) (k : ℕ) → get_or roots k 0 ≡ h → ((i : ℕ) → i < k → get_or s.ranks.items (get_or roots i 0) 0 ≡ 0) → (i : ℕ) → i < k + 1 → get_or new.ranks.items (get_or roots i 0) 0 ≡ 0
+  pub roots_next : (roots : List ℕ) (k : ℕ) → get_or roots k 0 ≡ h
+      → ((i : ℕ) → i < k → get_or s.ranks.items (get_or roots i 0) 0 ≡ 0) → (i : ℕ) → i < k + 1
+      → get_or new.ranks.items (get_or roots i 0) 0 ≡ 0
   roots_next roots k e f i m = by_lt i k
       (λ (b : i < k). still_faced 0 s.ranks.items new.ranks.items (get_or roots i 0) root_kept (omega arith) (f i b))
       (λ (b : k ≤ i). let w : k ≡ i = omega (arith, m, b) in subst (λ (j : ℕ). get_or new.ranks.items (get_or roots j 0) 0 ≡ 0) w (ap (λ (j : ℕ). get_or new.ranks.items j 0) e ∙ root_rank))
 
-  pub zero_next : (roots : List ℕ) → Has h roots → ((g : ℕ) → g < size mesh → IsSet s.ranks.items g → Has g roots) → (g : ℕ) → g < size mesh → IsSet new.ranks.items g → Has g roots
+  pub zero_next : (roots : List ℕ) → Has h roots
+      → ((g : ℕ) → g < size mesh → IsSet s.ranks.items g → Has g roots) → (g : ℕ) → g < size mesh
+      → IsSet new.ranks.items g → Has g roots
   zero_next roots has f g m k = by_reach q
     where
       by_reach : IsRankReached h 0 s new → Has g roots
@@ -95,14 +105,16 @@ module _ (mesh : HalfEdges) (cells : List Gap) (s new : Ranks) (ranked : HasRank
       ]
       by_reach (inr x) = f g m (λ (z : get_or s.ranks.items g 0 ≡ unset). k (ap (λ (xs : List ℕ). get_or xs g 0) x.ranks ∙ z))
 
-pub root_room : (mesh : HalfEdges) (cells : List Gap) (s : Ranks) → HasRanked mesh cells s → (h : ℕ) → h < size mesh → get_or s.ranks.items h 0 ≡ unset → length s.queue.items < vec_capacity s.queue
+pub root_room : (mesh : HalfEdges) (cells : List Gap) (s : Ranks) → HasRanked mesh cells s → (h : ℕ)
+    → h < size mesh → get_or s.ranks.items h 0 ≡ unset → length s.queue.items < vec_capacity s.queue
 root_room mesh cells s r h l e = let q = rank_room mesh cells s.ranks.items s.queue.items s.passed h r.ranked l e in let c = r.room in omega (arith, q, c)
 
 -- ---- at the end
 module _ (mesh : HalfEdges) (cells : List Gap) (is : IsMesh mesh) (known : AreKnown (size mesh) cells) (roots : List ℕ) (rooted : AreRooted mesh cells roots) (within : (h : ℕ) → Has h roots → h < size mesh) (s : Ranks) (ranked : HasRanked mesh cells s) (done : length s.queue.items ≤ s.passed)
     (root : (h : ℕ) → Has h roots → get_or s.ranks.items h 0 ≡ 0) (zero_is : (h : ℕ) → h < size mesh → get_or s.ranks.items h 0 ≡ 0 → Has h roots) where
   -- a half-edge near one that has a rank has one too, of one more at most
-  near_set : (g h : ℕ) → g < size mesh → IsNear mesh cells g h → IsSet s.ranks.items g → HasRankMost s.ranks.items h (suc (get_or s.ranks.items g 0))
+  near_set : (g h : ℕ) → g < size mesh → IsNear mesh cells g h → IsSet s.ranks.items g
+      → HasRankMost s.ranks.items h (suc (get_or s.ranks.items g 0))
   near_set g h l n k =
       let (i, b, e) = place_of g s.queue.items (ranked.ranked.all g l k) in
       let c = ranked.ranked.closed i h (omega (arith, b, done)) (subst (λ (x : ℕ). IsNear mesh cells x h) (sym e) n) in
@@ -110,7 +122,8 @@ module _ (mesh : HalfEdges) (cells : List Gap) (is : IsMesh mesh) (known : AreKn
       let u = c.1 in
       (c.0, omega (arith, u, v))
 
-  leads_set : (h r : ℕ) → h < size mesh → Leads mesh cells h r → IsSet s.ranks.items r → IsSet s.ranks.items h
+  leads_set : (h r : ℕ) → h < size mesh → Leads mesh cells h r → IsSet s.ranks.items r
+      → IsSet s.ranks.items h
   leads_set _ _ l (there h r e) k = subst (λ (i : ℕ). IsSet s.ranks.items i) (sym e) k
   leads_set _ _ l (step h g r n j) k =
       let m = near_within mesh cells is known h g l n in

@@ -7,13 +7,15 @@ use Rattle.certificate.specs.declared.notes.Link.TheVariants as link
 use Rattle.half_edges.specs.HalfEdges.{HalfEdges, size}
 use Rattle.plane.specs.Runs.Gaps.{Gap}
 use Rattle.faces.specs.declared.joins.Joins.{Joins}
-use Rattle.faces.specs.Joined.{Across, AreKnown, AtBorder, Joined, across, back, onward, outside, same}
+use Rattle.faces.specs.Joined.{Across, AreKnown, AtBorder, Joined, across, back, onward, outside}
+use Rattle.faces.specs.Joined.{same}
 use Rattle.faces.specs.Joins.{AreJoins}
 use Rattle.faces.specs.Labels.{AreFaces}
 use Rattle.faces.specs.Ranking.{AreNotes, AreRanks, AreRooted, IsLink, Leads, step, there}
 use Rattle.faces.specs.Searching.{IsNear}
 
-pub if_ok : {V E : Type 0} (P Q : V → Type 0) (r : Result V E) → ((v : V) → P v → Q v) → IfOk r P → IfOk r Q
+pub if_ok : {V E : Type 0} (P Q : V → Type 0) (r : Result V E) → ((v : V) → P v → Q v) → IfOk r P
+    → IfOk r Q
 if_ok P Q (Ok v) f h = f v h
 if_ok P Q (Err e) f h = h
 
@@ -68,13 +70,15 @@ module _ (mesh : HalfEdges) (a b : List Gap) (j : Joins) (here : AreJoins (size 
     near = λ h g l n. r.near h g l (near_same mesh b a j there' here h g n);
   }
 
-  link_same : (ranks : List ℕ) (h : ℕ) (l : Link) → IsLink mesh a ranks h l → IsLink mesh b ranks h l
+  link_same : (ranks : List ℕ) (h : ℕ) (l : Link) → IsLink mesh a ranks h l
+      → IsLink mesh b ranks h l
   link_same ranks h link.Root w = w
   link_same ranks h link.Next w = w
   link_same ranks h link.Prev w = w
   link_same ranks h (link.Across g) (x, e, n, p, least) = (across_same mesh a b j here there' h g x, e, n, p, (λ i l y. least i l (across_same mesh b a j there' here h i y)))
 
-  pub notes_same : (roots : List ℕ) (notes : List HalfNote) → AreNotes mesh a roots notes → AreNotes mesh b roots notes
+  pub notes_same : (roots : List ℕ) (notes : List HalfNote) → AreNotes mesh a roots notes
+      → AreNotes mesh b roots notes
   notes_same roots notes s = record {
     ranks = s.ranks;
     are_ranks = ranks_same roots s.ranks s.are_ranks;

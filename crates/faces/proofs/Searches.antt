@@ -1,17 +1,20 @@
 -- A search for faces: what stays true when one more half-edge gets a face.
-use Rattle.std.proofs.Common.{◌≡◌, ℕ, zero, suc, ◌<◌, ◌≤◌, ◌⊎◌, inl, inr, List, [], ◌∷◌, ◌++◌, length, get_or, set, refl, arith, ap, sym, ◌∙◌, subst}
+use Rattle.std.proofs.Common.{◌≡◌, ℕ, zero, suc, ◌<◌, ◌≤◌, ◌⊎◌, inl, inr, List, [], ◌∷◌, ◌++◌}
+use Rattle.std.proofs.Common.{length, get_or, set, refl, arith, ap, sym, ◌∙◌, subst}
 use Rattle.std.proofs.lemmas.List.{get_or-set_same, get_or-set_other, length-append, length-set}
 use Rattle.plane.specs.Lists.{Has}
 use Rattle.plane.specs.Runs.Gaps.{Gap}
 use Rattle.half_edges.specs.HalfEdges.{HalfEdges, size, next_of, prev_of}
 use Rattle.half_edges.specs.Meshes.{IsMesh}
-use Rattle.faces.specs.Joined.{Across, AreKnown, AtBorder, IsBetween, Joined, across, back, highest, lowest, onward, outside, same}
+use Rattle.faces.specs.Joined.{Across, AreKnown, AtBorder, IsBetween, Joined, across, back, highest}
+use Rattle.faces.specs.Joined.{lowest, onward, outside, same}
 use Rattle.faces.specs.Searching.{AreWaiting, IsKept, IsNear, IsSearched, IsSet, unset}
 use Rattle.faces.proofs.PairCounts.{by_lt, same_or}
 use Rattle.faces.proofs.PlaneLaws.{has_append, has_at, has_back, has_front, once_append, room}
 
 -- ---- joined half-edges
-pub joined_more : (mesh : HalfEdges) (cells : List Gap) (g h i : ℕ) → Joined mesh cells g h → Joined mesh cells h i → Joined mesh cells g i
+pub joined_more : (mesh : HalfEdges) (cells : List Gap) (g h i : ℕ) → Joined mesh cells g h
+    → Joined mesh cells h i → Joined mesh cells g i
 joined_more mesh cells _ _ i (same g h e) k = subst (λ (n : ℕ). Joined mesh cells n i) (sym e) k
 joined_more mesh cells _ _ i (onward g f h l e j) k = onward g f i l e (joined_more mesh cells f h i j k)
 joined_more mesh cells _ _ i (back g f h l e j) k = back g f i l e (joined_more mesh cells f h i j k)
@@ -22,7 +25,8 @@ turned : (cells : List Gap) (g h : ℕ) → Across cells g h → Across cells h 
 turned cells g h (inl b) = inr b
 turned cells g h (inr b) = inl b
 
-pub joined_back : (mesh : HalfEdges) (cells : List Gap) (g h : ℕ) → Joined mesh cells g h → Joined mesh cells h g
+pub joined_back : (mesh : HalfEdges) (cells : List Gap) (g h : ℕ) → Joined mesh cells g h
+    → Joined mesh cells h g
 joined_back mesh cells _ _ (same g h e) = same h g (sym e)
 joined_back mesh cells _ _ (onward g f h l e j) = joined_more mesh cells h f g (joined_back mesh cells f h j) (back f g g l e (same g g refl))
 joined_back mesh cells _ _ (back g f h l e j) = joined_more mesh cells h f g (joined_back mesh cells f h j) (onward f g g l e (same g g refl))
@@ -112,14 +116,16 @@ module _ (mesh : HalfEdges) (cells : List Gap) (is : IsMesh mesh) (known : AreKn
     in_queue : (i : ℕ) → i < length queue → IsSet faces (get_or queue i 0)
     in_queue i m = s.set (get_or queue i 0) (has_at queue i 0 m)
 
-    pub waiting_put : AreWaiting faces queue passed face → AreWaiting (set faces h face) (queue ++ h ∷ []) passed face
+    pub waiting_put : AreWaiting faces queue passed face
+        → AreWaiting (set faces h face) (queue ++ h ∷ []) passed face
     waiting_put w i a b = by_lt i (length queue)
         (λ (m : i < length queue). ap (λ (g : ℕ). get_or (set faces h face) g 0) (queued i m) ∙ kept_put (get_or queue i 0) (in_queue i m) ∙ w i a m)
         (λ (m : length queue ≤ i).
         let e : length queue ≡ i = (let z = length-append queue (h ∷ []) in omega (arith, m, b, z)) in
         subst (λ (j : ℕ). get_or (set faces h face) (get_or (queue ++ h ∷ []) j 0) 0 ≡ face) e (ap (λ (g : ℕ). get_or (set faces h face) g 0) last_queued ∙ here))
 
-    closed_put : (i x : ℕ) → i < passed → IsNear mesh cells (get_or (queue ++ h ∷ []) i 0) x → get_or (set faces h face) x 0 ≡ get_or (set faces h face) (get_or (queue ++ h ∷ []) i 0) 0
+    closed_put : (i x : ℕ) → i < passed → IsNear mesh cells (get_or (queue ++ h ∷ []) i 0) x
+        → get_or (set faces h face) x 0 ≡ get_or (set faces h face) (get_or (queue ++ h ∷ []) i 0) 0
     closed_put i x a n =
         let m : i < length queue = (let w = s.within in omega (arith, a, w)) in
         let c = s.closed i x a (subst (λ (g : ℕ). IsNear mesh cells g x) (queued i m) n) in
@@ -127,7 +133,8 @@ module _ (mesh : HalfEdges) (cells : List Gap) (is : IsMesh mesh) (known : AreKn
         let kx : IsSet faces x = λ (e : get_or faces x 0 ≡ unset). k (sym c ∙ e) in
         kept_put x kx ∙ c ∙ sym (kept_put (get_or queue i 0) k) ∙ ap (λ (g : ℕ). get_or (set faces h face) g 0) (sym (queued i m))
 
-    sound_put : (g i : ℕ) → g < size mesh → i < size mesh → IsSet (set faces h face) g → get_or (set faces h face) g 0 ≡ get_or (set faces h face) i 0 → Joined mesh cells g i
+    sound_put : (g i : ℕ) → g < size mesh → i < size mesh → IsSet (set faces h face) g
+        → get_or (set faces h face) g 0 ≡ get_or (set faces h face) i 0 → Joined mesh cells g i
     sound_put g i a b k e = elim (was g k) [
       | inl q ↦ elim (same_or i h) [
         | inl p ↦ same g i (q ∙ sym p)
@@ -162,7 +169,8 @@ module _ (mesh : HalfEdges) (cells : List Gap) (is : IsMesh mesh) (known : AreKn
         one g (inr k) f = absurd k
 
   -- there is room in the queue for a half-edge without face
-  pub room_left : (faces queue : List ℕ) (passed h : ℕ) → IsSearched mesh cells faces queue passed → h < size mesh → get_or faces h 0 ≡ unset → length queue < size mesh
+  pub room_left : (faces queue : List ℕ) (passed h : ℕ) → IsSearched mesh cells faces queue passed
+      → h < size mesh → get_or faces h 0 ≡ unset → length queue < size mesh
   room_left faces queue passed h s l free =
       let all = room (size mesh) (queue ++ h ∷ []) (once_append queue (h ∷ []) s.once ((λ k. k), tt) apart) inside in
       let z = length-append queue (h ∷ []) in
@@ -175,5 +183,6 @@ module _ (mesh : HalfEdges) (cells : List Gap) (is : IsMesh mesh) (known : AreKn
       inside : (g : ℕ) → Has g (queue ++ h ∷ []) → g < size mesh
       inside g k = elim (has_append g queue (h ∷ []) k) [ inl m ↦ s.known g m | inr m ↦ elim m [ inl q ↦ omega (arith, q, l) | inr x ↦ absurd x ] ]
 
-  pub room_all : (faces queue : List ℕ) (passed : ℕ) → IsSearched mesh cells faces queue passed → length queue ≤ size mesh
+  pub room_all : (faces queue : List ℕ) (passed : ℕ) → IsSearched mesh cells faces queue passed
+      → length queue ≤ size mesh
   room_all faces queue passed s = room (size mesh) queue s.once s.known

@@ -1,5 +1,6 @@
 -- Half-edges in another order are the same ones.
-use Rattle.std.proofs.Common.{ℕ, suc, ◌<◌, ◌↔◌, inl, inr, List, [], ◌∷◌, arith, sym, subst, IsPermutation}
+use Rattle.std.proofs.Common.{ℕ, suc, ◌<◌, ◌↔◌, inl, inr, List, [], ◌∷◌, arith, sym, subst}
+use Rattle.std.proofs.Common.{IsPermutation}
 use Rattle.std.specs.List.{Contains}
 use Rattle.std.specs.Prelude.{IfOk, Result, Ok, Err}
 use Rattle.std.proofs.lemmas.List.Sorted.{Contains-permutation, IsPermutation-sym}
@@ -25,13 +26,15 @@ same_permutation xs ys p x = (has_permutation ys xs x (IsPermutation-sym xs ys p
 
 -- Ranks and roots know a list of roots only by its elements.
 module _ (mesh : HalfEdges) (cells : List Gap) (roots sorted : List ℕ) (same : (h : ℕ) → Has h sorted ↔ Has h roots) where
-  pub within_sorted : ((h : ℕ) → Has h roots → h < size mesh) → (h : ℕ) → Has h sorted → h < size mesh
+  pub within_sorted : ((h : ℕ) → Has h roots → h < size mesh) → (h : ℕ) → Has h sorted
+      → h < size mesh
   within_sorted f h k = f h ((same h).0 k)
 
   pub rooted_sorted : AreRooted mesh cells roots → AreRooted mesh cells sorted
   rooted_sorted f h l = let (r, k, w) = f h l in (r, (same r).1 k, w)
 
-  pub ranks_sorted : (ranks : List ℕ) → AreRanks mesh cells sorted ranks → AreRanks mesh cells roots ranks
+  pub ranks_sorted : (ranks : List ℕ) → AreRanks mesh cells sorted ranks
+      → AreRanks mesh cells roots ranks
   ranks_sorted ranks a = record {
     sized = a.sized;
     small = a.small;
@@ -40,6 +43,8 @@ module _ (mesh : HalfEdges) (cells : List Gap) (roots sorted : List ℕ) (same :
     near = a.near;
   }
 
-  pub ranks_if_ok : {V E : Type 0} (items : V → List ℕ) (r : Result V E) → IfOk r (λ v. AreRanks mesh cells sorted (items v)) → IfOk r (λ v. AreRanks mesh cells roots (items v))
+  pub ranks_if_ok : {V E : Type 0} (items : V → List ℕ) (r : Result V E)
+      → IfOk r (λ v. AreRanks mesh cells sorted (items v))
+      → IfOk r (λ v. AreRanks mesh cells roots (items v))
   ranks_if_ok items (Ok v) a = ranks_sorted (items v) a
   ranks_if_ok items (Err e) a = a

@@ -1,5 +1,6 @@
 -- What the numbers of faces say of places, points and sides.
-use Rattle.std.proofs.Common.{◌≡◌, ◌⊎◌, inl, inr, ℕ, ◌<◌, Bool, true, false, Some, List, length, pos, ◌<ℤ◌, ◌≤ℤ◌, refl, sym, subst, ap, ◌∙◌, arith}
+use Rattle.std.proofs.Common.{◌≡◌, ◌⊎◌, inl, inr, ℕ, ◌<◌, Bool, true, false, Some, List, length}
+use Rattle.std.proofs.Common.{pos, ◌<ℤ◌, ◌≤ℤ◌, refl, sym, subst, ap, ◌∙◌, arith}
 use Rattle.std.proofs.lemmas.Bool.{cases_Bool}
 use Rattle.plane.specs.CurveRuns.TubedRuns.{third_is_left}
 use Rattle.plane.specs.declared.kinds.Curve.{Curve}
@@ -22,37 +23,45 @@ use Rattle.fault_lists.specs.declared.faces.DrawingFaces.{DrawingFaces}
 use Rattle.fault_lists.specs.declared.faces.PointPlace.{PointPlace}
 use Rattle.fault_lists.specs.declared.faces.PointPlace.TheVariants.{InFace, OnCurve}
 use Rattle.fault_lists.specs.declared.kinds.SideAt.{SideAt}
-use Rattle.fault_lists.specs.DrawingFaces.{AreCurveFaces, AreDrawingFaces, HasCurveFaces, IsInFace, IsLeastOn, IsPointInFace, IsPointPlace, face_count, faces_of, is_open, place_of}
+use Rattle.fault_lists.specs.DrawingFaces.{AreCurveFaces, AreDrawingFaces, HasCurveFaces, IsInFace}
+use Rattle.fault_lists.specs.DrawingFaces.{IsLeastOn, IsPointInFace, IsPointPlace, face_count}
+use Rattle.fault_lists.specs.DrawingFaces.{faces_of, is_open, place_of}
 use Rattle.fault_lists.specs.FaceLists.{face_beside, IsIn, IsLeastSide, IsSide}
 use Rattle.fault_lists.specs.FaultLists.{IsBeside}
 use Rattle.fault_lists.specs.Sides.{end_on, is_first_kind, is_inward, side_end}
 use Rattle.fault_lists.proofs.Least.{least_side, same_least}
 
 -- ---- the two ends of a segment that crosses a curve
-pub ends_off : (k : CurveKind) (d : Plan) (i : ℕ) (p q : Vector) → CrossesKind k d i p q → Place p × Place q × IsOff d p × IsOff d q
+pub ends_off : (k : CurveKind) (d : Plan) (i : ℕ) (p q : Vector) → CrossesKind k d i p q
+    → Place p × Place q × IsOff d p × IsOff d q
 ends_off kind.Straight d i p q x = (x.p_place, x.q_place, x.p_off, x.q_off)
 ends_off kind.HalfArc d i p q x = (x.p_place, x.q_place, x.p_off, x.q_off)
 
 -- they are those on the left and on the right, in this order or in the other
-pub by_sides : (c : Curve) (p q : Vector) (R : Vector → Vector → Type 0) → R p q → R q p → R (side_end c true p q) (side_end c false p q)
+pub by_sides : (c : Curve) (p q : Vector) (R : Vector → Vector → Type 0) → R p q → R q p
+    → R (side_end c true p q) (side_end c false p q)
 by_sides c p q R a b = by_kind c.kind
   where
     by_third : (t : Bool) → R (end_on (is_inward t true) p q) (end_on (is_inward t false) p q)
     by_third true = a
     by_third false = b
 
-    by_kind : (k : CurveKind) → R (end_on (is_first_kind k c true) p q) (end_on (is_first_kind k c false) p q)
+    by_kind : (k : CurveKind)
+        → R (end_on (is_first_kind k c true) p q) (end_on (is_first_kind k c false) p q)
     by_kind kind.Straight = a
     by_kind kind.HalfArc = by_third (third_is_left c)
 
-pub by_ends : (c : Curve) (p q : Vector) (P : Vector → Type 0) → P (side_end c true p q) → P (side_end c false p q) → P p × P q
+pub by_ends : (c : Curve) (p q : Vector) (P : Vector → Type 0) → P (side_end c true p q)
+    → P (side_end c false p q) → P p × P q
 by_ends c p q P a b = by_kind c.kind a b
   where
-    by_third : (t : Bool) → P (end_on (is_inward t true) p q) → P (end_on (is_inward t false) p q) → P p × P q
+    by_third : (t : Bool) → P (end_on (is_inward t true) p q) → P (end_on (is_inward t false) p q)
+        → P p × P q
     by_third true x y = (x, y)
     by_third false x y = (y, x)
 
-    by_kind : (k : CurveKind) → P (end_on (is_first_kind k c true) p q) → P (end_on (is_first_kind k c false) p q) → P p × P q
+    by_kind : (k : CurveKind) → P (end_on (is_first_kind k c true) p q)
+        → P (end_on (is_first_kind k c false) p q) → P p × P q
     by_kind kind.Straight x y = (x, y)
     by_kind kind.HalfArc x y = by_third (third_is_left c) x y
 
@@ -61,7 +70,8 @@ on_side true p q P Q = P
 on_side false p q P Q = Q
 
 -- ---- outer places
-pub outer_along : (r : Plan) (p q : Vector) → Place p → Place q → Joined r p q → IsOuter r q → IsOuter r p
+pub outer_along : (r : Plan) (p q : Vector) → Place p → Place q → Joined r p q → IsOuter r q
+    → IsOuter r p
 outer_along r p q P Q j h b = let (s, S, k, l) = h b in (s, S, joined_through r p q s P Q j k, l)
 
 module _ (d r : Plan) (out : ℕ → Bool) (rest : IsRestOf d r out) where
@@ -75,7 +85,8 @@ module _ (d r : Plan) (out : ℕ → Bool) (rest : IsRestOf d r out) where
   same_count = ap (λ (ps : List Placed). length ps) rest.points
 
   -- what crosses a curve of the drawing crosses it in the rest
-  pub fewer_crosses : (k : ℕ) (p q : Vector) → k < length r.curves → CrossesOne d (rest.number k) p q → CrossesOne r k p q
+  pub fewer_crosses : (k : ℕ) (p q : Vector) → k < length r.curves
+      → CrossesOne d (rest.number k) p q → CrossesOne r k p q
   fewer_crosses k p q l x = subst (λ t. CrossesKind t r k p q) (ap (λ (c : Curve). c.kind) e) (by_kind (curve d i).kind x)
     where
       i : ℕ
@@ -84,7 +95,9 @@ module _ (d r : Plan) (out : ℕ → Bool) (rest : IsRestOf d r out) where
       e : curve d i ≡ curve r k
       e = rest.is k l
 
-      other : (j : ℕ) → j < length r.curves → (j ≡ k → ⊥) → ((n : ℕ) → n < length d.curves → (n ≡ i → ⊥) → Hits (curve d n) p q → ⊥) → Hits (curve r j) p q → ⊥
+      other : (j : ℕ) → j < length r.curves → (j ≡ k → ⊥)
+          → ((n : ℕ) → n < length d.curves → (n ≡ i → ⊥) → Hits (curve d n) p q → ⊥)
+          → Hits (curve r j) p q → ⊥
       other j m ne clear hit = clear (rest.number j) (rest.there j m) (λ s. ne (rest.once j k m l s)) (subst (λ (c : Curve). Hits c p q) (sym (rest.is j m)) hit)
 
       by_kind : (t : CurveKind) → CrossesKind t d i p q → CrossesKind t r k p q
@@ -126,7 +139,8 @@ module _ (d r : Plan) (out : ℕ → Bool) (rest : IsRestOf d r out) where
     pub in_one : (p q : Vector) (n : ℕ) → Place p → Place q → In p n → In q n → Joined r p q
     in_one p q n P Q h k = joined_through r p (D.at n) q P (place n h.there) h.joined (joined_back r q (D.at n) Q (place n h.there) k.joined)
 
-    pub one_number : (p q : Vector) (m n : ℕ) → Place p → Place q → In p m → In q n → Joined r p q → m ≡ n
+    pub one_number : (p q : Vector) (m n : ℕ) → Place p → Place q → In p m → In q n → Joined r p q
+        → m ≡ n
     one_number p q m n P Q h k j =
         D.places.once m n h.there k.there
         (joined_through r (D.at m) p (D.at n) (place m h.there) P (joined_back r p (D.at m) P (place m h.there) h.joined) (joined_through r p q (D.at n) P Q j k.joined))
@@ -141,15 +155,18 @@ module _ (d r : Plan) (out : ℕ → Bool) (rest : IsRestOf d r out) where
     pub number_outer : (z : Vector) (n : ℕ) → Place z → In z n → n ≡ 0 → IsOuter r z
     number_outer z n Z h e = outer_along r z (D.at n) Z (place n h.there) h.joined ((D.places.outer n h.there).1 e)
 
-    pub number_closed : (z : Vector) (n : ℕ) → Place z → In z n → is_open f n ≡ false → IsClosed d r out z
+    pub number_closed : (z : Vector) (n : ℕ) → Place z → In z n → is_open f n ≡ false
+        → IsClosed d r out z
     number_closed z n Z h e = closed_along d r out (D.at n) z (place n h.there) Z (D.closed n h.there e) (back_at z n Z h)
 
-    pub number_open : (z : Vector) (n : ℕ) → Place z → In z n → is_open f n ≡ true → IsOpen d r out z
+    pub number_open : (z : Vector) (n : ℕ) → Place z → In z n → is_open f n ≡ true
+        → IsOpen d r out z
     number_open z n Z h e =
         let o = D.broken n h.there e in
         record { i = o.i; there = o.there; left_out = o.left_out; q = o.q; s = o.s; q_place = o.q_place; s_place = o.s_place; joined = joined_through r z (D.at n) o.q Z (place n h.there) h.joined o.joined; off = o.off; clear = o.clear; hits = o.hits }
 
-    pub closed_number : (z : Vector) (n : ℕ) → Place z → In z n → IsClosed d r out z → is_open f n ≡ false
+    pub closed_number : (z : Vector) (n : ℕ) → Place z → In z n → IsClosed d r out z
+        → is_open f n ≡ false
     closed_number z n Z h c = elim (cases_Bool (is_open f n)) [ inl t ↦ absurd ((closed_is_not_open d r out z).0 c (number_open z n Z h t)) | inr e ↦ e ]
 
     -- ---- points
@@ -160,10 +177,12 @@ module _ (d r : Plan) (out : ℕ → Bool) (rest : IsRestOf d r out) where
     ]
 
     -- a point that is off the rest is in a face
-    pub point_face : (j : ℕ) → j < length d.points → IsOff r (point (object d j)) → (n : ℕ) × IsIn f j n × In (point (object d j)) n
+    pub point_face : (j : ℕ) → j < length d.points → IsOff r (point (object d j))
+        → (n : ℕ) × IsIn f j n × In (point (object d j)) n
     point_face j l off = by (place_of f j) refl (D.points j l)
       where
-        by : (o : PointPlace) → place_of f j ≡ o → IsPointPlace d r out (face_count f) D.at j o → (n : ℕ) × IsIn f j n × In (point (object d j)) n
+        by : (o : PointPlace) → place_of f j ≡ o → IsPointPlace d r out (face_count f) D.at j o
+            → (n : ℕ) × IsIn f j n × In (point (object d j)) n
         by (OnCurve i) e h = absurd (not_on j i h off)
         by (InFace n) e h = (n, record { there = let c = D.point_count in omega (arith, l, c); in_face = e }, h.in_face)
 
@@ -181,7 +200,8 @@ module _ (d r : Plan) (out : ℕ → Bool) (rest : IsRestOf d r out) where
       pub is : rest.number k ≡ i
       pub faces : HasCurveFaces d r out rest (face_count f) D.at k c
 
-    pub curve_number : (i : ℕ) (c : CurveFaces) → i < length f.curves.items → faces_of f i ≡ Some c → HasNumber i c
+    pub curve_number : (i : ℕ) (c : CurveFaces) → i < length f.curves.items → faces_of f i ≡ Some c
+        → HasNumber i c
     curve_number i c l e =
         let m : i < length d.curves = let n = D.curve_count in omega (arith, l, n) in
         let (kept, (k, t, is, h)) = subst (λ o. AreCurveFaces d r out rest (face_count f) D.at i o) e (D.curves i m) in
@@ -198,7 +218,9 @@ module _ (d r : Plan) (out : ℕ → Bool) (rest : IsRestOf d r out) where
       pub place : Place (side_end (curve r k) s.left p q)
       pub in_face : In (side_end (curve r k) s.left p q) n
 
-    side_in : (b : Bool) (c : CurveFaces) (k n : ℕ) (p q : Vector) → In (side_end (curve r k) true p q) c.left → In (side_end (curve r k) false p q) c.right → face_beside b c ≡ n → In (side_end (curve r k) b p q) n
+    side_in : (b : Bool) (c : CurveFaces) (k n : ℕ) (p q : Vector)
+        → In (side_end (curve r k) true p q) c.left → In (side_end (curve r k) false p q) c.right
+        → face_beside b c ≡ n → In (side_end (curve r k) b p q) n
     side_in true c k n p q h g e = subst (λ m. In (side_end (curve r k) true p q) m) e h
     side_in false c k n p q h g e = subst (λ m. In (side_end (curve r k) false p q) m) e g
 
@@ -218,13 +240,15 @@ module _ (d r : Plan) (out : ℕ → Bool) (rest : IsRestOf d r out) where
           in_face = side_in s.left h.faces c.k n c.faces.p c.faces.q (c.faces.left c.faces.p c.faces.q x) (c.faces.right c.faces.p c.faces.q x) h.on;
         }
 
-    pub is_beside : (n : ℕ) (s : SideAt) (z : Vector) → Place z → In z n → IsSide f n s → IsBeside d r out rest s z
+    pub is_beside : (n : ℕ) (s : SideAt) (z : Vector) → Place z → In z n → IsSide f n s
+        → IsBeside d r out rest s z
     is_beside n s z Z h side =
         let e = side_has_end n s side in
         record { k = e.k; there = e.there; is = e.is; p = e.p; q = e.q; crossing = e.crossing; joined = in_one z (side_end (curve r e.k) s.left e.p e.q) n Z e.place h e.in_face }
 
     -- the places beside a side of a face are in it
-    pub beside_in : (n : ℕ) (s : SideAt) (z : Vector) → Place z → IsSide f n s → IsBeside d r out rest s z → In z n
+    pub beside_in : (n : ℕ) (s : SideAt) (z : Vector) → Place z → IsSide f n s
+        → IsBeside d r out rest s z → In z n
     beside_in n s z Z side b =
         let c = curve_number s.curve side.faces side.there side.is in
         let e : c.k ≡ b.k = rest.once c.k b.k c.there b.there (c.is ∙ sym b.is) in
@@ -236,7 +260,8 @@ module _ (d r : Plan) (out : ℕ → Bool) (rest : IsRestOf d r out) where
         record { there = i.there; joined = joined_through r z end (D.at n) Z E b.joined i.joined }
 
     -- two least sides of faces that hold one place are equal
-    pub one_least : (m n : ℕ) (s o : SideAt) (z : Vector) → Place z → IsLeastSide f m s → IsLeastSide f n o → IsBeside d r out rest s z → IsBeside d r out rest o z → s ≡ o
+    pub one_least : (m n : ℕ) (s o : SideAt) (z : Vector) → Place z → IsLeastSide f m s
+        → IsLeastSide f n o → IsBeside d r out rest s z → IsBeside d r out rest o z → s ≡ o
     one_least m n s o z Z h k b c =
         let i = beside_in m s z Z h.side b in
         let j = beside_in n o z Z k.side c in

@@ -1,5 +1,6 @@
 -- The least point and the least side of a face.
-use Rattle.std.proofs.Common.{◌≡◌, ◌⊎◌, inl, inr, ℕ, zero, suc, ◌+◌, ◌*◌, ◌<◌, Bool, true, false, Option, Some, None, length, refl, sym, subst, ◌∙◌, arith}
+use Rattle.std.proofs.Common.{◌≡◌, ◌⊎◌, inl, inr, ℕ, zero, suc, ◌+◌, ◌*◌, ◌<◌, Bool, true, false}
+use Rattle.std.proofs.Common.{Option, Some, None, length, refl, sym, subst, ◌∙◌, arith}
 use Rattle.std.specs.Prelude.{if◌then◌else◌}
 use Rattle.std.proofs.lemmas.Bool.{cases_lt}
 use Rattle.fault_lists.specs.declared.faces.CurveFaces.{CurveFaces}
@@ -39,7 +40,8 @@ module _ (P : ℕ → Type 0) (decide : (k : ℕ) → P k ⊎ (P k → ⊥)) whe
 in_or_not : (f : DrawingFaces) (n k : ℕ) → IsIn f k n ⊎ (IsIn f k n → ⊥)
 in_or_not f n k = elim (cases_lt k (length f.points.items)) [ inl l ↦ by l (place_of f k) refl | inr l ↦ inr (λ h. let t = h.there in omega (arith, l, t)) ]
   where
-    by : k < length f.points.items → (o : PointPlace) → place_of f k ≡ o → IsIn f k n ⊎ (IsIn f k n → ⊥)
+    by : k < length f.points.items → (o : PointPlace) → place_of f k ≡ o
+        → IsIn f k n ⊎ (IsIn f k n → ⊥)
     by l (OnCurve i) e = inr (λ h. let c : OnCurve i ≡ InFace n = sym e ∙ h.in_face in cc)
     by l (InFace m) e = elim (equal_or_not m n) [
       | inl s ↦ inl (record { there = l; in_face = subst (λ k'. place_of f k ≡ InFace k') s e })
@@ -54,14 +56,16 @@ side_of_number : (m : ℕ) → (s : SideAt) × (side_number s ≡ m)
 side_of_number zero = (record { curve = 0; left = true }, refl)
 side_of_number (suc m) = let (s, e) = side_of_number m in next s.curve s.left e
   where
-    next : (c : ℕ) (b : Bool) → 2 * c + (if b then 0 else 1) ≡ m → (s : SideAt) × (side_number s ≡ suc m)
+    next : (c : ℕ) (b : Bool) → 2 * c + (if b then 0 else 1) ≡ m
+        → (s : SideAt) × (side_number s ≡ suc m)
     next c true e = (record { curve = c; left = false }, omega (arith, e))
     next c false e = (record { curve = c + 1; left = true }, omega (arith, e))
 
 side_or_not : (f : DrawingFaces) (n : ℕ) (s : SideAt) → IsSide f n s ⊎ (IsSide f n s → ⊥)
 side_or_not f n s = elim (cases_lt s.curve (length f.curves.items)) [ inl l ↦ by l (faces_of f s.curve) refl | inr l ↦ inr (λ h. let t = h.there in omega (arith, l, t)) ]
   where
-    by : s.curve < length f.curves.items → (o : Option CurveFaces) → faces_of f s.curve ≡ o → IsSide f n s ⊎ (IsSide f n s → ⊥)
+    by : s.curve < length f.curves.items → (o : Option CurveFaces) → faces_of f s.curve ≡ o
+        → IsSide f n s ⊎ (IsSide f n s → ⊥)
     by l None e = inr (λ h. let c : None ≡ Some h.faces = sym e ∙ h.is in cc)
     by l (Some c) e = elim (equal_or_not (face_beside s.left c) n) [
       | inl on ↦ inl (record { there = l; faces = c; is = e; on = on })
@@ -79,13 +83,15 @@ numbered_or_not f n m =
       | inr never ↦ inr (λ h. never (subst (λ t. IsSide f n t) (one_side h.0 s (h.1 ∙ sym e)) h.2))
     ]
 
-pub least_side : (f : DrawingFaces) (n : ℕ) (s : SideAt) → IsSide f n s → (t : SideAt) × IsLeastSide f n t
+pub least_side : (f : DrawingFaces) (n : ℕ) (s : SideAt) → IsSide f n s
+    → (t : SideAt) × IsLeastSide f n t
 least_side f n s h =
     let (m, l) = least_of (IsSideOf f n) (numbered_or_not f n) (side_number s) (s, refl, h) in
     let (t, e, is) = l.is in
     (t, record { side = is; least = λ o b k. l.least (side_number o) (omega (arith, b, e)) (o, refl, k) })
 
-pub same_least : (f : DrawingFaces) (n : ℕ) (s o : SideAt) → IsLeastSide f n s → IsLeastSide f n o → s ≡ o
+pub same_least : (f : DrawingFaces) (n : ℕ) (s o : SideAt) → IsLeastSide f n s → IsLeastSide f n o
+    → s ≡ o
 same_least f n s o h k = elim (cases_lt (side_number s) (side_number o)) [
   | inl l ↦ absurd (k.least s l h.side)
   | inr l ↦ elim (cases_lt (side_number o) (side_number s)) [ inl m ↦ absurd (h.least o m k.side) | inr m ↦ one_side s o (omega (arith, l, m)) ]

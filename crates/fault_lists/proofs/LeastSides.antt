@@ -1,8 +1,11 @@
 -- What the walk over the sides keeps.
-use Rattle.std.proofs.Common.{◌≡◌, ◌≢◌, ◌↔◌, inl, inr, ℕ, ◌+◌, ◌*◌, ◌<◌, ◌≤◌, Bool, true, false, Option, Some, None, List, [], ◌∷◌, ◌++◌, length, refl, sym, subst, ap, ◌∙◌, arith, set}
+use Rattle.std.proofs.Common.{◌≡◌, ◌≢◌, ◌↔◌, inl, inr, ℕ, ◌+◌, ◌*◌, ◌<◌, ◌≤◌, Bool, true, false}
+use Rattle.std.proofs.Common.{Option, Some, None, List, [], ◌∷◌, ◌++◌, length, refl, sym, subst, ap}
+use Rattle.std.proofs.Common.{◌∙◌, arith, set}
 use Rattle.std.specs.Prelude.{if◌then◌else◌}
 use Rattle.std.proofs.lemmas.Bool.{cases_lt}
-use Rattle.std.proofs.lemmas.List.{get_or-set_same, get_or-set_other, length-set, get_or_append_left, length-append}
+use Rattle.std.proofs.lemmas.List.{get_or-set_same, get_or-set_other, length-set}
+use Rattle.std.proofs.lemmas.List.{get_or_append_left, length-append}
 use Rattle.std.proofs.Math.Seq.{get_or-append_seam}
 use Rattle.fault_lists.specs.declared.faces.CurveFaces.{CurveFaces}
 use Rattle.fault_lists.specs.declared.faces.DrawingFaces.{DrawingFaces}
@@ -10,13 +13,15 @@ use Rattle.fault_lists.specs.declared.kinds.SideAt.{SideAt}
 use Rattle.fault_lists.specs.DrawingFaces.{AreFacesBelow, IsNumbered, face_count, faces_of}
 use Rattle.fault_lists.specs.FaceLists.{face_beside, HasExactly, IsLeastSideOf, IsSide, side_number}
 use Rattle.fault_lists.specs.Telling.{AreMarks, is_marked, with_side}
-use Rattle.fault_lists.proofs.Walks.{HasBelow, none_below, one_below, same_below, all_below, exactly_where}
+use Rattle.fault_lists.proofs.Walks.{HasBelow, none_below, one_below, same_below, all_below}
+use Rattle.fault_lists.proofs.Walks.{exactly_where}
 
 -- ---- marks
 pub no_marks : (Is : ℕ → Type 0) → AreMarks 0 Is []
 no_marks Is = record { size = refl; is = λ n l. absurd (omega (arith, l)) }
 
-pub one_mark : (n : ℕ) (Is : ℕ → Type 0) (marks : List Bool) (b : Bool) → AreMarks n Is marks → ((b ≡ true) ↔ Is n) → AreMarks (n + 1) Is (marks ++ b ∷ [])
+pub one_mark : (n : ℕ) (Is : ℕ → Type 0) (marks : List Bool) (b : Bool) → AreMarks n Is marks
+    → ((b ≡ true) ↔ Is n) → AreMarks (n + 1) Is (marks ++ b ∷ [])
 one_mark n Is marks b h is = record {
   size = let e = h.size in omega (arith, length-append marks (b ∷ []), e);
   is = λ k l. elim (cases_lt k n) [
@@ -34,7 +39,8 @@ side_part : (b : Bool) → (if b then 0 else 1) < 2
 side_part true = omega arith
 side_part false = omega arith
 
-same_sides : (c e : ℕ) (a b : Bool) → 2 * c + (if a then 0 else 1) ≡ 2 * e + (if b then 0 else 1) → (c ≡ e) × (a ≡ b)
+same_sides : (c e : ℕ) (a b : Bool) → 2 * c + (if a then 0 else 1) ≡ 2 * e + (if b then 0 else 1)
+    → (c ≡ e) × (a ≡ b)
 same_sides c e true true h = (omega (arith, h), refl)
 same_sides c e false false h = (omega (arith, h), refl)
 same_sides c e true false h = absurd (omega (arith, h))
@@ -65,9 +71,11 @@ HasNoSideBelow f bound n = (o : SideAt) → side_number o < bound → IsSide f n
 pub record AreToldTo (f : DrawingFaces) (marks : List Bool) (bound : ℕ) (sides : List SideAt) (left : List Bool) : Type 0 where
   pub told : HasBelow (IsLeastSideOf f (λ n. is_marked marks n ≡ true)) side_number bound sides
   pub size : length left ≡ face_count f
-  pub stand : (n : ℕ) → n < face_count f → (is_marked left n ≡ true) ↔ ((is_marked marks n ≡ true) × HasNoSideBelow f bound n)
+  pub stand : (n : ℕ) → n < face_count f
+      → (is_marked left n ≡ true) ↔ ((is_marked marks n ≡ true) × HasNoSideBelow f bound n)
 
-pub no_side_told : (f : DrawingFaces) (marks : List Bool) → length marks ≡ face_count f → AreToldTo f marks 0 [] marks
+pub no_side_told : (f : DrawingFaces) (marks : List Bool) → length marks ≡ face_count f
+    → AreToldTo f marks 0 [] marks
 no_side_told f marks e = record {
   told = none_below (Sought f marks) side_number;
   size = e;
@@ -79,14 +87,16 @@ module _ (f : DrawingFaces) (marks : List Bool) (bound : ℕ) (sides : List Side
     only : (y : SideAt) → side_number y ≡ bound → y ≡ s
     only y e = one_side y s (e ∙ sym number)
 
-    told_one : (b : Bool) → is_marked left face ≡ b → HasBelow (Sought f marks) side_number (bound + 1) (with_side b s sides)
+    told_one : (b : Bool) → is_marked left face ≡ b
+        → HasBelow (Sought f marks) side_number (bound + 1) (with_side b s sides)
     told_one true e =
         let m = (h.stand face known).0 e in
         one_below (Sought f marks) side_number bound sides s h.told
         (record { n = face; is = m.0; side = record { side = side; least = λ o l. m.1 o (omega (arith, l, number)) } }) number (λ y i. only y)
     told_one false e = same_below (Sought f marks) side_number bound (bound + 1) sides h.told (omega arith) none
       where
-        none : (y : SideAt) → Sought f marks y → bound ≤ side_number y → side_number y < bound + 1 → ⊥
+        none : (y : SideAt) → Sought f marks y → bound ≤ side_number y → side_number y < bound + 1
+            → ⊥
         none y i low high =
             let at : side_number y ≡ bound = omega (arith, low, high) in
             let same : y ≡ s = only y at in
@@ -96,13 +106,15 @@ module _ (f : DrawingFaces) (marks : List Bool) (bound : ℕ) (sides : List Side
             let clash : is_marked left face ≡ true = (h.stand face known).1 (marked, free) in
             cc
 
-    other_stands : (n : ℕ) → n < face_count f → n ≢ face → (is_marked (set left face false) n ≡ true) ↔ ((is_marked marks n ≡ true) × HasNoSideBelow f (bound + 1) n)
+    other_stands : (n : ℕ) → n < face_count f → n ≢ face
+        → (is_marked (set left face false) n ≡ true) ↔ ((is_marked marks n ≡ true) × HasNoSideBelow f (bound + 1) n)
     other_stands n l ne = subst (λ b. (b ≡ true) ↔ ((is_marked marks n ≡ true) × HasNoSideBelow f (bound + 1) n)) (sym (get_or-set_other left face n false false ne)) (
       (λ e. let m = (h.stand n l).0 e in (m.0, λ o b k. elim (cases_lt (side_number o) bound) [ inl c ↦ m.1 o c k | inr c ↦ ne (one_face_beside f n face s (subst (λ t. IsSide f n t) (only o (omega (arith, b, c))) k) side) ])),
       (λ m. (h.stand n l).1 (m.0, λ o b k. m.1 o (omega (arith, b)) k)),
     )
 
-    face_falls : (n : ℕ) → n ≡ face → (is_marked (set left face false) n ≡ true) ↔ ((is_marked marks n ≡ true) × HasNoSideBelow f (bound + 1) n)
+    face_falls : (n : ℕ) → n ≡ face
+        → (is_marked (set left face false) n ≡ true) ↔ ((is_marked marks n ≡ true) × HasNoSideBelow f (bound + 1) n)
     face_falls n e =
         let there : face < length left = let z = h.size in omega (arith, known, z) in
         let off : is_marked (set left face false) n ≡ false = rw e (get_or-set_same left face false false there) in
@@ -111,7 +123,8 @@ module _ (f : DrawingFaces) (marks : List Bool) (bound : ℕ) (sides : List Side
         clash : false ≡ true → ⊥
         clash x = cc
 
-    stand_one : (n : ℕ) → n < face_count f → (is_marked (set left face false) n ≡ true) ↔ ((is_marked marks n ≡ true) × HasNoSideBelow f (bound + 1) n)
+    stand_one : (n : ℕ) → n < face_count f
+        → (is_marked (set left face false) n ≡ true) ↔ ((is_marked marks n ≡ true) × HasNoSideBelow f (bound + 1) n)
     stand_one n l = elim (cases_lt n face) [ inl a ↦ other_stands n l (λ e. omega (arith, a, e)) | inr a ↦ elim (cases_lt face n) [ inl c ↦ other_stands n l (λ e. omega (arith, c, e)) | inr c ↦ face_falls n (omega (arith, a, c)) ] ]
 
     -- one side more
@@ -119,7 +132,9 @@ module _ (f : DrawingFaces) (marks : List Bool) (bound : ℕ) (sides : List Side
     side_told = record { told = told_one (is_marked left face) refl; size = length-set left face false ∙ h.size; stand = stand_one }
 
   -- sides of no face
-  pub sides_passed : (more : ℕ) → bound ≤ more → ((n : ℕ) (o : SideAt) → bound ≤ side_number o → side_number o < more → IsSide f n o → ⊥) → AreToldTo f marks more sides left
+  pub sides_passed : (more : ℕ) → bound ≤ more
+      → ((n : ℕ) (o : SideAt) → bound ≤ side_number o → side_number o < more → IsSide f n o → ⊥)
+      → AreToldTo f marks more sides left
   sides_passed more le none = record {
     told = same_below (Sought f marks) side_number bound more sides h.told le (λ y i low high. none i.n y low high i.side.side);
     size = h.size;
@@ -130,21 +145,26 @@ module _ (f : DrawingFaces) (marks : List Bool) (bound : ℕ) (sides : List Side
   }
 
 -- a curve that is left out
-pub curve_passed : (f : DrawingFaces) (marks : List Bool) (i : ℕ) (sides : List SideAt) (left : List Bool) → AreToldTo f marks (2 * i) sides left → faces_of f i ≡ None → AreToldTo f marks (2 * (i + 1)) sides left
+pub curve_passed : (f : DrawingFaces) (marks : List Bool) (i : ℕ) (sides : List SideAt) (left : List Bool)
+    → AreToldTo f marks (2 * i) sides left → faces_of f i ≡ None
+    → AreToldTo f marks (2 * (i + 1)) sides left
 curve_passed f marks i sides left h out = sides_passed f marks (2 * i) sides left h (2 * (i + 1)) (omega arith) none
   where
-    none : (n : ℕ) (o : SideAt) → 2 * i ≤ side_number o → side_number o < 2 * (i + 1) → IsSide f n o → ⊥
+    none : (n : ℕ) (o : SideAt) → 2 * i ≤ side_number o → side_number o < 2 * (i + 1) → IsSide f n o
+        → ⊥
     none n o low high k =
         let part = side_part o.left in
         let e : o.curve ≡ i = omega (arith, low, high, part) in
         let is : faces_of f i ≡ Some k.faces = subst (λ c. faces_of f c ≡ Some k.faces) e k.is in
         cc
 
-told_as : (f : DrawingFaces) (marks : List Bool) (bound : ℕ) (xs ys : List SideAt) (ms ns : List Bool) → AreToldTo f marks bound xs ms → ys ≡ xs → ns ≡ ms → AreToldTo f marks bound ys ns
+told_as : (f : DrawingFaces) (marks : List Bool) (bound : ℕ) (xs ys : List SideAt) (ms ns : List Bool)
+    → AreToldTo f marks bound xs ms → ys ≡ xs → ns ≡ ms → AreToldTo f marks bound ys ns
 told_as f marks bound xs ys ms ns h a b = subst (λ zs. AreToldTo f marks bound zs ns) (sym a) (subst (λ ks. AreToldTo f marks bound xs ks) (sym b) h)
 
 -- the two sides of a curve that is not left out
-pub curve_told : (f : DrawingFaces) (marks : List Bool) (i : ℕ) (b : CurveFaces) (sides first second : List SideAt) (left middle last : List Bool) → IsNumbered f → i < length f.curves.items → faces_of f i ≡ Some b
+pub curve_told : (f : DrawingFaces) (marks : List Bool) (i : ℕ) (b : CurveFaces) (sides first second : List SideAt) (left middle last : List Bool)
+    → IsNumbered f → i < length f.curves.items → faces_of f i ≡ Some b
     → AreToldTo f marks (2 * i) sides left → middle ≡ set left b.left false → first ≡ with_side (is_marked left b.left) (side i true) sides → last ≡ set middle b.right false
     → second ≡ with_side (is_marked middle b.right) (side i false) first → AreToldTo f marks (2 * (i + 1)) second last
 curve_told f marks i b sides first second left middle last known l is h m a n e =
@@ -156,12 +176,14 @@ curve_told f marks i b sides first second left middle last known l is h m a n e 
     let at : 2 * i + 1 + 1 ≡ 2 * (i + 1) = omega arith in
     subst (λ k. AreToldTo f marks k second last) at two
 
-pub all_sides_told : (f : DrawingFaces) (marks : List Bool) (i : ℕ) (sides : List SideAt) (left : List Bool) → length f.curves.items ≤ i → AreToldTo f marks (2 * i) sides left
+pub all_sides_told : (f : DrawingFaces) (marks : List Bool) (i : ℕ) (sides : List SideAt) (left : List Bool)
+    → length f.curves.items ≤ i → AreToldTo f marks (2 * i) sides left
     → HasExactly (IsLeastSideOf f (λ n. is_marked marks n ≡ true)) side_number sides
 all_sides_told f marks i sides left e h = all_below (Sought f marks) side_number (2 * i) sides h.told (λ y k. let part = side_part y.left in let l = k.side.side.there in omega (arith, part, l, e))
 
 -- the marks stand for what is so
-pub sides_of_marked : (f : DrawingFaces) (Is : ℕ → Type 0) (marks : List Bool) (sides : List SideAt) → AreMarks (face_count f) Is marks → IsNumbered f
+pub sides_of_marked : (f : DrawingFaces) (Is : ℕ → Type 0) (marks : List Bool) (sides : List SideAt)
+    → AreMarks (face_count f) Is marks → IsNumbered f
     → HasExactly (IsLeastSideOf f (λ n. is_marked marks n ≡ true)) side_number sides → HasExactly (IsLeastSideOf f Is) side_number sides
 sides_of_marked f Is marks sides m numbered h = exactly_where (Sought f marks) side_number sides
     (λ s. (
@@ -174,6 +196,7 @@ sides_of_marked f Is marks sides m numbered h = exactly_where (Sought f marks) s
         let below : AreFacesBelow (face_count f) (Some k.faces) = subst (λ (o : Option CurveFaces). AreFacesBelow (face_count f) o) k.is (numbered.curves s.curve k.there) in
         subst (λ m. m < face_count f) k.on (one s.left k.faces below)
       where
-        one : (b : Bool) (c : CurveFaces) → AreFacesBelow (face_count f) (Some c) → face_beside b c < face_count f
+        one : (b : Bool) (c : CurveFaces) → AreFacesBelow (face_count f) (Some c)
+            → face_beside b c < face_count f
         one true c h = h.0
         one false c h = h.1

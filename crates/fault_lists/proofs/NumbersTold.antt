@@ -1,5 +1,6 @@
 -- What the numbers of the faces of a drawing tell is what is at fault in its faces.
-use Rattle.std.proofs.Common.{◌≡◌, ◌⊎◌, inl, inr, ℕ, ◌<◌, Bool, true, false, Option, Some, None, length, refl, sym, subst, ◌∙◌, arith, List, [], ◌∷◌, map, ap}
+use Rattle.std.proofs.Common.{◌≡◌, ◌⊎◌, inl, inr, ℕ, ◌<◌, Bool, true, false, Option, Some, None}
+use Rattle.std.proofs.Common.{length, refl, sym, subst, ◌∙◌, arith, List, [], ◌∷◌, map, ap}
 use Rattle.std.specs.List.{Contains}
 use Rattle.std.specs.List.Sorted.{IsStrictlyIncreasing}
 use Rattle.std.proofs.lemmas.Bool.{cases_Bool, cases_lt}
@@ -9,7 +10,8 @@ use Rattle.plane.specs.Rule.LeftOut.{IsClosed, IsOpen, IsRestOf}
 use Rattle.plane.specs.Rule.Partition.{IsOff, Joined, IsOuter}
 use Rattle.plane.specs.Rule.Places.{Vector, Place, point}
 use Rattle.plane.specs.Rule.Plans.{Plan, curve, object}
-use Rattle.plane.proofs.FewerCurves.ClosedFaces.{closed_is_not_open, stays_joined, stays_lost, stays_outer}
+use Rattle.plane.proofs.FewerCurves.ClosedFaces.{closed_is_not_open, stays_joined, stays_lost}
+use Rattle.plane.proofs.FewerCurves.ClosedFaces.{stays_outer}
 use Rattle.plane.proofs.FewerCurves.Paths.{joined_back, joined_off}
 use Rattle.plane.proofs.FewerCurves.Rests.{fewer_joined, fewer_off, fewer_outer}
 use Rattle.plane.proofs.Linear.EdgePlaces.{place_point}
@@ -18,14 +20,17 @@ use Rattle.fault_lists.specs.declared.faces.DrawingFaces.{DrawingFaces}
 use Rattle.fault_lists.specs.declared.kinds.FaceFaults.{FaceFaults}
 use Rattle.fault_lists.specs.declared.kinds.PointPair.{PointPair}
 use Rattle.fault_lists.specs.declared.kinds.SideAt.{SideAt}
-use Rattle.fault_lists.specs.DrawingFaces.{AreCurveFaces, AreDrawingFaces, face_count, faces_of, is_open}
+use Rattle.fault_lists.specs.DrawingFaces.{AreCurveFaces, AreDrawingFaces, face_count, faces_of}
+use Rattle.fault_lists.specs.DrawingFaces.{is_open}
 use Rattle.fault_lists.specs.FaceLists.{AreFaceFaults, ArePair, IsEmptyFace, IsIn, IsJudged}
 use Rattle.fault_lists.specs.Faults.{AreTwo, LiesOutside}
-use Rattle.fault_lists.specs.FaultLists.{AreFaultsOver, AreInOrder, HasFacesOnce, AreToldTwo, IsBeside, IsSharedBy, IsToldOpen}
+use Rattle.fault_lists.specs.FaultLists.{AreFaultsOver, AreInOrder, HasFacesOnce, AreToldTwo}
+use Rattle.fault_lists.specs.FaultLists.{IsBeside, IsSharedBy, IsToldOpen}
 use Rattle.fault_lists.specs.Sides.{side_end}
 use Rattle.fault_lists.specs.Telling.{IsFirst}
 use Rattle.fault_lists.proofs.FacesOfRest as faces
-use Rattle.fault_lists.proofs.FacesOfRest.{by_ends, by_sides, ends_off, fewer_crosses, same_count, same_object}
+use Rattle.fault_lists.proofs.FacesOfRest.{by_ends, by_sides, ends_off, fewer_crosses, same_count}
+use Rattle.fault_lists.proofs.FacesOfRest.{same_object}
 use Rattle.fault_lists.proofs.Least.{equal_or_not, first_point}
 use Rattle.fault_lists.proofs.Told.{first_off, outer_off}
 
@@ -46,7 +51,8 @@ module _ (d r : Plan) (out : ℕ → Bool) (rest : IsRestOf d r out) (f : Drawin
       let (n, h) = faces.face_of d r out rest f D z Z off in
       elim (equal_or_not n 0) [ inl e ↦ inl (faces.number_outer d r out rest f D z n Z h e) | inr ne ↦ inr (λ o. ne (faces.outer_number d r out rest f D z n Z h o)) ]
 
-  told_open : (z : Vector) (n : ℕ) → Place z → In z n → is_open f n ≡ true → IsToldOpen d r out rest t z
+  told_open : (z : Vector) (n : ℕ) → Place z → In z n → is_open f n ≡ true
+      → IsToldOpen d r out rest t z
   told_open z n Z h e = elim (equal_or_not n 0) [
     | inl s ↦ inl (faces.number_outer d r out rest f D z n Z h s, T.outer_open ∙ subst (λ m. is_open f m ≡ true) s e)
     | inr ne ↦
@@ -54,12 +60,14 @@ module _ (d r : Plan) (out : ℕ → Bool) (rest : IsRestOf d r out) (f : Drawin
         inr (s, (T.broken.is s).1 (record { n = n; is = record { bounded = ne; broken = e }; side = l }), faces.is_beside d r out rest f D n s z Z h l.side)
   ]
 
-  closed_or_told : (z : Vector) → Place z → IsOff r z → IsClosed d r out z ⊎ IsToldOpen d r out rest t z
+  closed_or_told : (z : Vector) → Place z → IsOff r z
+      → IsClosed d r out z ⊎ IsToldOpen d r out rest t z
   closed_or_told z Z off =
       let (n, h) = faces.face_of d r out rest f D z Z off in
       elim (cases_Bool (is_open f n)) [ inl e ↦ inr (told_open z n Z h e) | inr e ↦ inl (faces.number_closed d r out rest f D z n Z h e) ]
 
-  open_is_open : (s : SideAt) → Contains t.open.items s → (z : Vector) × Place z × IsBeside d r out rest s z × IsOpen d r out z
+  open_is_open : (s : SideAt) → Contains t.open.items s
+      → (z : Vector) × Place z × IsBeside d r out rest s z × IsOpen d r out z
   open_is_open s c =
       let b = (T.broken.is s).0 c in
       let e = faces.side_has_end d r out rest f D b.n s b.side.side in
@@ -131,7 +139,8 @@ module _ (d r : Plan) (out : ℕ → Bool) (rest : IsRestOf d r out) (f : Drawin
         ]
       ]
 
-  shared : (i j : ℕ) → AreTwo d i j → IsClosed d r out (at i) → (IsOuter r (at i) → ⊥) → AreToldTwo t i j
+  shared : (i j : ℕ) → AreTwo d i j → IsClosed d r out (at i) → (IsOuter r (at i) → ⊥)
+      → AreToldTwo t i j
   shared i j two closed inner =
       let l : i < length d.points = let a = two.order in let b = two.there in omega (arith, a, b) in
       let joined = fewer_joined d r out rest (at i) (at j) (at_place i) two.joined in
@@ -156,7 +165,8 @@ module _ (d r : Plan) (out : ℕ → Bool) (rest : IsRestOf d r out) (f : Drawin
           let same = faces.one_number d r out rest f D z (at j) n c Z (at_place j) h g joined in
           is.none j (subst (λ s. IsIn f j s) (sym same) i)
 
-  empty_is : (s : SideAt) → Contains t.empty.items s → (z : Vector) × Place z × IsBeside d r out rest s z × IsLost d z
+  empty_is : (s : SideAt) → Contains t.empty.items s
+      → (z : Vector) × Place z × IsBeside d r out rest s z × IsLost d z
   empty_is s c =
       let b = (T.empty.is s).0 c in
       let e = faces.side_has_end d r out rest f D b.n s b.side.side in
@@ -170,7 +180,8 @@ module _ (d r : Plan) (out : ℕ → Bool) (rest : IsRestOf d r out) (f : Drawin
       let k = (T.empty.is o).0 e in
       faces.one_least d r out rest f D h.n k.n s o z Z h.side k.side
 
-  empty : (z : Vector) → Place z → IsOff d z → IsLost d z → IsClosed d r out z → (s : SideAt) × Contains t.empty.items s × IsBeside d r out rest s z
+  empty : (z : Vector) → Place z → IsOff d z → IsLost d z → IsClosed d r out z
+      → (s : SideAt) × Contains t.empty.items s × IsBeside d r out rest s z
   empty z Z off lost closed =
       let (n, h) = faces.face_of d r out rest f D z Z (fewer_off d r out rest z off) in
       let bounded : n ≡ 0 → ⊥ = λ e. lost.inner ((stays_outer d r out rest z Z closed).1 (faces.number_outer d r out rest f D z n Z h e)) in
@@ -212,7 +223,8 @@ module _ (d r : Plan) (out : ℕ → Bool) (rest : IsRestOf d r out) (f : Drawin
     | inr o ↦ faces.outer_number d r out rest f D u m a.first h o.0 ∙ sym (faces.outer_number d r out rest f D v n a.second k o.1)
   ]
 
-  cuts : (i : ℕ) (c : IsCut d i) → i < length d.curves → (out i ≡ true → ⊥) → IsClosed d r out c.p → IsClosed d r out c.q → Contains t.cuts.items i
+  cuts : (i : ℕ) (c : IsCut d i) → i < length d.curves → (out i ≡ true → ⊥) → IsClosed d r out c.p
+      → IsClosed d r out c.q → Contains t.cuts.items i
   cuts i c l kept p_closed q_closed = by (faces_of f i) refl
     where
       there : i < length f.curves.items
@@ -245,7 +257,8 @@ module _ (d r : Plan) (out : ℕ → Bool) (rest : IsRestOf d r out) (f : Drawin
       let (l, h) = faces.face_point d r out rest f D j o.n o.in_face in
       faces.number_open d r out rest f D (at j) o.n (at_place j) h o.broken
 
-  unjudged : (j : ℕ) → j < length d.points → IsOff r (at j) → IsOpen d r out (at j) → Contains t.unjudged.items j
+  unjudged : (j : ℕ) → j < length d.points → IsOff r (at j) → IsOpen d r out (at j)
+      → Contains t.unjudged.items j
   unjudged j l off o =
       let (n, i, h) = faces.point_face d r out rest f D j l off in
       let broken : is_open f n ≡ true = elim (cases_Bool (is_open f n)) [

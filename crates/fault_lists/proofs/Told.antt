@@ -1,5 +1,6 @@
 -- Each fault of the drawing is in its list, or in a face that is told to be open.
-use Rattle.std.proofs.Common.{◌≡◌, ◌⊎◌, inl, inr, ℕ, ◌<◌, Bool, true, false, length, pos, refl, sym, ◌∙◌, arith}
+use Rattle.std.proofs.Common.{◌≡◌, ◌⊎◌, inl, inr, ℕ, ◌<◌, Bool, true, false, length, pos, refl, sym}
+use Rattle.std.proofs.Common.{◌∙◌, arith}
 use Rattle.std.specs.List.{Contains}
 use Rattle.plane.specs.Rule.CrossedCurves.{IsLost}
 use Rattle.plane.specs.Rule.Cuts.{IsCut}
@@ -15,7 +16,8 @@ use Rattle.plane.proofs.Linear.EdgePlaces.{place_point}
 use Rattle.fault_lists.specs.declared.kinds.Faults.{Faults}
 use Rattle.fault_lists.specs.declared.kinds.SideAt.{SideAt}
 use Rattle.fault_lists.specs.Faults.{AreTwo, LiesOutside}
-use Rattle.fault_lists.specs.FaultLists.{AreFaults, AreToldTwo, IsBeside, IsMet, IsToldOpen, IsToldOr}
+use Rattle.fault_lists.specs.FaultLists.{AreFaults, AreToldTwo, IsBeside, IsMet, IsToldOpen}
+use Rattle.fault_lists.specs.FaultLists.{IsToldOr}
 use Rattle.fault_lists.proofs.FacesOfRest.{ends_off}
 
 -- what is joined to a place is off the curves
@@ -27,17 +29,20 @@ outer_off d p P h = let (q, Q, j, l) = h (pos 0) in first_off d p q P j
 
 module _ (d : Plan) (f : Faults) (all : AreFaults d f) where
   -- an outer point is told, or its face is
-  outer_told : (b : Bool) → f.faces.outer_open ≡ b → (j : ℕ) → LiesOutside d j → IsToldOr d f all (point (object d j)) (Contains f.faces.outside.items j)
+  outer_told : (b : Bool) → f.faces.outer_open ≡ b → (j : ℕ) → LiesOutside d j
+      → IsToldOr d f all (point (object d j)) (Contains f.faces.outside.items j)
   outer_told true e j h = inr (inl (fewer_outer d all.r all.out all.rest (point (object d j)) (place_point (object d j)) h.outer, e))
   outer_told false e j h = inl (all.over.outside j h e)
 
-  pub outside_told : (j : ℕ) → LiesOutside d j → IsToldOr d f all (point (object d j)) (Contains f.faces.outside.items j)
+  pub outside_told : (j : ℕ) → LiesOutside d j
+      → IsToldOr d f all (point (object d j)) (Contains f.faces.outside.items j)
   outside_told j h = outer_told f.faces.outer_open refl j h
 
   abbrev AreTold : ℕ → ℕ → Type 0
   AreTold i j = IsToldOr d f all (point (object d i)) (Contains f.faces.outside.items i ⊎ AreToldTwo f.faces i j)
 
-  pub two_told : (i j : ℕ) → AreTwo d i j → IsToldOr d f all (point (object d i)) (Contains f.faces.outside.items i ⊎ AreToldTwo f.faces i j)
+  pub two_told : (i j : ℕ) → AreTwo d i j
+      → IsToldOr d f all (point (object d i)) (Contains f.faces.outside.items i ⊎ AreToldTwo f.faces i j)
   two_told i j h = by (all.over.closed_or_told z Z off)
     where
       z : Vector
@@ -61,27 +66,34 @@ module _ (d : Plan) (f : Faults) (all : AreFaults d f) where
       by (inl c) = inside c (all.over.outer_or_not z Z off)
       by (inr t) = inr t
 
-  pub empty_told : (z : Vector) → Place z → IsOff d z → IsLost d z → IsToldOr d f all z ((s : SideAt) × Contains f.faces.empty.items s × IsBeside d all.r all.out all.rest s z)
+  pub empty_told : (z : Vector) → Place z → IsOff d z → IsLost d z
+      → IsToldOr d f all z ((s : SideAt) × Contains f.faces.empty.items s × IsBeside d all.r all.out all.rest s z)
   empty_told z Z off lost = by (all.over.closed_or_told z Z (fewer_off d all.r all.out all.rest z off))
     where
-      by : IsClosed d all.r all.out z ⊎ IsToldOpen d all.r all.out all.rest f.faces z → IsToldOr d f all z ((s : SideAt) × Contains f.faces.empty.items s × IsBeside d all.r all.out all.rest s z)
+      by : IsClosed d all.r all.out z ⊎ IsToldOpen d all.r all.out all.rest f.faces z
+          → IsToldOr d f all z ((s : SideAt) × Contains f.faces.empty.items s × IsBeside d all.r all.out all.rest s z)
       by (inl c) = inl (all.over.empty z Z off lost c)
       by (inr t) = inr t
 
   abbrev CutTold : ℕ → Vector → Vector → Type 0
   CutTold i p q = IsToldOr d f all p (IsToldOr d f all q (Contains f.faces.cuts.items i ⊎ (IsMet f.meetings.items i ⊎ (f.all_out ≡ true))))
 
-  pub cut_told : (i : ℕ) (c : IsCut d i) → i < length d.curves → IsToldOr d f all c.p (IsToldOr d f all c.q (Contains f.faces.cuts.items i ⊎ (IsMet f.meetings.items i ⊎ (f.all_out ≡ true))))
+  pub cut_told : (i : ℕ) (c : IsCut d i) → i < length d.curves
+      → IsToldOr d f all c.p (IsToldOr d f all c.q (Contains f.faces.cuts.items i ⊎ (IsMet f.meetings.items i ⊎ (f.all_out ≡ true))))
   cut_told i c l = by (all.out i) refl
     where
       e : Place c.p × Place c.q × IsOff d c.p × IsOff d c.q
       e = ends_off (curve d i).kind d i c.p c.q c.crossing
 
-      second : (all.out i ≡ true → ⊥) → IsClosed d all.r all.out c.p → IsClosed d all.r all.out c.q ⊎ IsToldOpen d all.r all.out all.rest f.faces c.q → CutTold i c.p c.q
+      second : (all.out i ≡ true → ⊥) → IsClosed d all.r all.out c.p
+          → IsClosed d all.r all.out c.q ⊎ IsToldOpen d all.r all.out all.rest f.faces c.q
+          → CutTold i c.p c.q
       second kept cp (inl cq) = inl (inl (inl (all.over.cuts i c l kept cp cq)))
       second kept cp (inr t) = inl (inr t)
 
-      first : (all.out i ≡ true → ⊥) → IsClosed d all.r all.out c.p ⊎ IsToldOpen d all.r all.out all.rest f.faces c.p → CutTold i c.p c.q
+      first : (all.out i ≡ true → ⊥)
+          → IsClosed d all.r all.out c.p ⊎ IsToldOpen d all.r all.out all.rest f.faces c.p
+          → CutTold i c.p c.q
       first kept (inl cp) = second kept cp (all.over.closed_or_told c.q e.1 (fewer_off d all.r all.out all.rest c.q e.3))
       first kept (inr t) = inr t
 

@@ -1,5 +1,6 @@
 -- Digits as a number at scale 0.
-use Rattle.std.proofs.Common.{◌≡◌, ℕ, ◌^◌, ◌<◌, Bool, true, false, cond, ltb, eqb, List, [], ◌∷◌, Ok, Err, ℤ, pos, refl, sym, ap, ◌∙◌, arith}
+use Rattle.std.proofs.Common.{◌≡◌, ℕ, ◌^◌, ◌<◌, Bool, true, false, cond, ltb, eqb, List, [], ◌∷◌}
+use Rattle.std.proofs.Common.{Ok, Err, ℤ, pos, refl, sym, ap, ◌∙◌, arith}
 use Rattle.std.specs.Prelude.{int_lt}
 use Rattle.std.proofs.lemmas.Bool.Decides.{nat_tests}
 use borrow.Author.Tests.{ltb-false}
@@ -27,11 +28,13 @@ pointless : (ds : List ℕ) → all_ascii_digits ds ≡ true → holds_point ds 
 pointless [] h = refl
 pointless (c ∷ cs) h = rw (no_point c (both_left _ _ h)) (pointless cs (both_right _ _ h))
 
-with_no_sign : (b : Bool) (n : ℕ) → signed unsigned (cond b (Ok n) (Err TooLong)) ≡ cond b (Ok (pos n)) (Err TooLong)
+with_no_sign : (b : Bool) (n : ℕ)
+    → signed unsigned (cond b (Ok n) (Err TooLong)) ≡ cond b (Ok (pos n)) (Err TooLong)
 with_no_sign true n = refl
 with_no_sign false n = refl
 
-pub scaled_of_digits : (ds : List ℕ) → is_digits ds ≡ true → scaled_of ds 0 ≡ cond (ltb (number ds) (10 ^ 18)) (Ok (pos (number ds))) (Err TooLong)
+pub scaled_of_digits : (ds : List ℕ) → is_digits ds ≡ true
+    → scaled_of ds 0 ≡ cond (ltb (number ds) (10 ^ 18)) (Ok (pos (number ds))) (Err TooLong)
 scaled_of_digits [] h = cc
 scaled_of_digits (c ∷ cs) h =
     let d : all_ascii_digits (c ∷ cs) ≡ true = both_right _ _ h in
@@ -47,15 +50,18 @@ value_of m false v h = cc
 less : (m n : ℕ) → int_lt (pos m) (pos n) ≡ ltb m n
 less m n = refl
 
-pub value_below : (ds : List ℕ) (v : ℤ) (n : ℕ) → is_digits ds ≡ true → scaled_of ds 0 ≡ Ok v → int_lt v (pos n) ≡ ltb (number ds) n
+pub value_below : (ds : List ℕ) (v : ℤ) (n : ℕ) → is_digits ds ≡ true → scaled_of ds 0 ≡ Ok v
+    → int_lt v (pos n) ≡ ltb (number ds) n
 value_below ds v n h e =
     let p : pos (number ds) ≡ v = value_of (number ds) _ v (sym (scaled_of_digits ds h) ∙ e) in
     ap (λ (z : ℤ). int_lt z (pos n)) (sym p) ∙ less (number ds) n
 
 -- digits without a value write more than each number of 18 digits
-long_by : (m n : ℕ) (b : Bool) (f : DecimalFault) → n < 10 ^ 18 → ltb m (10 ^ 18) ≡ b → cond b (Ok (pos m)) (Err TooLong) ≡ Err f → ltb m n ≡ false
+long_by : (m n : ℕ) (b : Bool) (f : DecimalFault) → n < 10 ^ 18 → ltb m (10 ^ 18) ≡ b
+    → cond b (Ok (pos m)) (Err TooLong) ≡ Err f → ltb m n ≡ false
 long_by m n true f l e h = cc
 long_by m n false f l e h = grind (arith, nat_tests, ltb-false m (10 ^ 18) e)
 
-pub fault_above : (ds : List ℕ) (f : DecimalFault) (n : ℕ) → n < 10 ^ 18 → is_digits ds ≡ true → scaled_of ds 0 ≡ Err f → ltb (number ds) n ≡ false
+pub fault_above : (ds : List ℕ) (f : DecimalFault) (n : ℕ) → n < 10 ^ 18 → is_digits ds ≡ true
+    → scaled_of ds 0 ≡ Err f → ltb (number ds) n ≡ false
 fault_above ds f n l h e = long_by (number ds) n _ f l refl (sym (scaled_of_digits ds h) ∙ e)

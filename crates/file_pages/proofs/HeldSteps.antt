@@ -1,5 +1,6 @@
 -- Texts that are held, part by part.
-use Rattle.std.proofs.Common.{◌≡◌, ◌≤◌, ◌<◌, ◌+◌, ◌-◌, ℕ, zero, suc, List, [], ◌∷◌, ◌++◌, length, take, drop, get_or, refl, sym, ap, ◌∙◌, append_assoc, arith}
+use Rattle.std.proofs.Common.{◌≡◌, ◌≤◌, ◌<◌, ◌+◌, ◌-◌, ℕ, zero, suc, List, [], ◌∷◌, ◌++◌, length}
+use Rattle.std.proofs.Common.{take, drop, get_or, refl, sym, ap, ◌∙◌, append_assoc, arith}
 use Rattle.std.proofs.lemmas.Grind.{common_steps}
 use Rattle.std.proofs.lemmas.List.{append-nil, length-drop, take-append-le, drop-append-le}
 use Rattle.file_pages.specs.Held.{times, settled_by, spliced}
@@ -17,7 +18,9 @@ times_more n line = ap (λ (m : ℕ). times m line) (let e : n + 1 ≡ suc n = o
 settled_less : (n : ℕ) (a m l k : ℕ) → a + m ≤ l → k ≡ l - a → m ≤ k
 settled_less n a m l k h e = omega (arith, h, e)
 
-with_bytes : (line : List ℕ) (repeats : List Repeat) (bytes more : List ℕ) → settled_by repeats ≤ length bytes → spliced line repeats (bytes ++ more) ≡ spliced line repeats bytes ++ more
+with_bytes : (line : List ℕ) (repeats : List Repeat) (bytes more : List ℕ)
+    → settled_by repeats ≤ length bytes
+    → spliced line repeats (bytes ++ more) ≡ spliced line repeats bytes ++ more
 with_bytes line [] bytes more h = refl
 with_bytes line (r ∷ repeats) bytes more h =
     let n = r.after in
@@ -31,11 +34,14 @@ with_bytes line (r ∷ repeats) bytes more h =
     ∙ (ap (λ (t : List ℕ). front ++ (lines ++ t)) e
     ∙ (ap (λ (t : List ℕ). front ++ t) (sym (append_assoc lines (spliced line repeats rest) more)) ∙ sym (append_assoc front (lines ++ spliced line repeats rest) more))))
 
-pub bytes_more : (line : List ℕ) (repeats : List Repeat) (bytes new more view : List ℕ) → new ≡ bytes ++ more → settled_by repeats ≤ length bytes → view ≡ spliced line repeats bytes → spliced line repeats new ≡ view ++ more
+pub bytes_more : (line : List ℕ) (repeats : List Repeat) (bytes new more view : List ℕ)
+    → new ≡ bytes ++ more → settled_by repeats ≤ length bytes → view ≡ spliced line repeats bytes
+    → spliced line repeats new ≡ view ++ more
 bytes_more line repeats bytes new more view e h v = ap (spliced line repeats) e ∙ (with_bytes line repeats bytes more h ∙ ap (λ (t : List ℕ). t ++ more) (sym v))
 
 -- ---- a block with one place more
-pub settled_more : (repeats : List Repeat) (r : Repeat) → settled_by (repeats ++ r ∷ []) ≡ settled_by repeats + r.after
+pub settled_more : (repeats : List Repeat) (r : Repeat)
+    → settled_by (repeats ++ r ∷ []) ≡ settled_by repeats + r.after
 settled_more [] r = omega arith
 settled_more (q ∷ repeats) r = let e = settled_more repeats r in omega (arith, e)
 
@@ -45,7 +51,9 @@ all_taken n bytes e = grind (arith, common_steps)
 none_left : (n : ℕ) (bytes : List ℕ) → n ≡ length bytes → drop n bytes ≡ []
 none_left n bytes e = grind (arith, common_steps)
 
-with_repeat : (line : List ℕ) (repeats : List Repeat) (bytes : List ℕ) (r : Repeat) → settled_by repeats + r.after ≡ length bytes → spliced line (repeats ++ r ∷ []) bytes ≡ spliced line repeats bytes ++ times r.count line
+with_repeat : (line : List ℕ) (repeats : List Repeat) (bytes : List ℕ) (r : Repeat)
+    → settled_by repeats + r.after ≡ length bytes
+    → spliced line (repeats ++ r ∷ []) bytes ≡ spliced line repeats bytes ++ times r.count line
 with_repeat line [] bytes r h =
     let n : r.after ≡ length bytes = omega (arith, h) in
     ap (λ (t : List ℕ). t ++ (times r.count line ++ drop r.after bytes)) (all_taken r.after bytes n)
@@ -59,19 +67,24 @@ with_repeat line (q ∷ repeats) bytes r h =
     ap (λ (t : List ℕ). front ++ (lines ++ t)) e
     ∙ (ap (λ (t : List ℕ). front ++ t) (sym (append_assoc lines (spliced line repeats rest) (times r.count line))) ∙ sym (append_assoc front (lines ++ spliced line repeats rest) (times r.count line)))
 
-pub repeat_more : (line : List ℕ) (repeats new : List Repeat) (bytes view : List ℕ) (r : Repeat) → new ≡ repeats ++ r ∷ [] → settled_by repeats + r.after ≡ length bytes → view ≡ spliced line repeats bytes → spliced line new bytes ≡ view ++ times r.count line
+pub repeat_more : (line : List ℕ) (repeats new : List Repeat) (bytes view : List ℕ) (r : Repeat)
+    → new ≡ repeats ++ r ∷ [] → settled_by repeats + r.after ≡ length bytes
+    → view ≡ spliced line repeats bytes → spliced line new bytes ≡ view ++ times r.count line
 repeat_more line repeats new bytes view r e h v = ap (λ (rs : List Repeat). spliced line rs bytes) e ∙ (with_repeat line repeats bytes r h ∙ ap (λ (t : List ℕ). t ++ times r.count line) (sym v))
 
 -- ---- a block that is put, one place more
-repeat_there : (repeats : List Repeat) (i : ℕ) (r : Repeat) → i < length repeats → r ≡ get_or repeats i r → drop i repeats ≡ r ∷ drop (i + 1) repeats
+repeat_there : (repeats : List Repeat) (i : ℕ) (r : Repeat) → i < length repeats
+    → r ≡ get_or repeats i r → drop i repeats ≡ r ∷ drop (i + 1) repeats
 repeat_there repeats i r l e = by repeats i l e ∙ ap (λ (m : ℕ). r ∷ drop m repeats) (let s : suc i ≡ i + 1 = omega arith in s)
   where
-    by : (repeats : List Repeat) (i : ℕ) → i < length repeats → r ≡ get_or repeats i r → drop i repeats ≡ r ∷ drop (suc i) repeats
+    by : (repeats : List Repeat) (i : ℕ) → i < length repeats → r ≡ get_or repeats i r
+        → drop i repeats ≡ r ∷ drop (suc i) repeats
     by [] i l e = absurd (omega (arith, l))
     by (q ∷ repeats) zero l e = ap (λ (x : Repeat). x ∷ repeats) (sym e)
     by (q ∷ repeats) (suc i) l e = by repeats i (omega (arith, l)) e
 
-pub place_put : (line done left rest whole : List ℕ) (repeats : List Repeat) (i : ℕ) (r : Repeat) → i < length repeats → r ≡ get_or repeats i r → rest ≡ drop r.after left
+pub place_put : (line done left rest whole : List ℕ) (repeats : List Repeat) (i : ℕ) (r : Repeat)
+    → i < length repeats → r ≡ get_or repeats i r → rest ≡ drop r.after left
     → done ++ spliced line (drop i repeats) left ≡ whole → (done ++ (take r.after left ++ times r.count line)) ++ spliced line (drop (i + 1) repeats) rest ≡ whole
 place_put line done left rest whole repeats i r l e g h =
     let front = take r.after left in
@@ -82,7 +95,8 @@ place_put line done left rest whole repeats i r l e g h =
     ∙ (ap (λ (t : List ℕ). done ++ t) (append_assoc front lines (spliced line later (drop r.after left)))
     ∙ (ap (λ (rs : List Repeat). done ++ spliced line rs left) (sym (repeat_there repeats i r l e)) ∙ h)))
 
-pub none_put : (line done left whole : List ℕ) (repeats : List Repeat) (i : ℕ) → length repeats ≤ i → done ++ spliced line (drop i repeats) left ≡ whole → done ++ left ≡ whole
+pub none_put : (line done left whole : List ℕ) (repeats : List Repeat) (i : ℕ) → length repeats ≤ i
+    → done ++ spliced line (drop i repeats) left ≡ whole → done ++ left ≡ whole
 none_put line done left whole repeats i l h = ap (λ (rs : List Repeat). done ++ spliced line rs left) (sym (beyond repeats i l)) ∙ h
   where
     beyond : (repeats : List Repeat) (i : ℕ) → length repeats ≤ i → drop i repeats ≡ []

@@ -13,7 +13,8 @@ steps-add f (suc m) n h = let e : suc m + n ≡ suc (m + n) = omega arith in ap 
 pub leads_onward : (f : ℕ → ℕ) (g h k : ℕ) → Leads f g h → Leads f h k → Leads f g k
 leads_onward f g h k a b = record { count = b.count + a.count; there = steps-add f b.count a.count g ∙ (ap (steps f b.count) a.there ∙ b.there) }
 
-steps_within : (f : ℕ → ℕ) (n : ℕ) → ((h : ℕ) → h < n → f h < n) → (c h : ℕ) → h < n → steps f c h < n
+steps_within : (f : ℕ → ℕ) (n : ℕ) → ((h : ℕ) → h < n → f h < n) → (c h : ℕ) → h < n
+    → steps f c h < n
 steps_within f n inside zero h l = l
 steps_within f n inside (suc c) h l = inside _ (steps_within f n inside c h l)
 
@@ -31,7 +32,8 @@ record Returns (f : ℕ → ℕ) (h : ℕ) : Type 0 where
   pub fewer : ℕ
   pub there : steps f (suc fewer) h ≡ h
 
-returns : (f back : ℕ → ℕ) (n : ℕ) → ((h : ℕ) → h < n → f h < n) → ((h : ℕ) → h < n → back (f h) ≡ h) → (h : ℕ) → h < n → Returns f h
+returns : (f back : ℕ → ℕ) (n : ℕ) → ((h : ℕ) → h < n → f h < n)
+    → ((h : ℕ) → h < n → back (f h) ≡ h) → (h : ℕ) → h < n → Returns f h
 returns f back n inside undo h l =
     let t = pigeons n (λ k. steps f k h) (λ k _. steps_within f n inside k h l) in
     let d = t.other - t.one in
@@ -49,7 +51,8 @@ way_back : (f : ℕ → ℕ) (g : ℕ) → Returns f g → (c : ℕ) → Leads f
 way_back f g r zero = record { count = 0; there = refl }
 way_back f g r (suc c) = let w = way_back f g r c in step_off f g (steps f c g) r w.count w.there
 
-pub cycles_part : (f back : ℕ → ℕ) (n : ℕ) → ((h : ℕ) → h < n → f h < n) → ((h : ℕ) → h < n → back (f h) ≡ h) → Parts f n
+pub cycles_part : (f back : ℕ → ℕ) (n : ℕ) → ((h : ℕ) → h < n → f h < n)
+    → ((h : ℕ) → h < n → back (f h) ≡ h) → Parts f n
 cycles_part f back n inside undo = record {
   within = λ g h l a. rw (← a.there) (steps_within f n inside a.count g l);
   itself = λ h l. record { count = 0; there = refl };
@@ -58,7 +61,8 @@ cycles_part f back n inside undo = record {
 }
 
 -- a number that f keeps is the same all along
-pub kept_along : (f number : ℕ → ℕ) (n : ℕ) → ((h : ℕ) → h < n → f h < n) → ((h : ℕ) → h < n → number (f h) ≡ number h)
+pub kept_along : (f number : ℕ → ℕ) (n : ℕ) → ((h : ℕ) → h < n → f h < n)
+    → ((h : ℕ) → h < n → number (f h) ≡ number h)
     → (c h : ℕ) → h < n → number (steps f c h) ≡ number h
 kept_along f number n inside same zero h l = refl
 kept_along f number n inside same (suc c) h l = same _ (steps_within f n inside c h l) ∙ kept_along f number n inside same c h l

@@ -1,12 +1,16 @@
-use Rattle.std.proofs.Common.{◌≡◌, ◌≢◌, ℕ, ◌<◌, ◌+◌, ◌-◌, ◌^◌, List, [], ◌∷◌, ◌++◌, length, length-append, get_or, arith, ap, sym, ◌∙◌, refl, inl, inr, replicate, subst}
-use Rattle.std.proofs.lemmas.List.{get_or_append_left, get_or-append_right, replicate-append-replicate}
+use Rattle.std.proofs.Common.{◌≡◌, ◌≢◌, ℕ, ◌<◌, ◌+◌, ◌-◌, ◌^◌, List, [], ◌∷◌, ◌++◌, length}
+use Rattle.std.proofs.Common.{length-append, get_or, arith, ap, sym, ◌∙◌, refl, inl, inr, replicate}
+use Rattle.std.proofs.Common.{subst}
+use Rattle.std.proofs.lemmas.List.{get_or_append_left, get_or-append_right}
+use Rattle.std.proofs.lemmas.List.{replicate-append-replicate}
 use Rattle.std.proofs.lemmas.Bool.{cases_lt, cases_eq}
 use Rattle.half_edges.specs.HalfEdges.{HalfEdges, size, edge_count, twin_of}
 use Rattle.half_edges.specs.Meshes.{IsMesh}
 use Rattle.half_edges.proofs.Twins.{twin_within}
 
 -- one more pair at the end of a list
-pub pair_before : (xs : List ℕ) (n x y h : ℕ) → length xs ≡ n → h < n → get_or (xs ++ x ∷ y ∷ []) h 0 ≡ get_or xs h 0
+pub pair_before : (xs : List ℕ) (n x y h : ℕ) → length xs ≡ n → h < n
+    → get_or (xs ++ x ∷ y ∷ []) h 0 ≡ get_or xs h 0
 pair_before xs n x y h e l = get_or_append_left xs (x ∷ y ∷ []) 0 h (omega arith)
 
 pub pair_first : (xs : List ℕ) (n x y : ℕ) → length xs ≡ n → get_or (xs ++ x ∷ y ∷ []) n 0 ≡ x
@@ -14,7 +18,8 @@ pair_first xs n x y e =
     let k : n - n ≡ 0 = omega arith in
     get_or-append_right xs (x ∷ y ∷ []) n n 0 e (omega arith) ∙ rw k
 
-pub pair_second : (xs : List ℕ) (n x y : ℕ) → length xs ≡ n → get_or (xs ++ x ∷ y ∷ []) (n + 1) 0 ≡ y
+pub pair_second : (xs : List ℕ) (n x y : ℕ) → length xs ≡ n
+    → get_or (xs ++ x ∷ y ∷ []) (n + 1) 0 ≡ y
 pair_second xs n x y e =
     let k : n + 1 - n ≡ 1 = omega arith in
     get_or-append_right xs (x ∷ y ∷ []) n (n + 1) 0 e (omega arith) ∙ rw k
@@ -23,7 +28,8 @@ pub pair_length : (xs : List ℕ) (n x y : ℕ) → length xs ≡ n → length (
 pair_length xs n x y e = length-append xs (x ∷ y ∷ []) ∙ omega arith
 
 -- what holds of the numbers below n, and of the next two, holds of those below n + 2
-pub below_pair : (P : ℕ → Type 0) (n : ℕ) → ((h : ℕ) → h < n → P h) → P n → P (n + 1) → (h : ℕ) → h < n + 2 → P h
+pub below_pair : (P : ℕ → Type 0) (n : ℕ) → ((h : ℕ) → h < n → P h) → P n → P (n + 1) → (h : ℕ)
+    → h < n + 2 → P h
 below_pair P n below here there h l = elim (cases_lt h n) [
   | inl m ↦ below h m
   | inr m ↦ elim (cases_eq h n) [
@@ -42,7 +48,8 @@ extended m low high = record {
   face = m.face ++ 0 ∷ 0 ∷ [];
 }
 
-pub mesh_extended : (m : HalfEdges) (low high : ℕ) → IsMesh m → low < m.vertices → high < m.vertices → low ≢ high → size m + 2 < 2 ^ 32
+pub mesh_extended : (m : HalfEdges) (low high : ℕ) → IsMesh m → low < m.vertices → high < m.vertices
+    → low ≢ high → size m + 2 < 2 ^ 32
     → IsMesh (extended m low high)
 mesh_extended m low high mesh lo hi apart room =
     let n = size m in
@@ -105,6 +112,7 @@ mesh_added m low high down up next prev origin face mesh lo hi apart room de ue 
     let even = mesh.pairs in
     rw (ne, pe, oe, fe, ue, de) (mesh_extended m low high mesh lo hi apart (omega arith))
 
-pub unset_added : (m : HalfEdges) (x y : ℕ) (next face : List ℕ) → m.face ≡ replicate (size m) 0 → next ≡ m.next ++ x ∷ y ∷ [] → face ≡ m.face ++ 0 ∷ 0 ∷ []
+pub unset_added : (m : HalfEdges) (x y : ℕ) (next face : List ℕ) → m.face ≡ replicate (size m) 0
+    → next ≡ m.next ++ x ∷ y ∷ [] → face ≡ m.face ++ 0 ∷ 0 ∷ []
     → face ≡ replicate (length next) 0
 unset_added m x y next face old ne fe = rw (fe, ne, old, pair_length m.next (size m) x y refl) (replicate-append-replicate (size m) 2 0)

@@ -1,4 +1,6 @@
-use Rattle.std.proofs.Common.{◌≡◌, ◌≢◌, ℕ, zero, suc, ◌<◌, ◌+◌, ◌%◌, List, length, get_or, set, arith, ap, ◌∙◌, refl, below_more, get_or-set_same, get_or-set_other, inl, inr}
+use Rattle.std.proofs.Common.{◌≡◌, ◌≢◌, ℕ, zero, suc, ◌<◌, ◌+◌, ◌%◌, List, length, get_or, set}
+use Rattle.std.proofs.Common.{arith, ap, ◌∙◌, refl, below_more, get_or-set_same, get_or-set_other}
+use Rattle.std.proofs.Common.{inl, inr}
 use Rattle.std.proofs.lemmas.Bool.{cases_lt}
 use Rattle.std.proofs.lemmas.List.{length-set}
 use Rattle.half_edges.specs.HalfEdges.{twin_of}
@@ -9,10 +11,14 @@ use Rattle.half_edges.proofs.Twins.{twin_same, twin_within}
 pub record LinksUpTo (around next prev new_next new_prev : List ℕ) (i : ℕ) : Type 0 where
   pub next_length : length new_next ≡ length next
   pub prev_length : length new_prev ≡ length prev
-  pub next_is : (k : ℕ) → k < i → get_or new_next (twin_of (get_or around k 0)) 0 ≡ get_or around (before (length around) k) 0
-  pub prev_is : (k : ℕ) → k < i → get_or new_prev (get_or around (before (length around) k) 0) 0 ≡ twin_of (get_or around k 0)
-  pub next_stays : (h : ℕ) → ((k : ℕ) → k < i → h ≢ twin_of (get_or around k 0)) → get_or new_next h 0 ≡ get_or next h 0
-  pub prev_stays : (h : ℕ) → ((k : ℕ) → k < i → h ≢ get_or around (before (length around) k) 0) → get_or new_prev h 0 ≡ get_or prev h 0
+  pub next_is : (k : ℕ) → k < i
+      → get_or new_next (twin_of (get_or around k 0)) 0 ≡ get_or around (before (length around) k) 0
+  pub prev_is : (k : ℕ) → k < i
+      → get_or new_prev (get_or around (before (length around) k) 0) 0 ≡ twin_of (get_or around k 0)
+  pub next_stays : (h : ℕ) → ((k : ℕ) → k < i → h ≢ twin_of (get_or around k 0))
+      → get_or new_next h 0 ≡ get_or next h 0
+  pub prev_stays : (h : ℕ) → ((k : ℕ) → k < i → h ≢ get_or around (before (length around) k) 0)
+      → get_or new_prev h 0 ≡ get_or prev h 0
 
 pub before_within : (n k : ℕ) → k < n → before n k < n
 before_within n zero l = omega arith

@@ -1,4 +1,5 @@
-use Rattle.std.proofs.Common.{◌≡◌, ◌≢◌, ℕ, zero, suc, ◌<◌, List, length, get_or, arith, ap, sym, ◌∙◌, refl, ◌⊎◌, inl, inr, replicate, subst, below_more}
+use Rattle.std.proofs.Common.{◌≡◌, ◌≢◌, ℕ, zero, suc, ◌<◌, List, length, get_or, arith, ap, sym}
+use Rattle.std.proofs.Common.{◌∙◌, refl, ◌⊎◌, inl, inr, replicate, subst, below_more}
 use Rattle.std.proofs.lemmas.List.{get_or-replicate, length-replicate}
 use Rattle.std.proofs.lemmas.Bool.{cases_eq}
 use Rattle.half_edges.specs.HalfEdges.{HalfEdges, size, twin_of}
@@ -19,7 +20,8 @@ found f (suc n) h = elim (cases_eq h (f n)) [
 ]
 
 -- linking a loose star makes a mesh of a mesh
-pub linked_mesh : (old new : HalfEdges) (around : List ℕ) → IsMesh old → IsStar old around → IsLoose old around → IsLinked old new around → IsMesh new
+pub linked_mesh : (old new : HalfEdges) (around : List ℕ) → IsMesh old → IsStar old around
+    → IsLoose old around → IsLinked old new around → IsMesh new
 linked_mesh old new around mesh star loose linked =
     let n = length around in
     let at : ℕ → ℕ = λ k. get_or around k 0 in

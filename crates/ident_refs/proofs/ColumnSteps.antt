@@ -1,5 +1,6 @@
 -- References, column by column.
-use Rattle.std.proofs.Common.{◌≡◌, ℕ, ◌+◌, ◌<◌, ◌≤◌, List, ◌++◌, length, take, drop, get_or, sym, ap, ◌∙◌, arith, append_assoc, length-drop}
+use Rattle.std.proofs.Common.{◌≡◌, ℕ, ◌+◌, ◌<◌, ◌≤◌, List, ◌++◌, length, take, drop, get_or, sym}
+use Rattle.std.proofs.Common.{ap, ◌∙◌, arith, append_assoc, length-drop}
 use Rattle.ili_grammar.specs.Syntax.{Codes}
 use Rattle.resolver.specs.Values.{form_of}
 use Rattle.table_layout.specs.declared.layouts.Column.{Column as CodeColumn}
@@ -12,15 +13,18 @@ use Rattle.ident_refs.specs.KeptRows.{Ref, column_refs, columns_refs}
 use Rattle.ident_refs.proofs.Splits.{split}
 
 -- the words of a column and of those after it
-pub width_at : (i : ℕ) (columns : List CodeColumn) (c : CodeColumn) (n : ℕ) → i < length columns → c ≡ get_or columns i c
+pub width_at : (i : ℕ) (columns : List CodeColumn) (c : CodeColumn) (n : ℕ) → i < length columns
+    → c ≡ get_or columns i c
     → n ≡ widths (drop i (columns_view columns)) → n ≡ width (form_of c.form) + widths (drop (i + 1) (columns_view columns))
 width_at i columns c n lt at e = e ∙ ap widths (split column_view i columns c lt at).0
 
-pub width_below : (i : ℕ) (columns : List CodeColumn) (c : CodeColumn) (n w : ℕ) → i < length columns → c ≡ get_or columns i c → w ≡ width (form_of c.form)
+pub width_below : (i : ℕ) (columns : List CodeColumn) (c : CodeColumn) (n w : ℕ)
+    → i < length columns → c ≡ get_or columns i c → w ≡ width (form_of c.form)
     → n ≡ widths (drop i (columns_view columns)) → w ≤ n
 width_below i columns c n w lt at v e = let h = width_at i columns c n lt at e in omega (arith, h, v)
 
-pub rest_counted : (i : ℕ) (columns : List CodeColumn) (c : CodeColumn) (words : List (List ℕ)) (w : ℕ) → i < length columns → c ≡ get_or columns i c → w ≡ width (form_of c.form)
+pub rest_counted : (i : ℕ) (columns : List CodeColumn) (c : CodeColumn) (words : List (List ℕ)) (w : ℕ)
+    → i < length columns → c ≡ get_or columns i c → w ≡ width (form_of c.form)
     → length words ≡ widths (drop i (columns_view columns)) → length (drop w words) ≡ widths (drop (i + 1) (columns_view columns))
 rest_counted i columns c words w lt at v e = let h = width_at i columns c (length words) lt at e in length-drop w words ∙ omega (arith, h, v)
 

@@ -1,5 +1,7 @@
 -- The rows of a transfer, fed table by table.
-use Rattle.std.proofs.Common.{◌≡◌, ℕ, zero, suc, ◌+◌, ◌<◌, Bool, true, false, cond, nat_eq, List, [], ◌∷◌, ◌++◌, length, map, take, drop, slice_index_or, if◌then◌else◌, refl, sym, ap, ◌∙◌, arith, append-nil, add-one, ◌⊎◌, inl, inr}
+use Rattle.std.proofs.Common.{◌≡◌, ℕ, zero, suc, ◌+◌, ◌<◌, Bool, true, false, cond, nat_eq, List}
+use Rattle.std.proofs.Common.{[], ◌∷◌, ◌++◌, length, map, take, drop, slice_index_or, if◌then◌else◌}
+use Rattle.std.proofs.Common.{refl, sym, ap, ◌∙◌, arith, append-nil, add-one, ◌⊎◌, inl, inr}
 use Rattle.std.specs.List.{flat_map, All}
 use Rattle.std.proofs.lemmas.Bool.{eqb-true}
 use Rattle.std.proofs.lemmas.List.Elements.{All-weaker}
@@ -17,10 +19,13 @@ use Rattle.itf_reader.specs.RowFindings.{is_counted}
 use Rattle.itf_reader.specs.ClosedRows.{of_table, by_table_from}
 use Rattle.itf_reader.specs.Layouts.{wanted_of}
 use Rattle.ident_refs.specs.FedRows.{with_number, all_rows, fed_keys}
-use Rattle.ident_refs.specs.KeyFindings.{referred_table, word_findings, reference_finding, columns_references, row_references, tid_findings, ident_findings, table_keys, tables_keys}
+use Rattle.ident_refs.specs.KeyFindings.{referred_table, word_findings, reference_finding}
+use Rattle.ident_refs.specs.KeyFindings.{columns_references, row_references, tid_findings}
+use Rattle.ident_refs.specs.KeyFindings.{ident_findings, table_keys, tables_keys}
 
 -- ---- the rows of one table
-of_more : (n : ℕ) (rows more : List (ℕ × Row)) → of_table n (rows ++ more) ≡ of_table n rows ++ of_table n more
+of_more : (n : ℕ) (rows more : List (ℕ × Row))
+    → of_table n (rows ++ more) ≡ of_table n rows ++ of_table n more
 of_more n [] more = refl
 of_more n (p ∷ rows) more = elim (nat_eq p.0 n) as (λ b. cond b (p.1 ∷ of_table n (rows ++ more)) (of_table n (rows ++ more)) ≡ cond b (p.1 ∷ of_table n rows) (of_table n rows) ++ of_table n more)
     [ true ↦ ap (λ (l : List Row). p.1 ∷ l) (of_more n rows more) | false ↦ of_more n rows more ]
@@ -47,7 +52,8 @@ before n q (rows ∷ transfer) lt =
     ∙ ap (λ (l : List Row). l ++ of_table n (all_rows (q + 1) transfer)) (other_numbered n q rows (λ e. absurd (omega (arith, e, lt))))
     ∙ before n (q + 1) transfer (omega (arith, lt))
 
-at_place : (k n q : ℕ) (transfer : List (List Row)) → n ≡ q + k → of_table n (all_rows q transfer) ≡ slice_index_or transfer k []
+at_place : (k n q : ℕ) (transfer : List (List Row)) → n ≡ q + k
+    → of_table n (all_rows q transfer) ≡ slice_index_or transfer k []
 at_place k n q [] e = refl
 at_place zero n q (rows ∷ transfer) e =
     of_more n (with_number q rows) (all_rows (q + 1) transfer)
@@ -63,7 +69,8 @@ at_place (suc k) n q (rows ∷ transfer) e =
 abbrev SameAt : ℕ → List (List Row) → List (List Row) → Type 0
 SameAt count a b = (k : ℕ) → k < count → slice_index_or a k [] ≡ slice_index_or b k []
 
-reference_same : (codes : Codes) (count : ℕ) (a b : List (List Row)) (line number : ℕ) (form : Form) (words : List (List ℕ)) → SameAt count a b → RefersWithin count form
+reference_same : (codes : Codes) (count : ℕ) (a b : List (List Row)) (line number : ℕ) (form : Form) (words : List (List ℕ))
+    → SameAt count a b → RefersWithin count form
     → reference_finding codes a line number (referred_table form) words ≡ reference_finding codes b line number (referred_table form) words
 reference_same codes count a b line number (model.Reference k) words s w = ap (λ (rows : List Row). word_findings codes line number rows words) (s k w)
 reference_same codes count a b line number (model.Text n) words s w = refl
@@ -90,7 +97,8 @@ head_of P x xs h = h 0 x (omega arith)
 tail_of : {X : Type 0} (P : X → Type 0) (x : X) (xs : List X) → All P (x ∷ xs) → All P xs
 tail_of P x xs h = λ i d lt. h (suc i) d (omega (arith, lt))
 
-columns_same : (codes : Codes) (count : ℕ) (a b : List (List Row)) (line number : ℕ) (cs : List Column) (words : List (List ℕ)) → SameAt count a b → All (Within count) cs
+columns_same : (codes : Codes) (count : ℕ) (a b : List (List Row)) (line number : ℕ) (cs : List Column) (words : List (List ℕ))
+    → SameAt count a b → All (Within count) cs
     → columns_references codes a line number cs words ≡ columns_references codes b line number cs words
 columns_same codes count a b line number [] words s w = refl
 columns_same codes count a b line number (c ∷ cs) words s w =
@@ -99,10 +107,13 @@ columns_same codes count a b line number (c ∷ cs) words s w =
     ∙ ap (λ (fs : List Finding). reference_finding codes b line number (referred_table c.form) (take (width c.form) words) ++ fs)
     (columns_same codes count a b line (number + 1) cs (drop (width c.form) words) s (tail_of (Within count) c cs w))
 
-row_same : (codes : Codes) (count : ℕ) (a b : List (List Row)) (t : Table) (r : Row) → SameAt count a b → All (Within count) t.columns → row_references codes a t r ≡ row_references codes b t r
+row_same : (codes : Codes) (count : ℕ) (a b : List (List Row)) (t : Table) (r : Row)
+    → SameAt count a b → All (Within count) t.columns
+    → row_references codes a t r ≡ row_references codes b t r
 row_same codes count a b t r s w = ap (λ (fs : List Finding). if is_counted t r then fs else []) (columns_same codes count a b r.line 1 t.columns (drop 1 r.fields) s w)
 
-rows_same : (codes : Codes) (count : ℕ) (a b : List (List Row)) (t : Table) (rows : List Row) → SameAt count a b → All (Within count) t.columns
+rows_same : (codes : Codes) (count : ℕ) (a b : List (List Row)) (t : Table) (rows : List Row)
+    → SameAt count a b → All (Within count) t.columns
     → flat_map (row_references codes a t) rows ≡ flat_map (row_references codes b t) rows
 rows_same codes count a b t [] s w = refl
 rows_same codes count a b t (r ∷ rows) s w =
@@ -112,12 +123,14 @@ rows_same codes count a b t (r ∷ rows) s w =
 abbrev pub AreWithin : ℕ → Table → Type 0
 AreWithin count t = All (Within count) t.columns
 
-table_same : (codes : Codes) (count : ℕ) (a b : List (List Row)) (t : Table) (rows : List Row) → SameAt count a b → AreWithin count t → table_keys codes a t rows ≡ table_keys codes b t rows
+table_same : (codes : Codes) (count : ℕ) (a b : List (List Row)) (t : Table) (rows : List Row)
+    → SameAt count a b → AreWithin count t → table_keys codes a t rows ≡ table_keys codes b t rows
 table_same codes count a b t rows s w =
     ap (λ (fs : List Finding). tid_findings [] rows ++ (flat_map (λ list. ident_findings codes t list [] rows) t.idents ++ fs)) (rows_same codes count a b t rows s w)
 
 -- ---- tables without rows
-no_lists : (codes : Codes) (t : Table) (lists : List (List ℕ)) → flat_map (λ list. ident_findings codes t list [] []) lists ≡ []
+no_lists : (codes : Codes) (t : Table) (lists : List (List ℕ))
+    → flat_map (λ list. ident_findings codes t list [] []) lists ≡ []
 no_lists codes t [] = refl
 no_lists codes t (list ∷ lists) = no_lists codes t lists
 
@@ -137,13 +150,15 @@ none_left : (codes : Codes) (a : List (List Row)) (ts : List Table) → tables_k
 none_left codes a [] = refl
 none_left codes a (t ∷ ts) = refl
 
-dropped : (n : ℕ) (transfer : List (List Row)) → (drop n transfer ≡ []) × (slice_index_or transfer n [] ≡ []) ⊎ (drop n transfer ≡ slice_index_or transfer n [] ∷ drop (suc n) transfer)
+dropped : (n : ℕ) (transfer : List (List Row))
+    → (drop n transfer ≡ []) × (slice_index_or transfer n [] ≡ []) ⊎ (drop n transfer ≡ slice_index_or transfer n [] ∷ drop (suc n) transfer)
 dropped n [] = inl (nothing n, refl)
 dropped zero (rows ∷ transfer) = inr refl
 dropped (suc n) (rows ∷ transfer) = dropped n transfer
 
 -- the tables of a layout take the rows of a transfer, one after another
-tables_from : (codes : Codes) (count : ℕ) (a transfer : List (List Row)) (n : ℕ) (ts : List Table) → SameAt count a transfer → All (AreWithin count) ts
+tables_from : (codes : Codes) (count : ℕ) (a transfer : List (List Row)) (n : ℕ) (ts : List Table)
+    → SameAt count a transfer → All (AreWithin count) ts
     → tables_keys codes a ts (by_table_from n (map wanted_of ts) (all_rows 0 transfer)) ≡ tables_keys codes transfer ts (drop n transfer)
 tables_from codes count a transfer n [] s w = refl
 tables_from codes count a transfer n (t ∷ ts) s w =
@@ -166,7 +181,8 @@ tables_from codes count a transfer n (t ∷ ts) s w =
         ∙ ap (λ (rows : List (List Row)). tables_keys codes transfer (t ∷ ts) rows) (sym h.0)
     joined (inr h) = ap (λ (rows : List (List Row)). tables_keys codes transfer (t ∷ ts) rows) (sym h)
 
-by_place : (k n count : ℕ) (ts : List Table) (transfer : List (List Row)) → k < length ts → slice_index_or (by_table_from n (map wanted_of ts) (all_rows 0 transfer)) k [] ≡ of_table (n + k) (all_rows 0 transfer)
+by_place : (k n count : ℕ) (ts : List Table) (transfer : List (List Row)) → k < length ts
+    → slice_index_or (by_table_from n (map wanted_of ts) (all_rows 0 transfer)) k [] ≡ of_table (n + k) (all_rows 0 transfer)
 by_place k n count [] transfer lt = absurd (omega (arith, lt))
 by_place zero n count (t ∷ ts) transfer lt = ap (λ (m : ℕ). of_table m (all_rows 0 transfer)) (plus_zero n)
   where
@@ -177,14 +193,17 @@ by_place (suc k) n count (t ∷ ts) transfer lt = by_place k (n + 1) count ts tr
     plus_one : (n k : ℕ) → (n + 1) + k ≡ n + suc k
     plus_one n k = omega arith
 
-names_within : (all : List Table) (topic : ℕ) (f : Form) → NamesMain all topic f → RefersWithin (length all) f
+names_within : (all : List Table) (topic : ℕ) (f : Form) → NamesMain all topic f
+    → RefersWithin (length all) f
 names_within all topic (model.Reference k) h = slice_get_within all k h.table h.at
 names_within all topic f h = tt
 
-all_within : (topics : ℕ) (all : List Table) (ts : List Table) → All (IsTable topics all) ts → All (AreWithin (length all)) ts
+all_within : (topics : ℕ) (all : List Table) (ts : List Table) → All (IsTable topics all) ts
+    → All (AreWithin (length all)) ts
 all_within topics all ts h = λ i d lt. All-weaker (λ (c : Column). NamesMain all (slice_index_or ts i d).topic c.form) (λ (c : Column). RefersWithin (length all) c.form) (λ c n. names_within all (slice_index_or ts i d).topic c.form n) (slice_index_or ts i d).columns (h i d lt).references
 
-pub transfer_keys : (l : Layout) (transfer : List (List Row)) → IsValid l → fed_keys l (all_rows 0 transfer) ≡ tables_keys l.codes transfer l.tables transfer
+pub transfer_keys : (l : Layout) (transfer : List (List Row)) → IsValid l
+    → fed_keys l (all_rows 0 transfer) ≡ tables_keys l.codes transfer l.tables transfer
 transfer_keys l transfer v =
     let a = by_table_from 0 (map wanted_of l.tables) (all_rows 0 transfer) in
     tables_from l.codes (length l.tables) a transfer 0 l.tables

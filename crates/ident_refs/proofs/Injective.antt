@@ -1,5 +1,7 @@
 -- Lists of values that have one key are equal.
-use Rattle.std.proofs.Common.{◌≡◌, ◌<◌, ◌^◌, ℕ, zero, suc, Bool, true, false, ◌&&◌, nat_eq, List, [], ◌∷◌, ◌++◌, length, refl, sym, ap, subst, ◌∙◌, arith, ℤ, append_assoc, rules, of_z, to_z, Decides}
+use Rattle.std.proofs.Common.{◌≡◌, ◌<◌, ◌^◌, ℕ, zero, suc, Bool, true, false, ◌&&◌, nat_eq, List}
+use Rattle.std.proofs.Common.{[], ◌∷◌, ◌++◌, length, refl, sym, ap, subst, ◌∙◌, arith, ℤ}
+use Rattle.std.proofs.Common.{append_assoc, rules, of_z, to_z, Decides}
 use Rattle.std.specs.Bool.{⊤}
 use Rattle.std.specs.List.{flat_map}
 use Rattle.std.specs.Cmp.Lexicographic.{pointwise}
@@ -12,8 +14,10 @@ use Rattle.std.proofs.lemmas.Bool.Decides.{Decides-int_eq}
 use Rattle.std.proofs.lemmas.Slice.Eq.{bytes_eq-Decides, slice_eq-Decides}
 use Rattle.itf_reader.specs.Forms.{Kind, Start, Straight, OnArc}
 use Rattle.field_values.specs.Places.{is_same}
-use Rattle.ident_refs.specs.ListValues.{KeyVertex, Value, Numbers, Bytes, Vertices, is_same_kind, is_same_vertex, is_same_value}
-use Rattle.ident_refs.specs.KeyBytes.{number_code, numbers_code, kind_code, key_vertices_code, value_code, byte_code, with_end, part_code, list_code}
+use Rattle.ident_refs.specs.ListValues.{KeyVertex, Value, Numbers, Bytes, Vertices, is_same_kind}
+use Rattle.ident_refs.specs.ListValues.{is_same_vertex, is_same_value}
+use Rattle.ident_refs.specs.KeyBytes.{number_code, numbers_code, kind_code, key_vertices_code}
+use Rattle.ident_refs.specs.KeyBytes.{value_code, byte_code, with_end, part_code, list_code}
 
 heads : (x y : ℕ) (xs ys : List ℕ) → x ∷ xs ≡ y ∷ ys → (x ≡ y) × (xs ≡ ys)
 heads x y xs ys e = (cc, cc)
@@ -22,7 +26,8 @@ no_head : (x : ℕ) (xs : List ℕ) → [] ≡ x ∷ xs → ⊥
 no_head x xs e = cc
 
 -- ---- ended bytes
-pub ended_apart : (w v a b : List ℕ) → flat_map byte_code w ++ 0 ∷ 0 ∷ a ≡ flat_map byte_code v ++ 0 ∷ 0 ∷ b → (w ≡ v) × (a ≡ b)
+pub ended_apart : (w v a b : List ℕ)
+    → flat_map byte_code w ++ 0 ∷ 0 ∷ a ≡ flat_map byte_code v ++ 0 ∷ 0 ∷ b → (w ≡ v) × (a ≡ b)
 ended_apart [] [] a b e = (refl, cc)
 ended_apart [] (zero ∷ v) a b e = absurd cc
 ended_apart [] (suc n ∷ v) a b e = absurd (let h = (heads 0 (suc n) _ _ e).0 in omega (arith, h))
@@ -43,14 +48,16 @@ abbrev pub AreFit : List ℤ → Type 0
 AreFit [] = ⊤
 AreFit (n ∷ ns) = FitsSigned w64 n × AreFit ns
 
-bytes_apart : (k m n : ℕ) (a b : List ℕ) → bytes_high_first k m ++ a ≡ bytes_high_first k n ++ b → (bytes_high_first k m ≡ bytes_high_first k n) × (a ≡ b)
+bytes_apart : (k m n : ℕ) (a b : List ℕ) → bytes_high_first k m ++ a ≡ bytes_high_first k n ++ b
+    → (bytes_high_first k m ≡ bytes_high_first k n) × (a ≡ b)
 bytes_apart zero m n a b e = (refl, e)
 bytes_apart (suc k) m n a b e =
     let r = bytes_apart k m n a b cc in
     let h : byte_at k m ≡ byte_at k n = cc in
     let s = r.0 in (cc, r.1)
 
-number_back : (m n : ℤ) → FitsSigned w64 m → FitsSigned w64 n → number_code m ≡ number_code n → m ≡ n
+number_back : (m n : ℤ) → FitsSigned w64 m → FitsSigned w64 n → number_code m ≡ number_code n
+    → m ≡ n
 unfolding number_code
 number_back m n f g e =
     let p : of_z w64 m < 2 ^ 64 = (let u = Fits-of_z f in search rules) in
@@ -58,11 +65,13 @@ number_back m n f g e =
     let h : of_z w64 m ≡ of_z w64 n = sym (from_be_bytes-to_be_bytes_8 (of_z w64 m) p) ∙ (ap (from_be_bytes w64) e ∙ from_be_bytes-to_be_bytes_8 (of_z w64 n) q) in
     sym (to_z-of_z f) ∙ (ap (to_z w64) h ∙ to_z-of_z g)
 
-number_apart : (m n : ℤ) (a b : List ℕ) → FitsSigned w64 m → FitsSigned w64 n → number_code m ++ a ≡ number_code n ++ b → (m ≡ n) × (a ≡ b)
+number_apart : (m n : ℤ) (a b : List ℕ) → FitsSigned w64 m → FitsSigned w64 n
+    → number_code m ++ a ≡ number_code n ++ b → (m ≡ n) × (a ≡ b)
 unfolding number_code
 number_apart m n a b f g e = let r = bytes_apart 8 (cast_unsigned w64 m) (cast_unsigned w64 n) a b e in (number_back m n f g r.0, r.1)
 
-numbers_back : (ms ns : List ℤ) → AreFit ms → AreFit ns → numbers_code ms ≡ numbers_code ns → ms ≡ ns
+numbers_back : (ms ns : List ℤ) → AreFit ms → AreFit ns → numbers_code ms ≡ numbers_code ns
+    → ms ≡ ns
 unfolding number_code
 numbers_back [] [] f g e = refl
 numbers_back [] (n ∷ ns) f g e = absurd cc
@@ -72,7 +81,8 @@ numbers_back (m ∷ ms) (n ∷ ns) f g e =
     let s = numbers_back ms ns f.1 g.1 r.1 in
     ap (λ (x : ℤ). x ∷ ms) r.0 ∙ ap (λ (xs : List ℤ). n ∷ xs) s
 
-numbers_apart : (ms ns : List ℤ) (a b : List ℕ) → AreFit ms → AreFit ns → length ms ≡ length ns → numbers_code ms ++ a ≡ numbers_code ns ++ b → (ms ≡ ns) × (a ≡ b)
+numbers_apart : (ms ns : List ℤ) (a b : List ℕ) → AreFit ms → AreFit ns → length ms ≡ length ns
+    → numbers_code ms ++ a ≡ numbers_code ns ++ b → (ms ≡ ns) × (a ≡ b)
 numbers_apart [] [] a b f g l e = (refl, e)
 numbers_apart [] (n ∷ ns) a b f g l e = absurd (omega (arith, l))
 numbers_apart (m ∷ ms) [] a b f g l e = absurd (omega (arith, l))
@@ -97,7 +107,8 @@ kind_back OnArc Start e = absurd cc
 kind_back OnArc Straight e = absurd cc
 kind_back OnArc OnArc e = refl
 
-corners_back : (cs ds : List KeyVertex) → AreFitCorners cs → AreFitCorners ds → key_vertices_code cs ≡ key_vertices_code ds → cs ≡ ds
+corners_back : (cs ds : List KeyVertex) → AreFitCorners cs → AreFitCorners ds
+    → key_vertices_code cs ≡ key_vertices_code ds → cs ≡ ds
 corners_back [] [] f g e = refl
 corners_back [] (d ∷ ds) f g e = absurd cc
 corners_back (c ∷ cs) [] f g e = absurd cc
@@ -135,7 +146,8 @@ value_back (Vertices cs) (Bytes b) f g e = absurd cc
 value_back (Vertices cs) (Vertices ds) f g e = ap Vertices (corners_back cs ds f g (heads 2 2 _ _ e).1)
 
 -- ---- lists of values
-part_apart : (v w : Value) (a b : List ℕ) → IsFit v → IsFit w → part_code v ++ a ≡ part_code w ++ b → (v ≡ w) × (a ≡ b)
+part_apart : (v w : Value) (a b : List ℕ) → IsFit v → IsFit w → part_code v ++ a ≡ part_code w ++ b
+    → (v ≡ w) × (a ≡ b)
 part_apart v w a b f g e =
     let r = ended_apart (value_code v) (value_code w) a b (sym (append_assoc (flat_map byte_code (value_code v)) _ a) ∙ (e ∙ append_assoc (flat_map byte_code (value_code w)) _ b)) in
     (value_back v w f g r.0, r.1)
@@ -145,7 +157,8 @@ not_ended [] a e = no_head 0 _ e
 not_ended (zero ∷ w) a e = no_head 0 _ e
 not_ended (suc n ∷ w) a e = no_head (suc n) _ e
 
-parts_back : (vs ws : List Value) → AllFit vs → AllFit ws → flat_map part_code vs ≡ flat_map part_code ws → vs ≡ ws
+parts_back : (vs ws : List Value) → AllFit vs → AllFit ws
+    → flat_map part_code vs ≡ flat_map part_code ws → vs ≡ ws
 parts_back [] [] f g e = refl
 parts_back [] (w ∷ ws) f g e = absurd (not_ended (value_code w) _ e)
 parts_back (v ∷ vs) [] f g e = absurd (not_ended (value_code v) _ (sym e))
@@ -230,7 +243,8 @@ both_ways false true f g = g refl
 both_ways false false f g = refl
 
 -- two lists of values are the same where their keys are
-pub keys_tell : (vs ws : List Value) → AllFit vs → AllFit ws → pointwise is_same_value vs ws ≡ pointwise nat_eq (list_code vs) (list_code ws)
+pub keys_tell : (vs ws : List Value) → AllFit vs → AllFit ws
+    → pointwise is_same_value vs ws ≡ pointwise nat_eq (list_code vs) (list_code ws)
 keys_tell vs ws f g = both_ways _ _
     (λ e. (bytes_eq-Decides (list_code vs) (list_code ws)).1 (ap list_code ((values_tell vs ws).0 e)))
     (λ e. (values_tell vs ws).1 (list_back vs ws f g ((bytes_eq-Decides (list_code vs) (list_code ws)).0 e)))

@@ -1,5 +1,7 @@
 -- The findings of references that were kept are those of their rows.
-use Rattle.std.proofs.Common.{◌≡◌, ℕ, zero, suc, ◌+◌, Bool, true, false, cond, not, ◌&&◌, ◌||◌, List, [], ◌∷◌, ◌++◌, map, take, drop, slice_index_or, Option, Some, None, refl, sym, ap, ◌∙◌, append_assoc}
+use Rattle.std.proofs.Common.{◌≡◌, ℕ, zero, suc, ◌+◌, Bool, true, false, cond, not, ◌&&◌, ◌||◌}
+use Rattle.std.proofs.Common.{List, [], ◌∷◌, ◌++◌, map, take, drop, slice_index_or, Option, Some}
+use Rattle.std.proofs.Common.{None, refl, sym, ap, ◌∙◌, append_assoc}
 use Rattle.std.specs.List.{flat_map, list_any}
 use Rattle.std.specs.Option.{option_map}
 use Rattle.ports.specs.SortedKeys.{is_key}
@@ -11,11 +13,14 @@ use Rattle.itf_reader.specs.Findings.{Finding, Word}
 use Rattle.itf_reader.specs.Forms.{Row}
 use Rattle.itf_reader.specs.RowFindings.{is_counted}
 use Rattle.ident_refs.specs.KeyBytes.{word_code}
-use Rattle.ident_refs.specs.KeptRows.{id_key, word_refs, column_refs, columns_refs, row_refs, ref_findings}
-use Rattle.ident_refs.specs.KeyFindings.{names_a_row, referred_table, word_findings, reference_finding, columns_references, row_references}
+use Rattle.ident_refs.specs.KeptRows.{id_key, word_refs, column_refs, columns_refs, row_refs}
+use Rattle.ident_refs.specs.KeptRows.{ref_findings}
+use Rattle.ident_refs.specs.KeyFindings.{names_a_row, referred_table, word_findings}
+use Rattle.ident_refs.specs.KeyFindings.{reference_finding, columns_references, row_references}
 use Rattle.ident_refs.specs.Rows.{identification, has_identification}
 
-pub flat_map_more : {X Y : Type 0} (f : X → List Y) (xs ys : List X) → flat_map f (xs ++ ys) ≡ flat_map f xs ++ flat_map f ys
+pub flat_map_more : {X Y : Type 0} (f : X → List Y) (xs ys : List X)
+    → flat_map f (xs ++ ys) ≡ flat_map f xs ++ flat_map f ys
 flat_map_more f [] ys = refl
 flat_map_more {X} {Y} f (x ∷ xs) ys = ap (λ (l : List Y). f x ++ l) (flat_map_more f xs ys) ∙ sym (append_assoc (f x) (flat_map f xs) (flat_map f ys))
 
@@ -23,29 +28,34 @@ flat_map_more {X} {Y} f (x ∷ xs) ys = ap (λ (l : List Y). f x ++ l) (flat_map
 abbrev pub ids_by : List (List Row) → List (List (Option (List ℕ)))
 ids_by transfer = map (map id_key) transfer
 
-pub ids_at : (transfer : List (List Row)) (k : ℕ) → slice_index_or (ids_by transfer) k [] ≡ map id_key (slice_index_or transfer k [])
+pub ids_at : (transfer : List (List Row)) (k : ℕ)
+    → slice_index_or (ids_by transfer) k [] ≡ map id_key (slice_index_or transfer k [])
 ids_at [] k = refl
 ids_at (rows ∷ transfer) zero = refl
 ids_at (rows ∷ transfer) (suc k) = ids_at transfer k
 
-pub same_word : (word : List ℕ) (o : Option (List ℕ)) → is_key (word_code word) (option_map word_code o) ≡ is_key word o
+pub same_word : (word : List ℕ) (o : Option (List ℕ))
+    → is_key (word_code word) (option_map word_code o) ≡ is_key word o
 same_word word None = refl
 same_word word (Some other) = refl
 
-named : (word : List ℕ) (rows : List Row) → list_any (is_key (word_code word)) (map id_key rows) ≡ names_a_row word rows
+named : (word : List ℕ) (rows : List Row)
+    → list_any (is_key (word_code word)) (map id_key rows) ≡ names_a_row word rows
 named word [] = refl
 named word (r ∷ rows) =
     ap (λ (b : Bool). b || list_any (is_key (word_code word)) (map id_key rows)) (same_word word (identification r))
     ∙ ap (λ (b : Bool). has_identification word r || b) (named word rows)
 
-named_in : (word : List ℕ) (transfer : List (List Row)) (k : ℕ) → list_any (is_key (word_code word)) (slice_index_or (ids_by transfer) k []) ≡ names_a_row word (slice_index_or transfer k [])
+named_in : (word : List ℕ) (transfer : List (List Row)) (k : ℕ)
+    → list_any (is_key (word_code word)) (slice_index_or (ids_by transfer) k []) ≡ names_a_row word (slice_index_or transfer k [])
 named_in word transfer k = ap (λ (ids : List (Option (List ℕ))). list_any (is_key (word_code word)) ids) (ids_at transfer k) ∙ named word (slice_index_or transfer k [])
 
 -- a defined word
 abbrev dangling_word : ℕ → ℕ → List ℕ → List Finding
 dangling_word line number word = record { line = line; column = number; code = Reference; other = Word word } ∷ []
 
-defined : (line number : ℕ) (word : List ℕ) (b : Bool) → cond b [] (dangling_word line number word) ++ [] ≡ cond (true && not b) (dangling_word line number word) []
+defined : (line number : ℕ) (word : List ℕ) (b : Bool)
+    → cond b [] (dangling_word line number word) ++ [] ≡ cond (true && not b) (dangling_word line number word) []
 defined line number word true = refl
 defined line number word false = refl
 
@@ -75,7 +85,8 @@ columns_found codes transfer line number (c ∷ cs) words =
     ∙ ap (λ (fs : List Finding). fs ++ flat_map f rest) (column_found codes transfer line number (referred_table c.form) (take (width c.form) words))
     ∙ ap (λ (fs : List Finding). reference_finding codes transfer line number (referred_table c.form) (take (width c.form) words) ++ fs) (columns_found codes transfer line (number + 1) cs (drop (width c.form) words))
 
-row_found : (codes : Codes) (transfer : List (List Row)) (t : Table) (r : Row) → flat_map (ref_findings (ids_by transfer)) (row_refs codes t r) ≡ row_references codes transfer t r
+row_found : (codes : Codes) (transfer : List (List Row)) (t : Table) (r : Row)
+    → flat_map (ref_findings (ids_by transfer)) (row_refs codes t r) ≡ row_references codes transfer t r
 row_found codes transfer t r = elim (is_counted t r) as (λ b. flat_map (ref_findings (ids_by transfer)) (cond b (columns_refs codes r.line 1 t.columns (drop 1 r.fields)) []) ≡ cond b (columns_references codes transfer r.line 1 t.columns (drop 1 r.fields)) [])
     [ true ↦ columns_found codes transfer r.line 1 t.columns (drop 1 r.fields) | false ↦ refl ]
 

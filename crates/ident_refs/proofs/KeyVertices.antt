@@ -1,5 +1,6 @@
 -- The bytes of a vertex.
-use Rattle.std.proofs.Common.{◌≡◌, ℕ, ◌+◌, List, [], ◌∷◌, ◌++◌, length, Option, Some, None, ℤ, Result, Ok, Err, OnOk, refl, sym, ap, ◌∙◌, append_assoc}
+use Rattle.std.proofs.Common.{◌≡◌, ℕ, ◌+◌, List, [], ◌∷◌, ◌++◌, length, Option, Some, None, ℤ}
+use Rattle.std.proofs.Common.{Result, Ok, Err, OnOk, refl, sym, ap, ◌∙◌, append_assoc}
 use Rattle.std.specs.Option.{option_to_list}
 use Rattle.itf_reader.specs.declared.transfer.VertexKind.{VertexKind}
 use Rattle.itf_reader.specs.declared.transfer.VertexKind.TheVariants as kinds
@@ -18,11 +19,13 @@ kind_rank kinds.Start = refl
 kind_rank kinds.Straight = refl
 kind_rank kinds.OnArc = refl
 
-axes_count : (x y : ℤ) (h : Option ℤ) → 2 + length (option_to_list h) ≡ length (x ∷ y ∷ option_to_list h)
+axes_count : (x y : ℤ) (h : Option ℤ)
+    → 2 + length (option_to_list h) ≡ length (x ∷ y ∷ option_to_list h)
 axes_count x y None = refl
 axes_count x y (Some z) = refl
 
-pub corner_added : (c : CodeKeyVertex) (start p1 p2 p3 p4 : List ℕ) (k a : ℕ) → k ≡ rank_of c.kind → a ≡ 2 + length (option_to_list c.height)
+pub corner_added : (c : CodeKeyVertex) (start p1 p2 p3 p4 : List ℕ) (k a : ℕ) → k ≡ rank_of c.kind
+    → a ≡ 2 + length (option_to_list c.height)
     → p1 ≡ start ++ k ∷ [] → p2 ≡ p1 ++ a ∷ [] → p3 ≡ p2 ++ numbers_code (c.x ∷ c.y ∷ []) → p4 ≡ p3 ++ numbers_code (option_to_list c.height) → p4 ≡ start ++ key_vertex_code (key_vertex_view c)
 corner_added c start p1 p2 p3 p4 k a e f h1 h2 h3 h4 =
     let own = numbers_code (c.x ∷ c.y ∷ []) in

@@ -1,5 +1,7 @@
 -- The rows that kept references name are those that the words of their rows name.
-use Rattle.std.proofs.Common.{◌≡◌, ℕ, zero, suc, ◌+◌, Bool, true, false, cond, nat_eq, List, [], ◌∷◌, ◌++◌, map, take, drop, slice_index_or, Option, Some, None, refl, ap, ◌∙◌, append-nil}
+use Rattle.std.proofs.Common.{◌≡◌, ℕ, zero, suc, ◌+◌, Bool, true, false, cond, nat_eq, List, []}
+use Rattle.std.proofs.Common.{◌∷◌, ◌++◌, map, take, drop, slice_index_or, Option, Some, None, refl}
+use Rattle.std.proofs.Common.{ap, ◌∙◌, append-nil}
 use Rattle.std.specs.List.{flat_map, position_from}
 use Rattle.ports.specs.SortedKeys.{is_key}
 use Rattle.ili_grammar.specs.Syntax.{Codes}
@@ -10,14 +12,17 @@ use Rattle.itf_reader.specs.ClosedRows.{of_table, by_table, by_table_from}
 use Rattle.itf_reader.specs.Layouts.{form_of, wanted_of}
 use Rattle.itf_reader.specs.RowFindings.{is_counted}
 use Rattle.ident_refs.specs.KeyBytes.{word_code}
-use Rattle.ident_refs.specs.KeptRows.{Ref, id_key, word_refs, column_refs, columns_refs, row_refs, ref_names, refs_at, Kept, kept_from, kept_rows, all_ids}
+use Rattle.ident_refs.specs.KeptRows.{Ref, id_key, word_refs, column_refs, columns_refs, row_refs}
+use Rattle.ident_refs.specs.KeptRows.{ref_names, refs_at, Kept, kept_from, kept_rows, all_ids}
 use Rattle.ident_refs.specs.KeyFindings.{referred_table}
-use Rattle.ident_refs.specs.NamedRows.{Named, word_names, form_names, columns_names, row_names, names_at, rows_named}
+use Rattle.ident_refs.specs.NamedRows.{Named, word_names, form_names, columns_names, row_names}
+use Rattle.ident_refs.specs.NamedRows.{names_at, rows_named}
 use Rattle.ident_refs.specs.Rows.{identification, has_identification}
 use Rattle.ident_refs.proofs.KeptRefs.{flat_map_more, ids_by, ids_at, same_word}
 use Rattle.ident_refs.proofs.KeptTables.{ids_kept}
 
-place_same : (word : List ℕ) (i : ℕ) (rows : List Row) → position_from (is_key (word_code word)) i (map id_key rows) ≡ position_from (has_identification word) i rows
+place_same : (word : List ℕ) (i : ℕ) (rows : List Row)
+    → position_from (is_key (word_code word)) i (map id_key rows) ≡ position_from (has_identification word) i rows
 place_same word i [] = refl
 place_same word i (r ∷ rows) =
     ap (λ (b : Bool). cond b (Some i) (position_from (is_key (word_code word)) (i + 1) (map id_key rows))) (same_word word (identification r))
@@ -70,7 +75,8 @@ columns_named codes transfer line asked number (c ∷ cs) words =
     ∙ ap (λ (ns : List Named). cond (nat_eq number asked) (form_names codes transfer line (referred_table c.form) (take (width c.form) words)) [] ++ ns)
     (columns_named codes transfer line asked (number + 1) cs (drop (width c.form) words))
 
-row_named : (codes : Codes) (transfer : List (List Row)) (asked : ℕ) (t : Table) (r : Row) → flat_map (ref_names (ids_by transfer) asked) (row_refs codes t r) ≡ row_names codes transfer asked t r
+row_named : (codes : Codes) (transfer : List (List Row)) (asked : ℕ) (t : Table) (r : Row)
+    → flat_map (ref_names (ids_by transfer) asked) (row_refs codes t r) ≡ row_names codes transfer asked t r
 row_named codes transfer asked t r =
     elim (is_counted t r) as (λ b. flat_map (ref_names (ids_by transfer) asked) (cond b (columns_refs codes r.line 1 t.columns (drop 1 r.fields)) [])
     ≡ cond b (columns_names codes transfer r.line asked 1 t.columns (drop 1 r.fields)) [])
@@ -91,7 +97,8 @@ table_named codes transfer asked n place [] rows = refl
 table_named codes transfer asked n zero (t ∷ ts) rows = refs_named codes transfer asked t (of_table n rows)
 table_named codes transfer asked n (suc place) (t ∷ ts) rows = table_named codes transfer asked (n + 1) place ts rows
 
-pub named_in : (l : Layout) (rows : List (ℕ × Row)) (ks : List Kept) (place column : ℕ) (names : List Named) → ks ≡ kept_rows l rows
+pub named_in : (l : Layout) (rows : List (ℕ × Row)) (ks : List Kept) (place column : ℕ) (names : List Named)
+    → ks ≡ kept_rows l rows
     → names ≡ flat_map (ref_names (all_ids ks) column) (refs_at place ks) → names ≡ rows_named l (by_table (form_of l) rows) place column
 named_in l rows ks place column names h e =
     e ∙ ap (λ (k : List Kept). flat_map (ref_names (all_ids k) column) (refs_at place k)) h
@@ -99,7 +106,8 @@ named_in l rows ks place column names h e =
     ∙ table_named l.codes (by_table_from 0 (map wanted_of l.tables) rows) column 0 place l.tables rows
 
 -- the references of one table in order, added to none
-pub named_all : (ids : List (List (Option (List ℕ)))) (column : ℕ) (refs : List Ref) (place : ℕ) (ks : List Kept) (old new : List Named) → ids ≡ all_ids ks
+pub named_all : (ids : List (List (Option (List ℕ)))) (column : ℕ) (refs : List Ref) (place : ℕ) (ks : List Kept) (old new : List Named)
+    → ids ≡ all_ids ks
     → refs ≡ refs_at place ks → old ≡ [] → new ≡ old ++ flat_map (ref_names ids column) refs → new ≡ flat_map (ref_names (all_ids ks) column) (refs_at place ks)
 named_all ids column refs place ks old new i r o n =
     n ∙ ap (λ (ns : List Named). ns ++ flat_map (ref_names ids column) refs) o

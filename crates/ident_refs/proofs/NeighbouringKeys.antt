@@ -1,5 +1,7 @@
 -- Where no two neighbours of a sorted column have one key, no two rows have.
-use Rattle.std.proofs.Common.{◌≡◌, ◌<◌, ◌≤◌, ◌+◌, inl, inr, ℕ, zero, suc, Bool, true, false, List, [], ◌∷◌, ◌++◌, length, get_or, map, take, drop, Option, Some, None, refl, sym, ap, subst, ◌∙◌, arith, append-nil}
+use Rattle.std.proofs.Common.{◌≡◌, ◌<◌, ◌≤◌, ◌+◌, inl, inr, ℕ, zero, suc, Bool, true, false, List}
+use Rattle.std.proofs.Common.{[], ◌∷◌, ◌++◌, length, get_or, map, take, drop, Option, Some, None}
+use Rattle.std.proofs.Common.{refl, sym, ap, subst, ◌∙◌, arith, append-nil}
 use Rattle.std.specs.Cmp.{IsTotalOrder, then_total, on_total, nat_cmp_total}
 use Rattle.std.specs.Cmp.Lexicographic.{slice_cmp}
 use Rattle.std.specs.List.Sorted.{IsSortedBy}
@@ -11,7 +13,8 @@ use Rattle.std.proofs.lemmas.Cmp.{nat_list_cmp_total}
 use Rattle.std.proofs.lemmas.List.Sorted.{sorted_far}
 use Rattle.std.proofs.lemmas.Map.Text.{is_eq-slice_cmp}
 use Rattle.std.proofs.lemmas.Slice.Eq.{bytes_eq-Decides}
-use Rattle.ports.specs.SortedKeys.{rank, is_key, bytes_of, key_at, key_cmp, key_of, is_before, AreSorted, IsListed, IsSortedKeys}
+use Rattle.ports.specs.SortedKeys.{rank, is_key, bytes_of, key_at, key_cmp, key_of, is_before}
+use Rattle.ports.specs.SortedKeys.{AreSorted, IsListed, IsSortedKeys}
 use Rattle.ports.specs.declared.sorted_keys.SortedKeys.{SortedKeys}
 use Rattle.std.proofs.Props.{props}
 use mathlib.Core.Logic.{∥∥₁_elim}
@@ -65,7 +68,8 @@ module _ (keys : List (Option (List ℕ))) (skip : ℕ) (xs : List Ranked) (up :
   here word place = record { rank = rank skip word; place = place }
 
   -- what comes between two places of a word, or at one of them, has that key
-  between : (i j k : ℕ) (word : List ℕ) (p q : ℕ) (d : Ranked) → i ≤ j → j ≤ k → k < length xs → get_or xs i d ≡ here word p → get_or xs k d ≡ here word q
+  between : (i j k : ℕ) (word : List ℕ) (p q : ℕ) (d : Ranked) → i ≤ j → j ≤ k → k < length xs
+      → get_or xs i d ≡ here word p → get_or xs k d ≡ here word q
       → key_at keys p ≡ word → key_at keys q ≡ word → (get_or xs j d).rank ≡ rank skip word × key_at keys (get_or xs j d).place ≡ word
   between i j k word p q d l m n e f a b =
       let y = get_or xs j d in
@@ -80,17 +84,20 @@ module _ (keys : List (Option (List ℕ))) (skip : ℕ) (xs : List Ranked) (up :
       let told = h.told j d (omega (arith, m, n)) in
       (told.0 ∙ ap (rank skip) bytes, bytes)
 
-  one_word : (a b : Ranked) (word : List ℕ) → a.rank ≡ rank skip word → key_at keys a.place ≡ word → b.rank ≡ rank skip word → key_at keys b.place ≡ word → HaveOneKey keys a b
+  one_word : (a b : Ranked) (word : List ℕ) → a.rank ≡ rank skip word → key_at keys a.place ≡ word
+      → b.rank ≡ rank skip word → key_at keys b.place ≡ word → HaveOneKey keys a b
   one_word a b word r k s l = (r ∙ sym s, k ∙ sym l)
 
-  apart_places : (i k : ℕ) (word : List ℕ) (p q : ℕ) (d : Ranked) → AreApartTo keys xs (length xs) → i < k → k < length xs → get_or xs i d ≡ here word p → get_or xs k d ≡ here word q
+  apart_places : (i k : ℕ) (word : List ℕ) (p q : ℕ) (d : Ranked) → AreApartTo keys xs (length xs)
+      → i < k → k < length xs → get_or xs i d ≡ here word p → get_or xs k d ≡ here word q
       → key_at keys p ≡ word → key_at keys q ≡ word → ⊥
   apart_places i k word p q d apart l n e f a b =
       let first = between i i k word p q d (omega arith) (omega (arith, l)) n e f a b in
       let second = between i (i + 1) k word p q d (omega arith) (omega (arith, l)) n e f a b in
       apart i d (omega (arith, l, n)) (omega (arith, l, n)) (one_word (get_or xs i d) (get_or xs (i + 1) d) word first.0 first.1 second.0 second.1)
 
-  one_default : (ys : List Ranked) (i : ℕ) (d e : Ranked) → i < length ys → get_or ys i d ≡ get_or ys i e
+  one_default : (ys : List Ranked) (i : ℕ) (d e : Ranked) → i < length ys
+      → get_or ys i d ≡ get_or ys i e
   one_default [] i d e l = absurd (omega arith)
   one_default (y ∷ ys) zero d e l = refl
   one_default (y ∷ ys) (suc i) d e l = one_default ys i d e (omega (arith, l))
@@ -115,7 +122,9 @@ module _ (keys : List (Option (List ℕ))) (skip : ℕ) (xs : List Ranked) (up :
       ]
 
 -- the same of keys that a program has sorted
-pub all_distinct : (keys : List (Option (List ℕ))) (sorted : SortedKeys) (n : ℕ) → length sorted.ranked.items ≤ n → IsSortedKeys (map cell_key keys) sorted → AreApartTo keys sorted.ranked.items n → AreDistinct keys
+pub all_distinct : (keys : List (Option (List ℕ))) (sorted : SortedKeys) (n : ℕ)
+    → length sorted.ranked.items ≤ n → IsSortedKeys (map cell_key keys) sorted
+    → AreApartTo keys sorted.ranked.items n → AreDistinct keys
 all_distinct keys sorted n l s a = ∥∥₁_elim s (hlevel props) (λ r.
     let own = subst (λ (ks : List (Option (List ℕ))). AreSorted ks sorted) (self_keys keys) r in
     distinct keys sorted.skip sorted.ranked.items own.ascending own.listed (λ i d m k. a i d (omega (arith, l, k)) k))
@@ -129,7 +138,9 @@ has_key : (word : List ℕ) (o : Option (List ℕ)) → is_key word o ≡ true �
 has_key word None h = cc
 has_key word (Some other) h = ap (λ (k : List ℕ). Some k) (sym ((bytes_eq-Decides word other).0 h))
 
-none_before : (key : List ℕ) (i : ℕ) (lines : List ℕ) (keys : List (Option (List ℕ))) → ((k : ℕ) → k < i → get_or keys k None ≡ Some key → ⊥) → first_line (Some key) (take i (zip_keys lines keys)) ≡ None
+none_before : (key : List ℕ) (i : ℕ) (lines : List ℕ) (keys : List (Option (List ℕ)))
+    → ((k : ℕ) → k < i → get_or keys k None ≡ Some key → ⊥)
+    → first_line (Some key) (take i (zip_keys lines keys)) ≡ None
 none_before key zero lines keys n = refl
 none_before key (suc i) [] keys n = refl
 none_before key (suc i) (l ∷ lines) [] n = none_before key i lines [] (λ k m e. absurd (cc e))
@@ -137,11 +148,14 @@ none_before key (suc i) (l ∷ lines) (k ∷ keys) n =
     by_test (is_key key k) (λ t. absurd (n 0 (omega arith) (has_key key k t)))
     (λ f. rw f (none_before key i lines keys (λ j m e. n (suc j) (omega (arith, m)) e)))
 
-own_first : (own : Option (List ℕ)) (i : ℕ) (lines : List ℕ) (keys : List (Option (List ℕ))) → AreDistinct keys → get_or keys i None ≡ own → first_line own (take i (zip_keys lines keys)) ≡ None
+own_first : (own : Option (List ℕ)) (i : ℕ) (lines : List ℕ) (keys : List (Option (List ℕ)))
+    → AreDistinct keys → get_or keys i None ≡ own
+    → first_line own (take i (zip_keys lines keys)) ≡ None
 own_first None i lines keys d e = refl
 own_first (Some key) i lines keys d e = none_before key i lines keys (λ k m f. d k i key m f e)
 
-repeats_from : (code : Code) (column n i : ℕ) (lines : List ℕ) (keys : List (Option (List ℕ))) → AreDistinct keys → length lines ≤ i + n
+repeats_from : (code : Code) (column n i : ℕ) (lines : List ℕ) (keys : List (Option (List ℕ)))
+    → AreDistinct keys → length lines ≤ i + n
     → repeats code column (take i (zip_keys lines keys)) (drop i (zip_keys lines keys)) ≡ []
 repeats_from code column zero i lines keys d l = ap (repeats code column (take i (zip_keys lines keys))) (dropped i lines keys (omega (arith, l)))
 repeats_from code column (suc n) i lines keys d l = elim (cases_lt i (length lines)) as (λ s. repeats code column (take i (zip_keys lines keys)) (drop i (zip_keys lines keys)) ≡ []) [
@@ -156,9 +170,11 @@ repeats_from code column (suc n) i lines keys d l = elim (cases_lt i (length lin
       ∙ repeats_from code column n (suc i) lines keys d (omega (arith, l))
 ]
 
-pub none_repeated : (code : Code) (column : ℕ) (lines : List ℕ) (keys : List (Option (List ℕ))) → AreDistinct keys → repeats code column [] (zip_keys lines keys) ≡ []
+pub none_repeated : (code : Code) (column : ℕ) (lines : List ℕ) (keys : List (Option (List ℕ)))
+    → AreDistinct keys → repeats code column [] (zip_keys lines keys) ≡ []
 none_repeated code column lines keys d = repeats_from code column (length lines) 0 lines keys d (omega arith)
 
-pub nothing_added : (code : Code) (column : ℕ) (lines : List ℕ) (keys : List (Option (List ℕ))) (findings : List CodeFinding) → AreDistinct keys
+pub nothing_added : (code : Code) (column : ℕ) (lines : List ℕ) (keys : List (Option (List ℕ))) (findings : List CodeFinding)
+    → AreDistinct keys
     → AddsFindings findings findings (repeats code column [] (zip_keys lines keys))
 nothing_added code column lines keys findings d = sym (append-nil (findings_of findings)) ∙ ap (λ (xs : List Finding). findings_of findings ++ xs) (sym (none_repeated code column lines keys d))

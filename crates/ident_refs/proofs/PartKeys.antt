@@ -1,5 +1,6 @@
 -- The key of a row by a list is the one joined of its keys by the parts of the list.
-use Rattle.std.proofs.Common.{◌≡◌, ℕ, suc, ◌<◌, Bool, true, false, List, [], ◌∷◌, ◌++◌, length, map, get_or, Option, Some, None, if◌then◌else◌, refl, sym, ap, ◌∙◌, arith}
+use Rattle.std.proofs.Common.{◌≡◌, ℕ, suc, ◌<◌, Bool, true, false, List, [], ◌∷◌, ◌++◌, length, map}
+use Rattle.std.proofs.Common.{get_or, Option, Some, None, if◌then◌else◌, refl, sym, ap, ◌∙◌, arith}
 use Rattle.std.specs.Prelude.{slice_index_or}
 use Rattle.std.specs.List.{All, flat_map}
 use Rattle.std.specs.Option.{option_map}
@@ -12,7 +13,8 @@ use Rattle.ident_refs.specs.declared.ident_lists.KeptList.{KeptList as CodeList}
 use Rattle.ident_refs.specs.KeptRows.{KeptList, list_key, with_key}
 use Rattle.ident_refs.specs.KeyBytes.{list_code, value_code, part_code}
 use Rattle.ident_refs.specs.ListValues.{Value, and_value, values_at, row_values}
-use Rattle.ident_refs.specs.RowKeys.{list_parts, part_key, numbered_key, and_ended, all_ended, several_key, joined_key, key_by, HasParts}
+use Rattle.ident_refs.specs.RowKeys.{list_parts, part_key, numbered_key, and_ended, all_ended}
+use Rattle.ident_refs.specs.RowKeys.{several_key, joined_key, key_by, HasParts}
 use Rattle.ident_refs.specs.SharedLists.{IsNumbered, AreNumbered, list_view, lists_view, picked}
 use Rattle.ident_refs.proofs.SharedSteps.{one_there}
 
@@ -20,13 +22,15 @@ use Rattle.ident_refs.proofs.SharedSteps.{one_there}
 abbrev place_code : Bool → List (Option Value) → ℕ → Option (List ℕ)
 place_code b values p = option_map list_code (if b then values_at values (p ∷ []) else None)
 
-ended_step : (o : Option Value) (vs : Option (List Value)) (key : Option (List ℕ)) → key ≡ option_map (flat_map part_code) vs
+ended_step : (o : Option Value) (vs : Option (List Value)) (key : Option (List ℕ))
+    → key ≡ option_map (flat_map part_code) vs
     → and_ended (option_map list_code (and_value o (Some []))) key ≡ option_map (flat_map part_code) (and_value o vs)
 ended_step None vs key e = refl
 ended_step (Some v) None key e = ap (and_ended (Some (value_code v))) e
 ended_step (Some v) (Some vs) key e = ap (and_ended (Some (value_code v))) e
 
-ended_places : (values : List (Option Value)) (ps : List ℕ) → all_ended (map (place_code true values) ps) ≡ option_map (flat_map part_code) (values_at values ps)
+ended_places : (values : List (Option Value)) (ps : List ℕ)
+    → all_ended (map (place_code true values) ps) ≡ option_map (flat_map part_code) (values_at values ps)
 ended_places values [] = refl
 ended_places values (p ∷ ps) = ended_step (slice_index_or values p None) (values_at values ps) _ (ended_places values ps)
 
@@ -44,11 +48,13 @@ several_coded true values p q ps =
     ap (option_map (λ (bytes : List ℕ). 3 ∷ bytes)) (ended_places values (p ∷ q ∷ ps))
     ∙ two_coded (slice_index_or values p None) (slice_index_or values q None) (values_at values ps)
 
-places_coded : (codes : Codes) (t : Table) (r : Row) (ps : List ℕ) → map (part_key codes t r) (map Some ps) ≡ map (place_code (is_counted t r) (row_values codes t r)) ps
+places_coded : (codes : Codes) (t : Table) (r : Row) (ps : List ℕ)
+    → map (part_key codes t r) (map Some ps) ≡ map (place_code (is_counted t r) (row_values codes t r)) ps
 places_coded codes t r [] = refl
 places_coded codes t r (p ∷ ps) = ap (λ (keys : List (Option (List ℕ))). part_key codes t r (Some p) ∷ keys) (places_coded codes t r ps)
 
-pub parts_joined : (codes : Codes) (t : Table) (r : Row) (places : List ℕ) → joined_key (map (part_key codes t r) (list_parts places)) ≡ list_key codes t places r
+pub parts_joined : (codes : Codes) (t : Table) (r : Row) (places : List ℕ)
+    → joined_key (map (part_key codes t r) (list_parts places)) ≡ list_key codes t places r
 parts_joined codes t r [] = refl
 parts_joined codes t r (p ∷ []) = refl
 parts_joined codes t r (p ∷ q ∷ ps) =
@@ -92,6 +98,7 @@ pub row_added : (codes : Codes) (t : Table) (r : Row) (parts : List (Option ℕ)
 row_added codes t r parts old new keys ls has numbered e =
     ap (λ (rows : List (List (Option (List ℕ)))). lists_view rows ls) e ∙ lists_more codes t r parts old keys ls has numbered
 
-pub no_list : (codes : Codes) (t : Table) (r : Row) (rows : List (List (Option (List ℕ)))) (ls : List CodeList) → length ls ≡ 0 → lists_view rows ls ≡ map (with_key codes t r) (lists_view rows ls)
+pub no_list : (codes : Codes) (t : Table) (r : Row) (rows : List (List (Option (List ℕ)))) (ls : List CodeList)
+    → length ls ≡ 0 → lists_view rows ls ≡ map (with_key codes t r) (lists_view rows ls)
 no_list codes t r rows [] e = refl
 no_list codes t r rows (l ∷ ls) e = absurd (omega (arith, e))

@@ -14,6 +14,7 @@ pub on_ok : {X E P : Type 0} (r : Result X E) → P → OnOk r P
 on_ok (Ok x) p = p
 on_ok (Err e) p = tt
 
-pub same_key : {E : Type 0} (r : Result (Option (List ℕ)) E) (a b : Option (List ℕ)) → a ≡ b → IfOk r (λ (k : Option (List ℕ)). k ≡ a) → IfOk r (λ (k : Option (List ℕ)). k ≡ b)
+pub same_key : {E : Type 0} (r : Result (Option (List ℕ)) E) (a b : Option (List ℕ)) → a ≡ b
+    → IfOk r (λ (k : Option (List ℕ)). k ≡ a) → IfOk r (λ (k : Option (List ℕ)). k ≡ b)
 same_key (Ok k) a b e h = h ∙ e
 same_key (Err x) a b e h = h

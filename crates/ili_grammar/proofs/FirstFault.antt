@@ -1,5 +1,7 @@
 -- The fault that a run of the machine gives is the first fault, and there is only one.
-use Rattle.std.proofs.Common.{◌≡◌, ℕ, suc, ◌+◌, ◌<◌, ◌≤◌, List, [], ◌∷◌, ◌++◌, length, take, drop, Some, None, refl, sym, ap, ◌∙◌, subst, arith, append_assoc, append-nil, Bool, true, false, nat_lt, ◌-◌, length-take-le, take-add}
+use Rattle.std.proofs.Common.{◌≡◌, ℕ, suc, ◌+◌, ◌<◌, ◌≤◌, List, [], ◌∷◌, ◌++◌, length, take, drop}
+use Rattle.std.proofs.Common.{Some, None, refl, sym, ap, ◌∙◌, subst, arith, append_assoc}
+use Rattle.std.proofs.Common.{append-nil, Bool, true, false, nat_lt, ◌-◌, length-take-le, take-add}
 use Rattle.std.proofs.lemmas.Bool.{ltb-true, ltb-false}
 use Rattle.std.proofs.lemmas.List.{drop_all, take-append-drop, append_cancel_right}
 use Rattle.ili_grammar.specs.declared.syntax.SyntaxCode as code
@@ -8,9 +10,11 @@ use Rattle.ili_grammar.specs.declared.syntax.SyntaxFault as fault
 use Rattle.ili_grammar.specs.declared.syntax.SyntaxFault.TheVariants as faults
 use Rattle.ili_grammar.specs.Tokens.{Tok, tok}
 use Rattle.ili_grammar.specs.Syntax.{ModelSyntax}
-use Rattle.ili_grammar.specs.Codes.{Code, Expected, EndName, FixFormat, Views, LineForm, Scaling, Codes, Deep, code_of}
+use Rattle.ili_grammar.specs.Codes.{Code, Expected, EndName, FixFormat, Views, LineForm, Scaling}
+use Rattle.ili_grammar.specs.Codes.{Codes, Deep, code_of}
 use Rattle.ili_grammar.specs.Models.{Spells, Begins, IsTransfer}
-use Rattle.ili_grammar.specs.Faults.{IsFault, IsFirst, this_one, later_one, IsCode, IsFaultCode, IsFirstFault}
+use Rattle.ili_grammar.specs.Faults.{IsFault, IsFirst, this_one, later_one, IsCode, IsFaultCode}
+use Rattle.ili_grammar.specs.Faults.{IsFirstFault}
 use Rattle.ili_grammar.specs.Machine.{start}
 use Rattle.ili_grammar.specs.Run.{Outcome, whole, short, stopped, run, StopsAt}
 use Rattle.ili_grammar.specs.Steps.{IsReportedBy, IsFaultAt}
@@ -33,11 +37,13 @@ front_is all p k e = append_cancel_right p (take k all) (drop k all) (sym e ∙ 
 not_all : (all : List Tok) (k : ℕ) (t : Tok) (r : List Tok) → drop k all ≡ t ∷ r → k < length all
 not_all all k t r e = by_lt k (length all) (λ (h : k < length all). h) (λ (h : length all ≤ k). let f = drop_all k all h in absurd (cc))
 
-pub first_fault : (all : List Tok) (f : fault.SyntaxFault) → IsReportedBy all (run all (start 32 ∷ [])) f → IsFirstFault all f
+pub first_fault : (all : List Tok) (f : fault.SyntaxFault)
+    → IsReportedBy all (run all (start 32 ∷ [])) f → IsFirstFault all f
 first_fault all faults.Memory h = tt
 first_fault all (faults.At c None) h = of (run all (start 32 ∷ [])) refl h
   where
-    of : (o : Outcome) → run all (start 32 ∷ []) ≡ o → IsReportedBy all o (faults.At c None) → IsFirstFault all (faults.At c None)
+    of : (o : Outcome) → run all (start 32 ∷ []) ≡ o → IsReportedBy all o (faults.At c None)
+        → IsFirstFault all (faults.At c None)
     of whole e h = absurd h
     of (stopped d v) e h = absurd h
     of short e h =
@@ -46,7 +52,8 @@ first_fault all (faults.At c None) h = of (run all (start 32 ∷ [])) refl h
         subst (λ (p : List Tok). IsFault p [] × IsFaultCode p [] (code_of c)) q (s.2, s.3)
 first_fault all (faults.At c (Some k)) h = of (run all (start 32 ∷ [])) refl h
   where
-    of : (o : Outcome) → run all (start 32 ∷ []) ≡ o → IsReportedBy all o (faults.At c (Some k)) → IsFirstFault all (faults.At c (Some k))
+    of : (o : Outcome) → run all (start 32 ∷ []) ≡ o → IsReportedBy all o (faults.At c (Some k))
+        → IsFirstFault all (faults.At c (Some k))
     of whole e h = absurd h
     of short e h = absurd h
     of (stopped d v) e h =
@@ -57,11 +64,13 @@ first_fault all (faults.At c (Some k)) h = of (run all (start 32 ∷ [])) refl h
         (n, subst (λ (p : List Tok). IsFault p (drop k all)) q s.2, subst (λ (p : List Tok). IsFaultCode p (drop k all) (code_of c)) q s.3)
 
 -- a token behind a whole model
-pub trailing : (all v : List Tok) (t : Tok) (r : List Tok) (m : ModelSyntax) (f : fault.SyntaxFault) → v ≡ t ∷ r → IsTransfer 32 m all v → IsFaultAt all v wants.Other f → IsFirstFault all f
+pub trailing : (all v : List Tok) (t : Tok) (r : List Tok) (m : ModelSyntax) (f : fault.SyntaxFault)
+    → v ≡ t ∷ r → IsTransfer 32 m all v → IsFaultAt all v wants.Other f → IsFirstFault all f
 trailing all v t r m f e x h =
     first_fault all f (subst (λ (o : Outcome). IsReportedBy all o f) (sym (transfer_drives 32 m all v x [])) (subst (λ (w : List Tok). IsFaultAt all w wants.Other f → IsReportedBy all (run w []) f) (sym e) (told t f) h))
   where
-    told : (t : Tok) (f : fault.SyntaxFault) → IsFaultAt all (t ∷ r) wants.Other f → IsReportedBy all (run (t ∷ r) []) f
+    told : (t : Tok) (f : fault.SyntaxFault) → IsFaultAt all (t ∷ r) wants.Other f
+        → IsReportedBy all (run (t ∷ r) []) f
     told (tok k i) faults.Memory h = absurd h
     told (tok k i) (faults.At c None) h = absurd h
     told (tok k i) (faults.At c (Some n)) h = h
@@ -83,7 +92,8 @@ at all k h = of (drop k all) refl
     of [] e = let f = take-append-drop k all in let g : take k all ≡ all = sym (append-nil (take k all)) ∙ sym (ap (λ (z : List Tok). take k all ++ z) e) ∙ f in absurd (shorter all k h g)
     of (t ∷ r) e = (t, r, sym (take-append-drop k all) ∙ ap (λ (z : List Tok). take k all ++ z) e, e)
 
-at_fault : (p d : List Tok) (t : Tok) (r : List Tok) → d ≡ t ∷ r → IsFault p d → Begins (p ++ (t ∷ [])) → ⊥
+at_fault : (p d : List Tok) (t : Tok) (r : List Tok) → d ≡ t ∷ r → IsFault p d
+    → Begins (p ++ (t ∷ [])) → ⊥
 at_fault p d t r e h = (subst (λ (d : List Tok). IsFault p d) e h).1
 
 begun : (p d : List Tok) (t : Tok) (r : List Tok) → d ≡ t ∷ r → IsFault p d → Begins p
@@ -93,12 +103,14 @@ one_more : (p r : List Tok) (t : Tok) → p ++ (t ∷ r) ≡ (p ++ (t ∷ [])) +
 one_more p r t = sym (append_assoc p (t ∷ []) r)
 
 -- all tokens begin no model where a token is at fault
-never_all : (all : List Tok) (k : ℕ) → k < length all → IsFault (take k all) (drop k all) → Begins all → ⊥
+never_all : (all : List Tok) (k : ℕ) → k < length all → IsFault (take k all) (drop k all)
+    → Begins all → ⊥
 never_all all k h f b =
     let a = at all k h in
     at_fault (take k all) (drop k all) a.0 a.1 a.3 f (begins_before (take k all ++ (a.0 ∷ [])) a.1 (subst Begins (a.2 ∙ one_more (take k all) a.1 a.0) b))
 
-pub no_model : (all : List Tok) (f : fault.SyntaxFault) (m : ModelSyntax) → IsFirstFault all f → Spells m all → f ≡ faults.Memory
+pub no_model : (all : List Tok) (f : fault.SyntaxFault) (m : ModelSyntax) → IsFirstFault all f
+    → Spells m all → f ≡ faults.Memory
 no_model all faults.Memory m h x = refl
 no_model all (faults.At c None) m h x = absurd (h.0.1 m x)
 no_model all (faults.At c (Some k)) m h x = absurd (never_all all k h.0 h.1 ([], m, subst (λ (w : List Tok). Spells m w) (sym (append-nil all)) x))
@@ -141,7 +153,8 @@ same_code : (c d : code.SyntaxCode) → code_of c ≡ code_of d → c ≡ d
 same_code c d e = sym (back c) ∙ ap code_back e ∙ back d
 
 -- a token at fault is not before another
-not_before : (all : List Tok) (k l : ℕ) → k < l → k < length all → IsFault (take k all) (drop k all) → Begins (take l all) → ⊥
+not_before : (all : List Tok) (k l : ℕ) → k < l → k < length all → IsFault (take k all) (drop k all)
+    → Begins (take l all) → ⊥
 not_before all k l h g f b =
     let a = at all k g in
     let n = l - suc k in
@@ -149,7 +162,8 @@ not_before all k l h g f b =
     let e = ap (λ (l : ℕ). take l all) q ∙ take-add k (suc n) all ∙ ap (λ (d : List Tok). take k all ++ take (suc n) d) a.3 ∙ one_more (take k all) (take n a.1) a.0 in
     at_fault (take k all) (drop k all) a.0 a.1 a.3 f (begins_before (take k all ++ (a.0 ∷ [])) (take (l - suc k) a.1) (subst Begins e b))
 
-pub same_fault : (all : List Tok) (f g : fault.SyntaxFault) → (f ≡ faults.Memory → ⊥) → (g ≡ faults.Memory → ⊥) → IsFirstFault all f → IsFirstFault all g → f ≡ g
+pub same_fault : (all : List Tok) (f g : fault.SyntaxFault) → (f ≡ faults.Memory → ⊥)
+    → (g ≡ faults.Memory → ⊥) → IsFirstFault all f → IsFirstFault all g → f ≡ g
 same_fault all faults.Memory g m n h k = absurd (m refl)
 same_fault all (faults.At c a) faults.Memory m n h k = absurd (n refl)
 same_fault all (faults.At c None) (faults.At d None) m n h k = ap (λ (c : code.SyntaxCode). faults.At c None) (same_code c d (h.1 ∙ sym k.1))
@@ -160,7 +174,9 @@ same_fault all (faults.At c (Some i)) (faults.At d (Some l)) m n h k = of (h.0) 
     begins_at : (j : ℕ) → j < length all → IsFault (take j all) (drop j all) → Begins (take j all)
     begins_at j g f = let a = at all j g in begun (take j all) (drop j all) a.0 a.1 a.3 f
 
-    at_one : (i l : ℕ) → i ≡ l → IsFaultCode (take i all) (drop i all) (code_of c) → IsFaultCode (take l all) (drop l all) (code_of d) → faults.At c (Some i) ≡ faults.At d (Some l)
+    at_one : (i l : ℕ) → i ≡ l → IsFaultCode (take i all) (drop i all) (code_of c)
+        → IsFaultCode (take l all) (drop l all) (code_of d)
+        → faults.At c (Some i) ≡ faults.At d (Some l)
     at_one i l e g h =
         let q = same_code c d (code_unique (take l all) (drop l all) (code_of c) (code_of d) (subst (λ (i : ℕ). IsFaultCode (take i all) (drop i all) (code_of c)) e g) h) in
         ap (λ (i : ℕ). faults.At c (Some i)) e ∙ ap (λ (c : code.SyntaxCode). faults.At c (Some l)) q

@@ -6,7 +6,15 @@ use Rattle.ili_lexer.specs.declared.tokens.Mark.TheVariants as marks
 use Rattle.ili_lexer.specs.declared.tokens.Mark as mark
 use Rattle.ili_lexer.specs.declared.keywords.Keyword.TheVariants as keywords
 use Rattle.ili_lexer.specs.declared.keywords.Keyword as keyword
-use Rattle.ili_grammar.specs.Tokens.{Word, TRANSFER, DOMAIN, MODEL, TOPIC, TABLE, OPTIONAL, END, NO, IDENT, COORD2, COORD3, DIM1, DIM2, RADIANS, GRADS, DEGREES, TEXT, DATE, HALIGNMENT, VALIGNMENT, POLYLINE, SURFACE, AREA, WITH, STRAIGHTS, ARCS, VERTEX, BASE, WITHOUT, OVERLAPS, LINEATTR, FORMAT, FREE, FIX, CODE, FONT, BLANK, UNDEFINED, CONTINUE, DEFAULT, TID, I16, I32, ANY, VIEW, DERIVATIVES, Kind, name, number, hex, explanation, word, semicolon, colon, comma, equals, left_paren, right_paren, left_bracket, right_bracket, star, greater, period, two_periods, arrow}
+use Rattle.ili_grammar.specs.Tokens.{Word, TRANSFER, DOMAIN, MODEL, TOPIC, TABLE, OPTIONAL, END, NO}
+use Rattle.ili_grammar.specs.Tokens.{IDENT, COORD2, COORD3, DIM1, DIM2, RADIANS, GRADS, DEGREES}
+use Rattle.ili_grammar.specs.Tokens.{TEXT, DATE, HALIGNMENT, VALIGNMENT, POLYLINE, SURFACE, AREA}
+use Rattle.ili_grammar.specs.Tokens.{WITH, STRAIGHTS, ARCS, VERTEX, BASE, WITHOUT, OVERLAPS}
+use Rattle.ili_grammar.specs.Tokens.{LINEATTR, FORMAT, FREE, FIX, CODE, FONT, BLANK, UNDEFINED}
+use Rattle.ili_grammar.specs.Tokens.{CONTINUE, DEFAULT, TID, I16, I32, ANY, VIEW, DERIVATIVES, Kind}
+use Rattle.ili_grammar.specs.Tokens.{name, number, hex, explanation, word, semicolon, colon, comma}
+use Rattle.ili_grammar.specs.Tokens.{equals, left_paren, right_paren, left_bracket, right_bracket}
+use Rattle.ili_grammar.specs.Tokens.{star, greater, period, two_periods, arrow}
 use Rattle.ili_grammar.specs.Slices.{word_of, mark_of, kind_of}
 
 abbrev keyword_back : Word → keyword.Keyword

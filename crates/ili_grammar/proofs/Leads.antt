@@ -1,5 +1,7 @@
 -- The tokens of a text, one by one.
-use Rattle.std.proofs.Common.{◌≡◌, ℕ, zero, suc, ◌+◌, ◌<◌, ◌≤◌, List, [], ◌∷◌, length, drop, get_or, Option, Some, None, Bool, true, false, refl, sym, ap, ◌∙◌, subst, arith, add-one, ◌&&◌, ◌-◌, ◌==◌, cond, count_by, nat_le}
+use Rattle.std.proofs.Common.{◌≡◌, ℕ, zero, suc, ◌+◌, ◌<◌, ◌≤◌, List, [], ◌∷◌, length, drop, get_or}
+use Rattle.std.proofs.Common.{Option, Some, None, Bool, true, false, refl, sym, ap, ◌∙◌, subst}
+use Rattle.std.proofs.Common.{arith, add-one, ◌&&◌, ◌-◌, ◌==◌, cond, count_by, nat_le}
 use Rattle.std.proofs.lemmas.Bool.{and_parts, leb-true}
 use Rattle.std.specs.Char.{is_ascii_digit}
 use Rattle.ili_grammar.specs.Numbers.{is_short, decimals}
@@ -19,7 +21,8 @@ use Rattle.ili_grammar.proofs.SameKind.{same_is}
 use Rattle.ili_grammar.proofs.KindBack.{kinds_differ}
 use Rattle.ili_lexer.specs.declared.tokens.Token.{Token}
 use Rattle.ili_grammar.specs.Tokens.{number, hex, Info, Tok, tok}
-use Rattle.ili_grammar.specs.Slices.{kind_of, info_of, bytes_of, is_behind, is_short_token, are_short, toks_behind, toks}
+use Rattle.ili_grammar.specs.Slices.{kind_of, info_of, bytes_of, is_behind, is_short_token}
+use Rattle.ili_grammar.specs.Slices.{are_short, toks_behind, toks}
 
 -- what a slice of tokens gives past its end
 abbrev pub nothing : Token
@@ -30,7 +33,8 @@ abbrev pub before : Option Token → List Token → ℕ → Token → Option Tok
 before p ts zero d = p
 before p ts (suc i) d = Some (get_or ts i d)
 
-leads_behind : (text : List ℕ) (p : Option Token) (ts : List Token) (i : ℕ) (d : Token) → i < length ts
+leads_behind : (text : List ℕ) (p : Option Token) (ts : List Token) (i : ℕ) (d : Token)
+    → i < length ts
     → drop i (toks_behind text p ts) ≡ tok (kind_of (get_or ts i d).kind) (info_of text (before p ts i d) (get_or ts i d)) ∷ drop (suc i) (toks_behind text p ts)
 leads_behind text p [] i d h = absurd (omega arith)
 leads_behind text p (t ∷ ts) zero d h = refl
@@ -42,7 +46,8 @@ pub leads : (text : List ℕ) (ts : List Token) (i : ℕ) (d : Token) → i < le
 unfolding toks
 leads text ts i d h = rw add-one (leads_behind text None ts i d h)
 
-length_behind : (text : List ℕ) (p : Option Token) (ts : List Token) → length (toks_behind text p ts) ≡ length ts
+length_behind : (text : List ℕ) (p : Option Token) (ts : List Token)
+    → length (toks_behind text p ts) ≡ length ts
 length_behind text p [] = refl
 length_behind text p (t ∷ ts) = ap suc (length_behind text (Some t) ts)
 
@@ -51,10 +56,13 @@ unfolding toks
 length-toks text ts = length_behind text None ts
 
 -- ---- one token
-pub none_left : (text : List ℕ) (ts : List Token) (i : ℕ) → length ts ≤ i → drop i (toks text ts) ≡ []
+pub none_left : (text : List ℕ) (ts : List Token) (i : ℕ) → length ts ≤ i
+    → drop i (toks text ts) ≡ []
 none_left text ts i h = drop_all i (toks text ts) (omega (arith, length-toks text ts))
 
-pub leads_kind : (text : List ℕ) (ts : List Token) (i : ℕ) (d : Token) (k : kind.Kind) → i < length ts → (get_or ts i d).kind ≡ k → Leads (kind_of k) (drop i (toks text ts)) (drop (i + 1) (toks text ts))
+pub leads_kind : (text : List ℕ) (ts : List Token) (i : ℕ) (d : Token) (k : kind.Kind)
+    → i < length ts → (get_or ts i d).kind ≡ k
+    → Leads (kind_of k) (drop i (toks text ts)) (drop (i + 1) (toks text ts))
 leads_kind text ts i d k h e =
     (info_of text (before None ts i d) (get_or ts i d), leads text ts i d h ∙ ap (λ (k : kind.Kind). tok (kind_of k) (info_of text (before None ts i d) (get_or ts i d)) ∷ drop (i + 1) (toks text ts)) e)
 
@@ -65,14 +73,17 @@ not_same a b h = of (same_kind (kind_of a) (kind_of b)) refl
     of true e = absurd (h (sym (kinds_differ a b (same_is (kind_of a) (kind_of b) e))))
     of false e = tt
 
-pub not_leads : (text : List ℕ) (ts : List Token) (i : ℕ) (d : Token) (k : kind.Kind) → i < length ts → ((get_or ts i d).kind ≡ k → ⊥) → Not (kind_of k) (drop i (toks text ts))
+pub not_leads : (text : List ℕ) (ts : List Token) (i : ℕ) (d : Token) (k : kind.Kind)
+    → i < length ts → ((get_or ts i d).kind ≡ k → ⊥) → Not (kind_of k) (drop i (toks text ts))
 not_leads text ts i d k h e = subst (Not (kind_of k)) (sym (leads text ts i d h)) (not_same k (get_or ts i d).kind e)
 
-pub not_at_end : (text : List ℕ) (ts : List Token) (i : ℕ) (k : Kind) → length ts ≤ i → Not k (drop i (toks text ts))
+pub not_at_end : (text : List ℕ) (ts : List Token) (i : ℕ) (k : Kind) → length ts ≤ i
+    → Not k (drop i (toks text ts))
 not_at_end text ts i k h = subst (Not k) (sym (none_left text ts i h)) tt
 
 -- ---- the first letter and the number before
-pub scales_at : (text : List ℕ) (ts : List Token) (i : ℕ) → i < length ts → scales_here (drop i (toks text ts)) ≡ is_behind (before None ts i nothing) (get_or ts i nothing) && begins_with_s (bytes_of text (get_or ts i nothing))
+pub scales_at : (text : List ℕ) (ts : List Token) (i : ℕ) → i < length ts
+    → scales_here (drop i (toks text ts)) ≡ is_behind (before None ts i nothing) (get_or ts i nothing) && begins_with_s (bytes_of text (get_or ts i nothing))
 scales_at text ts i h = ap scales_here (leads text ts i nothing h)
 
 -- ---- the test of a kind
@@ -91,7 +102,8 @@ leads_false k (tok h i ∷ r) n = of (same_kind k h) n
     of false n = refl
 
 -- ---- a number before
-pub scales_first : (text : List ℕ) (ts : List Token) (i : ℕ) → i ≡ 0 → i < length ts → false ≡ scales_here (drop i (toks text ts))
+pub scales_first : (text : List ℕ) (ts : List Token) (i : ℕ) → i ≡ 0 → i < length ts
+    → false ≡ scales_here (drop i (toks text ts))
 scales_first text ts i e h = sym (subst (λ (i : ℕ). i < length ts → scales_here (drop i (toks text ts)) ≡ false) (sym e) (λ h. scales_at text ts 0 h) h)
 
 scales_next : (text : List ℕ) (ts : List Token) (j : ℕ) → suc j < length ts
@@ -100,7 +112,9 @@ scales_next text ts j h =
     sym (scales_at text ts (suc j) h ∙ ap (λ (b : Bool). (b && ((get_or ts j nothing).upto == (get_or ts (suc j) nothing).from)) && begins_with_s (bytes_of text (get_or ts (suc j) nothing)))
     (sym (ap (leads_with number) (leads text ts j nothing (omega arith)))))
 
-pub scales_behind : (text : List ℕ) (ts : List Token) (i : ℕ) (a b : Bool) → (i ≡ 0 → ⊥) → i < length ts → a ≡ leads_with number (drop (i - 1) (toks text ts)) → b ≡ begins_with_s (bytes_of text (get_or ts i nothing))
+pub scales_behind : (text : List ℕ) (ts : List Token) (i : ℕ) (a b : Bool) → (i ≡ 0 → ⊥)
+    → i < length ts → a ≡ leads_with number (drop (i - 1) (toks text ts))
+    → b ≡ begins_with_s (bytes_of text (get_or ts i nothing))
     → ((a && ((get_or ts (i - 1) nothing).upto == (get_or ts i nothing).from)) && b) ≡ scales_here (drop i (toks text ts))
 scales_behind text ts i a b n h e f =
     let j = i - 1 in
@@ -110,16 +124,20 @@ scales_behind text ts i a b n h e f =
     (subst (λ (b : Bool). ((leads_with number (drop j (toks text ts)) && ((get_or ts j nothing).upto == (get_or ts (suc j) nothing).from)) && b) ≡ scales_here (drop (suc j) (toks text ts))) (sym f) (scales_next text ts j h))) h f
 
 -- ---- the bytes and the place of a token
-pub info_here : (text : List ℕ) (ts : List Token) (at : ℕ) (k : Kind) (i : Info) (v : List Tok) → at < length ts → drop at (toks text ts) ≡ tok k i ∷ v → info_of text (before None ts at nothing) (get_or ts at nothing) ≡ i
+pub info_here : (text : List ℕ) (ts : List Token) (at : ℕ) (k : Kind) (i : Info) (v : List Tok)
+    → at < length ts → drop at (toks text ts) ≡ tok k i ∷ v
+    → info_of text (before None ts at nothing) (get_or ts at nothing) ≡ i
 info_here text ts at k i v h e = let f = leads text ts at nothing h in cc
 
 -- ---- numbers
-short_at : (text : List ℕ) (ts : List Token) (i : ℕ) → i < length ts → are_short text ts ≡ true → is_short_token text (get_or ts i nothing) ≡ true
+short_at : (text : List ℕ) (ts : List Token) (i : ℕ) → i < length ts → are_short text ts ≡ true
+    → is_short_token text (get_or ts i nothing) ≡ true
 short_at text [] i h e = absurd (omega arith)
 short_at text (t ∷ ts) zero h e = (and_parts (is_short_token text t) (are_short text ts) e).0
 short_at text (t ∷ ts) (suc i) h e = short_at text ts i (omega arith) (and_parts (is_short_token text t) (are_short text ts) e).1
 
-pub short_here : (text : List ℕ) (ts : List Token) (at : ℕ) (i : Info) (v : List Tok) → are_short text ts ≡ true → at < length ts → drop at (toks text ts) ≡ tok number i ∷ v
+pub short_here : (text : List ℕ) (ts : List Token) (at : ℕ) (i : Info) (v : List Tok)
+    → are_short text ts ≡ true → at < length ts → drop at (toks text ts) ≡ tok number i ∷ v
     → (count_by is_ascii_digit (bytes_of text (get_or ts at nothing)) ≤ 18) × (decimals (bytes_of text (get_or ts at nothing)) ≤ 20)
 short_here text ts at i v e h f =
     let g = leads text ts at nothing h in
@@ -132,7 +150,9 @@ short_here text ts at i v e h f =
     let l = leb-true (decimals b) 9 p.1 in
     (leb-true (count_by is_ascii_digit b) 18 p.0, omega (arith, l))
 
-pub hex_here : (text : List ℕ) (ts : List Token) (at : ℕ) (i : Info) (v : List Tok) → are_short text ts ≡ true → at < length ts → drop at (toks text ts) ≡ tok hex i ∷ v → length (bytes_of text (get_or ts at nothing)) ≤ 4
+pub hex_here : (text : List ℕ) (ts : List Token) (at : ℕ) (i : Info) (v : List Tok)
+    → are_short text ts ≡ true → at < length ts → drop at (toks text ts) ≡ tok hex i ∷ v
+    → length (bytes_of text (get_or ts at nothing)) ≤ 4
 hex_here text ts at i v e h f =
     let g = leads text ts at nothing h in
     let t = get_or ts at nothing in
@@ -145,10 +165,12 @@ pub equal_bytes : (a b : List ℕ) → true ≡ bytes_eq a b → a ≡ b
 equal_bytes a b e = grind (arith, bytes_eq-Decides a b)
 
 -- ---- no keyword
-pub no_word_end : (text : List ℕ) (ts : List Token) (i : ℕ) → length ts ≤ i → NoWord (drop i (toks text ts))
+pub no_word_end : (text : List ℕ) (ts : List Token) (i : ℕ) → length ts ≤ i
+    → NoWord (drop i (toks text ts))
 no_word_end text ts i h = subst NoWord (sym (none_left text ts i h)) tt
 
-no_word : (k : kind.Kind) (i : Info) (r : List Tok) → ((w : keyword.Keyword) → k ≡ kinds.Keyword w → ⊥) → NoWord (tok (kind_of k) i ∷ r)
+no_word : (k : kind.Kind) (i : Info) (r : List Tok)
+    → ((w : keyword.Keyword) → k ≡ kinds.Keyword w → ⊥) → NoWord (tok (kind_of k) i ∷ r)
 no_word kinds.Name i r n = tt
 no_word (kinds.Keyword k) i r n = absurd (n k refl)
 no_word kinds.Number i r n = tt
@@ -168,5 +190,7 @@ no_word (kinds.Mark marks.Period) i r n = tt
 no_word (kinds.Mark marks.TwoPeriods) i r n = tt
 no_word (kinds.Mark marks.Arrow) i r n = tt
 
-pub no_word_at : (text : List ℕ) (ts : List Token) (i : ℕ) (d : Token) → i < length ts → ((w : keyword.Keyword) → (get_or ts i d).kind ≡ kinds.Keyword w → ⊥) → NoWord (drop i (toks text ts))
+pub no_word_at : (text : List ℕ) (ts : List Token) (i : ℕ) (d : Token) → i < length ts
+    → ((w : keyword.Keyword) → (get_or ts i d).kind ≡ kinds.Keyword w → ⊥)
+    → NoWord (drop i (toks text ts))
 no_word_at text ts i d h n = subst NoWord (sym (leads text ts i d h)) (no_word (get_or ts i d).kind (info_of text (before None ts i d) (get_or ts i d)) (drop (i + 1) (toks text ts)) n)

@@ -1,5 +1,7 @@
 -- What is known of the tokens of a text: how many there are, and how long numbers are.
-use Rattle.std.proofs.Common.{◌≡◌, ℕ, ◌+◌, ◌-◌, ◌≤◌, List, [], ◌∷◌, ◌++◌, length, drop, Bool, true, false, cond, refl, sym, ap, ◌∙◌, subst, arith, nat_eq, nat_le, count_by}
+use Rattle.std.proofs.Common.{◌≡◌, ℕ, ◌+◌, ◌-◌, ◌≤◌, List, [], ◌∷◌, ◌++◌, length, drop, Bool, true}
+use Rattle.std.proofs.Common.{false, cond, refl, sym, ap, ◌∙◌, subst, arith, nat_eq, nat_le}
+use Rattle.std.proofs.Common.{count_by}
 use Rattle.std.specs.List.{AllPass}
 use Rattle.std.specs.Char.{is_ascii_digit}
 use Rattle.std.specs.Cmp.Derive.{both_true}
@@ -9,7 +11,8 @@ use Rattle.std.proofs.lemmas.List.Elements.{All-head, All-tail}
 use Rattle.ili_lexer.specs.declared.tokens.Token.{Token}
 use Rattle.ili_lexer.specs.declared.tokens.Kind.{Kind}
 use Rattle.ili_lexer.specs.declared.tokens.Kind.TheVariants as kind
-use Rattle.ili_lexer.specs.Forms.{IsSign, unsigned, plus, minus, fraction, IsNumber, IsShort, IsHex, IsToken}
+use Rattle.ili_lexer.specs.Forms.{IsSign, unsigned, plus, minus, fraction, IsNumber, IsShort, IsHex}
+use Rattle.ili_lexer.specs.Forms.{IsToken}
 use Rattle.ili_lexer.specs.Longest.{IsTaken, HasFewDigits}
 use Rattle.ili_lexer.specs.Tokens.{AreInOrder, AreLongest}
 use Rattle.ili_grammar.specs.Tokens as grammar
@@ -24,7 +27,8 @@ count_in_order : (end from : ℕ) (ts : List Token) → AreInOrder end from ts �
 count_in_order end from [] p = omega (arith, p)
 count_in_order end from (t ∷ ts) p = omega (arith, p.0, p.1, count_in_order end t.upto ts p.2)
 
-pub few_tokens : (text : List ℕ) (ts : List Token) → AreInOrder (length text) 0 ts → length ts ≤ length text
+pub few_tokens : (text : List ℕ) (ts : List Token) → AreInOrder (length text) 0 ts
+    → length ts ≤ length text
 few_tokens text ts p = omega (arith, count_in_order (length text) 0 ts p)
 
 -- ---- how long numbers are
@@ -52,7 +56,8 @@ behind_sign _ xs unsigned = refl
 behind_sign _ xs plus = refl
 behind_sign _ xs minus = refl
 
-behind_digits : (whole xs : List ℕ) → AllPass is_ascii_digit whole → decimals (whole ++ xs) ≡ decimals xs
+behind_digits : (whole xs : List ℕ) → AllPass is_ascii_digit whole
+    → decimals (whole ++ xs) ≡ decimals xs
 behind_digits [] xs all = refl
 behind_digits (b ∷ bs) xs all = rw (no_stop b (All-head (λ x. is_ascii_digit x ≡ true) b bs all)) (behind_digits bs xs (All-tail (λ x. is_ascii_digit x ≡ true) b bs all))
   where
@@ -79,19 +84,22 @@ hex_short : (bytes : List ℕ) → IsHex bytes → length bytes ≤ 4
 hex_short bytes h = let e = ap (length {A = ℕ}) h.made in omega (arith, e, h.few)
 
 -- ---- all tokens
-token_short : (text : List ℕ) (t : Token) → IsTaken (drop t.from text) t.kind (t.upto - t.from) → is_short_token text t ≡ true
+token_short : (text : List ℕ) (t : Token) → IsTaken (drop t.from text) t.kind (t.upto - t.from)
+    → is_short_token text t ≡ true
 token_short text t h = both_true (number (same_kind grammar.number (kind_of t.kind)) refl) (hex (same_kind grammar.hex (kind_of t.kind)) refl)
   where
     short : HasFewDigits kind.Number (bytes_of text t) → is_short (bytes_of text t) ≡ true
     short (n, s) = number_short (bytes_of text t) n s
 
-    number : (b : Bool) → same_kind grammar.number (kind_of t.kind) ≡ b → cond b (is_short (bytes_of text t)) true ≡ true
+    number : (b : Bool) → same_kind grammar.number (kind_of t.kind) ≡ b
+        → cond b (is_short (bytes_of text t)) true ≡ true
     number false q = refl
     number true q =
         let k = kinds_differ t.kind kind.Number (sym (same_is grammar.number (kind_of t.kind) q)) in
         short (subst (λ (k : Kind). HasFewDigits k (bytes_of text t)) k h.few)
 
-    hex : (b : Bool) → same_kind grammar.hex (kind_of t.kind) ≡ b → cond b (nat_le (length (bytes_of text t)) 4) true ≡ true
+    hex : (b : Bool) → same_kind grammar.hex (kind_of t.kind) ≡ b
+        → cond b (nat_le (length (bytes_of text t)) 4) true ≡ true
     hex false q = refl
     hex true q =
         let k = kinds_differ t.kind kind.Hex (sym (same_is grammar.hex (kind_of t.kind) q)) in

@@ -1,5 +1,6 @@
 -- The names of a model are names where those of its tokens are.
-use Rattle.std.proofs.Common.{ℕ, ◌-◌, List, [], ◌∷◌, All, Option, Some, None, Bool, true, false, drop}
+use Rattle.std.proofs.Common.{ℕ, ◌-◌, List, [], ◌∷◌, All, Option, Some, None, Bool, true, false}
+use Rattle.std.proofs.Common.{drop}
 use Rattle.std.proofs.lemmas.List.Elements.{All-nil, All-cons, All-head, All-tail}
 use Rattle.ili_lexer.specs.declared.tokens.Token.{Token}
 use Rattle.ili_lexer.specs.declared.tokens.Kind as kind
@@ -8,10 +9,28 @@ use Rattle.ili_lexer.specs.declared.tokens.Mark.TheVariants as marks
 use Rattle.ili_lexer.specs.Forms.{IsName, IsToken}
 use Rattle.ili_lexer.specs.Longest.{IsTaken}
 use Rattle.ili_lexer.specs.Tokens.{AreLongest}
-use Rattle.ili_grammar.specs.Tokens.{name, semicolon, comma, right_paren, period, word, VERTEX, END, Info, Tok, tok}
-use Rattle.ili_grammar.specs.Syntax.{Ident, Decimal, Element, Elements, LineHead, TypeSyntax, Attributes, Content, DomainSyntax, TableSyntax, TopicSyntax, ModelSyntax}
-use Rattle.ili_grammar.specs.Types.{IsList, one_name, more_names, IsLists, no_list, more_lists, IsIdents, no_ident, idents, IsMaybeIdents, without_idents, with_idents, IsForms, last_straights, last_arcs, straights, arcs, IsBase, no_base, base, IsOverlap, no_overlap, overlap, IsLine, line, IsEnumeration, enumeration, IsElements, last_element, more_elements, IsElement, leaf, node, IsExplained, unexplained, explained, IsType, named, coord2, coord3, dim1, dim2, radians, grads, degrees, range, text, date, halignment, valignment, of_elements, polyline, surface, area, IsLineAttributes, no_line_attributes, line_attributes, IsAttributes, no_attribute, more_attributes, mandatory, optional, IsContent, value, reference}
-use Rattle.ili_grammar.specs.Models.{IsDomains, no_domain, more_domains, IsMaybeDomains, without_domains, with_domains, IsTable, table, IsBody, no_part, and_domains, and_table, and_optional_table, IsTopic, topic, IsTopics, no_topic, and_topic, and_optional_topic, a_model, IsTransfer, transfer}
+use Rattle.ili_grammar.specs.Tokens.{name, semicolon, comma, right_paren, period, word, VERTEX, END}
+use Rattle.ili_grammar.specs.Tokens.{Info, Tok, tok}
+use Rattle.ili_grammar.specs.Syntax.{Ident, Decimal, Element, Elements, LineHead, TypeSyntax}
+use Rattle.ili_grammar.specs.Syntax.{Attributes, Content, DomainSyntax, TableSyntax, TopicSyntax}
+use Rattle.ili_grammar.specs.Syntax.{ModelSyntax}
+use Rattle.ili_grammar.specs.Types.{IsList, one_name, more_names, IsLists, no_list, more_lists}
+use Rattle.ili_grammar.specs.Types.{IsIdents, no_ident, idents, IsMaybeIdents, without_idents}
+use Rattle.ili_grammar.specs.Types.{with_idents, IsForms, last_straights, last_arcs, straights}
+use Rattle.ili_grammar.specs.Types.{arcs, IsBase, no_base, base, IsOverlap, no_overlap, overlap}
+use Rattle.ili_grammar.specs.Types.{IsLine, line, IsEnumeration, enumeration, IsElements}
+use Rattle.ili_grammar.specs.Types.{last_element, more_elements, IsElement, leaf, node, IsExplained}
+use Rattle.ili_grammar.specs.Types.{unexplained, explained, IsType, named, coord2, coord3, dim1}
+use Rattle.ili_grammar.specs.Types.{dim2, radians, grads, degrees, range, text, date, halignment}
+use Rattle.ili_grammar.specs.Types.{valignment, of_elements, polyline, surface, area}
+use Rattle.ili_grammar.specs.Types.{IsLineAttributes, no_line_attributes, line_attributes}
+use Rattle.ili_grammar.specs.Types.{IsAttributes, no_attribute, more_attributes, mandatory}
+use Rattle.ili_grammar.specs.Types.{optional, IsContent, value, reference}
+use Rattle.ili_grammar.specs.Models.{IsDomains, no_domain, more_domains, IsMaybeDomains}
+use Rattle.ili_grammar.specs.Models.{without_domains, with_domains, IsTable, table, IsBody, no_part}
+use Rattle.ili_grammar.specs.Models.{and_domains, and_table, and_optional_table, IsTopic, topic}
+use Rattle.ili_grammar.specs.Models.{IsTopics, no_topic, and_topic, and_optional_topic, a_model}
+use Rattle.ili_grammar.specs.Models.{IsTransfer, transfer}
 use Rattle.ili_grammar.specs.Limits.{AreNamed, IsNamedTable, IsNamedTopic}
 use Rattle.ili_grammar.specs.Slices.{kind_of, info_of, toks_behind, toks}
 
@@ -34,7 +53,8 @@ idents_rest : (ls : List (List Ident)) (w r : List Tok) → IsIdents ls w r → 
 idents_rest _ _ _ (no_ident i j r) s = s
 idents_rest _ _ _ (idents i j l ls w u r d e) s = lists_rest ls u r e (list_rest l w (tok semicolon j ∷ u) d s)
 
-maybe_idents_rest : (ls : List (List Ident)) (w r : List Tok) → IsMaybeIdents ls w r → Named w → Named r
+maybe_idents_rest : (ls : List (List Ident)) (w r : List Tok) → IsMaybeIdents ls w r → Named w
+    → Named r
 maybe_idents_rest _ _ _ (without_idents r) s = s
 maybe_idents_rest _ _ _ (with_idents ls w r d) s = idents_rest ls w r d s
 
@@ -56,7 +76,8 @@ line_rest : (l : LineHead) (w r : List Tok) → IsLine l w r → Named w → Nam
 line_rest _ _ _ (line i j k v a b o w u x r f g d) s = overlap_rest o x r d (base_rest u x g (forms_rest a b w (tok (word VERTEX) k ∷ tok name v ∷ u) f s).1)
 
 mutual
-  enumeration_rest : (d : ℕ) (es : Elements) (w r : List Tok) → IsEnumeration d es w r → Named w → Named r
+  enumeration_rest : (d : ℕ) (es : Elements) (w r : List Tok) → IsEnumeration d es w r → Named w
+      → Named r
   enumeration_rest _ _ _ _ (enumeration d i es w r x) s = elements_rest d es w r x s
 
   elements_rest : (d : ℕ) (es : Elements) (w r : List Tok) → IsElements d es w r → Named w → Named r
@@ -92,11 +113,13 @@ mutual
   type_rest _ _ _ _ (surface d t l as_ is w u r x y) s = line_attributes_rest d as_ is u r y (line_rest l w u x s)
   type_rest _ _ _ _ (area d t l as_ is w u r x y) s = line_attributes_rest d as_ is u r y (line_rest l w u x s)
 
-  line_attributes_rest : (d : ℕ) (as_ : Attributes) (is : List (List Ident)) (w r : List Tok) → IsLineAttributes d as_ is w r → Named w → Named r
+  line_attributes_rest : (d : ℕ) (as_ : Attributes) (is : List (List Ident)) (w r : List Tok)
+      → IsLineAttributes d as_ is w r → Named w → Named r
   line_attributes_rest _ _ _ _ _ (no_line_attributes d r) s = s
   line_attributes_rest _ _ _ _ _ (line_attributes d i j k as_ is w u r x y) s = maybe_idents_rest is u (tok (word END) k ∷ r) y (attributes_named d as_ w u x s).1
 
-  attributes_named : (d : ℕ) (as_ : Attributes) (w r : List Tok) → IsAttributes d as_ w r → Named w → AreNamed as_ × Named r
+  attributes_named : (d : ℕ) (as_ : Attributes) (w r : List Tok) → IsAttributes d as_ w r → Named w
+      → AreNamed as_ × Named r
   attributes_named _ _ _ _ (no_attribute d r) s = (tt, s)
   attributes_named _ _ _ _ (more_attributes d _ as_ w u r (mandatory d2 n i k c w2 u2 u3 x e) y) s =
       let q = attributes_named d as_ u r y (explained_rest u2 (tok semicolon k ∷ u) e (content_rest d c w2 u2 x s.1)) in ((s.0, q.0), q.1)
@@ -108,20 +131,24 @@ mutual
   content_rest _ _ _ _ (reference d i n r) s = s.1
 
 -- ---- domains, tables and topics
-domains_rest : (L : ℕ) (ds : List DomainSyntax) (w r : List Tok) → IsDomains L ds w r → Named w → Named r
+domains_rest : (L : ℕ) (ds : List DomainSyntax) (w r : List Tok) → IsDomains L ds w r → Named w
+    → Named r
 domains_rest L _ _ _ (no_domain r) s = s
 domains_rest L _ _ _ (more_domains n i k t ds w u v r x y z) s = domains_rest L ds v r z (explained_rest u (tok semicolon k ∷ v) y (type_rest L t w u x s.1))
 
-maybe_domains_rest : (L : ℕ) (ds : List DomainSyntax) (w r : List Tok) → IsMaybeDomains L ds w r → Named w → Named r
+maybe_domains_rest : (L : ℕ) (ds : List DomainSyntax) (w r : List Tok) → IsMaybeDomains L ds w r
+    → Named w → Named r
 maybe_domains_rest L _ _ _ (without_domains r) s = s
 maybe_domains_rest L _ _ _ (with_domains i ds w r x) s = domains_rest L ds w r x s
 
-table_named : (L : ℕ) (o : Bool) (t : TableSyntax) (w r : List Tok) → IsTable L o t w r → Named w → IsNamedTable t × Named r
+table_named : (L : ℕ) (o : Bool) (t : TableSyntax) (w r : List Tok) → IsTable L o t w r → Named w
+    → IsNamedTable t × Named r
 table_named L o _ _ _ (table i n j k m p as_ is w u r x y e) s =
     let q = attributes_named L as_ w u x s.1 in
     (record { name = s.0; attributes = q.0 }, (idents_rest is u (tok (word END) k ∷ tok name m ∷ tok semicolon p ∷ r) y q.1).1)
 
-body_named : (L : ℕ) (ds : List DomainSyntax) (ts : List TableSyntax) (w r : List Tok) → IsBody L ds ts w r → Named w → All IsNamedTable ts × Named r
+body_named : (L : ℕ) (ds : List DomainSyntax) (ts : List TableSyntax) (w r : List Tok)
+    → IsBody L ds ts w r → Named w → All IsNamedTable ts × Named r
 body_named L _ _ _ _ (no_part r) s = (All-nil IsNamedTable, s)
 body_named L _ _ _ _ (and_domains i ds es ts w u r x y) s = body_named L es ts u r y (domains_rest L ds w u x s)
 body_named L _ _ _ _ (and_table ds t ts w u r x y) s =
@@ -131,24 +158,28 @@ body_named L _ _ _ _ (and_optional_table i ds t ts w u r x y) s =
     let p = table_named L true t w u x s in
     let q = body_named L ds ts u r y p.1 in (All-cons IsNamedTable t ts p.0 q.0, q.1)
 
-topic_named : (L : ℕ) (t : TopicSyntax) (w r : List Tok) → IsTopic L t w r → Named w → IsNamedTopic t × Named r
+topic_named : (L : ℕ) (t : TopicSyntax) (w r : List Tok) → IsTopic L t w r → Named w
+    → IsNamedTopic t × Named r
 topic_named L _ _ _ (topic i n j k m p ds ts w r x e) s =
     let q = body_named L ds ts w (tok (word END) k ∷ tok name m ∷ tok period p ∷ r) x s.1 in
     (record { name = s.0; tables = q.0 }, q.1.1)
 
-topics_named : (L : ℕ) (ts : List TopicSyntax) (w r : List Tok) → IsTopics L ts w r → Named w → All IsNamedTopic ts
+topics_named : (L : ℕ) (ts : List TopicSyntax) (w r : List Tok) → IsTopics L ts w r → Named w
+    → All IsNamedTopic ts
 topics_named L _ _ _ (no_topic r) s = All-nil IsNamedTopic
 topics_named L _ _ _ (and_topic t ts w u r x y) s =
     let p = topic_named L t w u x s in All-cons IsNamedTopic t ts p.0 (topics_named L ts u r y p.1)
 topics_named L _ _ _ (and_optional_topic i t ts w u r x y) s =
     let p = topic_named L t w u x s in All-cons IsNamedTopic t ts p.0 (topics_named L ts u r y p.1)
 
-pub all_named : (L : ℕ) (m : ModelSyntax) (w r : List Tok) → IsTransfer L m w r → Named w → All IsNamedTopic m.topics
+pub all_named : (L : ℕ) (m : ModelSyntax) (w r : List Tok) → IsTransfer L m w r → Named w
+    → All IsNamedTopic m.topics
 all_named L _ _ _ (transfer a n b c d e f g h m os ds ts cs w u v x r p (a_model i n2 k m2 q ds2 ts2 w2 u2 r2 y z e2) t1 t2) s =
     topics_named L ts u2 (tok (word END) k ∷ tok name m2 ∷ tok period q ∷ r2) z (maybe_domains_rest L ds w2 u2 y (maybe_domains_rest L os w u p s.1).1)
 
 -- ---- the tokens of a text
-token_named : (k : kind.Kind) (i : Info) (r : List Tok) → IsToken k i.text → Named r → Named (tok (kind_of k) i ∷ r)
+token_named : (k : kind.Kind) (i : Info) (r : List Tok) → IsToken k i.text → Named r
+    → Named (tok (kind_of k) i ∷ r)
 token_named kinds.Name i r h s = (h, s)
 token_named (kinds.Keyword k) i r h s = s
 token_named kinds.Number i r h s = s
@@ -168,7 +199,8 @@ token_named (kinds.Mark marks.Period) i r h s = s
 token_named (kinds.Mark marks.TwoPeriods) i r h s = s
 token_named (kinds.Mark marks.Arrow) i r h s = s
 
-named_behind : (bytes : List ℕ) (p : Option Token) (ts : List Token) → AreLongest bytes ts → Named (toks_behind bytes p ts)
+named_behind : (bytes : List ℕ) (p : Option Token) (ts : List Token) → AreLongest bytes ts
+    → Named (toks_behind bytes p ts)
 named_behind bytes p [] h = tt
 named_behind bytes p (t ∷ ts) h =
     let P : Token → Type 0 = λ t. IsTaken (drop t.from bytes) t.kind (t.upto - t.from) in

@@ -12,7 +12,11 @@ use Rattle.ili_grammar.specs.Steps.{Refuses, Leads, IsFaultAt, is_unnumbered}
 use Rattle.ili_grammar.proofs.Stops.{Stuck, stops}
 use Rattle.ili_grammar.proofs.Stuck.{type_asks}
 
-no_step : (d : ℕ) (k : keyword.Keyword) (i : Info) → is_unnumbered k ≡ false → (k ≡ keywords.Text → ⊥) → (k ≡ keywords.Coord2 → ⊥) → (k ≡ keywords.Coord3 → ⊥) → (k ≡ keywords.Dim1 → ⊥) → (k ≡ keywords.Dim2 → ⊥) → (k ≡ keywords.Radians → ⊥) → (k ≡ keywords.Grads → ⊥) → (k ≡ keywords.Degrees → ⊥) → step (a_type d) (tok (word (word_of k)) i) ≡ None
+no_step : (d : ℕ) (k : keyword.Keyword) (i : Info) → is_unnumbered k ≡ false
+    → (k ≡ keywords.Text → ⊥) → (k ≡ keywords.Coord2 → ⊥) → (k ≡ keywords.Coord3 → ⊥)
+    → (k ≡ keywords.Dim1 → ⊥) → (k ≡ keywords.Dim2 → ⊥) → (k ≡ keywords.Radians → ⊥)
+    → (k ≡ keywords.Grads → ⊥) → (k ≡ keywords.Degrees → ⊥)
+    → step (a_type d) (tok (word (word_of k)) i) ≡ None
 no_step zero keywords.Transfer i n a b c d e f g h = refl
 no_step zero keywords.Domain i n a b c d e f g h = refl
 no_step zero keywords.Model i n a b c d e f g h = refl
@@ -106,7 +110,9 @@ no_step (suc z) keywords.Any i n a b c d e f g h = refl
 no_step (suc z) keywords.View i n a b c d e f g h = refl
 no_step (suc z) keywords.Derivatives i n a b c d e f g h = refl
 
-pub numbered : (k : keyword.Keyword) → (k ≡ keywords.Date → ⊥) → (k ≡ keywords.Halignment → ⊥) → (k ≡ keywords.Valignment → ⊥) → (k ≡ keywords.Polyline → ⊥) → (k ≡ keywords.Surface → ⊥) → (k ≡ keywords.Area → ⊥) → is_unnumbered k ≡ false
+pub numbered : (k : keyword.Keyword) → (k ≡ keywords.Date → ⊥) → (k ≡ keywords.Halignment → ⊥)
+    → (k ≡ keywords.Valignment → ⊥) → (k ≡ keywords.Polyline → ⊥) → (k ≡ keywords.Surface → ⊥)
+    → (k ≡ keywords.Area → ⊥) → is_unnumbered k ≡ false
 numbered keywords.Transfer a b c d e f = refl
 numbered keywords.Domain a b c d e f = refl
 numbered keywords.Model a b c d e f = refl
@@ -203,5 +209,9 @@ no_limit zero keywords.View = refl
 no_limit zero keywords.Derivatives = refl
 no_limit (suc d) k = refl
 
-pub stuck_word : (all w u : List Tok) (n : ℕ) (k : keyword.Keyword) (f : fault.SyntaxFault) → Leads (word (word_of k)) w u → is_unnumbered k ≡ false → (k ≡ keywords.Text → ⊥) → (k ≡ keywords.Coord2 → ⊥) → (k ≡ keywords.Coord3 → ⊥) → (k ≡ keywords.Dim1 → ⊥) → (k ≡ keywords.Dim2 → ⊥) → (k ≡ keywords.Radians → ⊥) → (k ≡ keywords.Grads → ⊥) → (k ≡ keywords.Degrees → ⊥) → IsFaultAt all w wants.Other f → Refuses all w (a_type n ∷ []) f
+pub stuck_word : (all w u : List Tok) (n : ℕ) (k : keyword.Keyword) (f : fault.SyntaxFault)
+    → Leads (word (word_of k)) w u → is_unnumbered k ≡ false → (k ≡ keywords.Text → ⊥)
+    → (k ≡ keywords.Coord2 → ⊥) → (k ≡ keywords.Coord3 → ⊥) → (k ≡ keywords.Dim1 → ⊥)
+    → (k ≡ keywords.Dim2 → ⊥) → (k ≡ keywords.Radians → ⊥) → (k ≡ keywords.Grads → ⊥)
+    → (k ≡ keywords.Degrees → ⊥) → IsFaultAt all w wants.Other f → Refuses all w (a_type n ∷ []) f
 stuck_word all w u n k fault (i, q) m a b c d e f g h x = stops all w (a_type n) wants.Other fault (type_asks n) (subst (Stuck (a_type n) wants.Other) (sym q) (no_step n k i m a b c d e f g h, no_limit n k)) x

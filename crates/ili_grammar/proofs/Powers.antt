@@ -1,5 +1,7 @@
 -- Powers of ten.
-use Rattle.std.proofs.Common.{◌≡◌, ℕ, zero, suc, ◌+◌, ◌-◌, ◌*◌, ◌^◌, ◌<◌, ◌≤◌, pos, neg_ℤ, nat_abs, nat_eq, codes, List, [], ◌∷◌, take, Bool, true, false, cond, count_by, refl, sym, subst, arith}
+use Rattle.std.proofs.Common.{◌≡◌, ℕ, zero, suc, ◌+◌, ◌-◌, ◌*◌, ◌^◌, ◌<◌, ◌≤◌, pos, neg_ℤ, nat_abs}
+use Rattle.std.proofs.Common.{nat_eq, codes, List, [], ◌∷◌, take, Bool, true, false, cond, count_by}
+use Rattle.std.proofs.Common.{refl, sym, subst, arith}
 use Rattle.std.specs.Prelude.{if◌then◌else◌}
 use Rattle.std.specs.List.{starts_with}
 use Rattle.std.proofs.lemmas.Bool.Decides.{nat_tests}
@@ -18,14 +20,16 @@ ten_more i (suc m) =
 ten_less : (k m : ℕ) → k ≤ m → 10 ^ k ≤ 10 ^ m
 ten_less k m h = let e : (m - k) + k ≡ m = omega arith in subst (λ (n : ℕ). 10 ^ k ≤ 10 ^ n) e (ten_more k (m - k))
 
-digits_cons : (b : ℕ) (bs : List ℕ) → count_by is_ascii_digit (b ∷ bs) ≡ cond (is_ascii_digit b) 1 0 + count_by is_ascii_digit bs
+digits_cons : (b : ℕ) (bs : List ℕ)
+    → count_by is_ascii_digit (b ∷ bs) ≡ cond (is_ascii_digit b) 1 0 + count_by is_ascii_digit bs
 digits_cons b bs =
     let e = sum_by-append (λ (x : ℕ). cond (is_ascii_digit x) 1 0) (b ∷ []) bs in
     let h : count_by is_ascii_digit (b ∷ []) ≡ 0 + cond (is_ascii_digit b) 1 0 = refl in
     omega (arith, e, h)
 
 -- reading on, a number gains a digit for each digit
-read_less : (bs : List ℕ) (n k : ℕ) → n < 10 ^ k → read_from n bs < 10 ^ (k + count_by is_ascii_digit bs)
+read_less : (bs : List ℕ) (n k : ℕ) → n < 10 ^ k
+    → read_from n bs < 10 ^ (k + count_by is_ascii_digit bs)
 read_less [] n k h = let e : k + 0 ≡ k = omega arith in subst (λ (m : ℕ). n < 10 ^ m) (sym e) h
 read_less (b ∷ bs) n k h = of (λ m l g. read_less bs m l g) (is_ascii_digit b) refl
   where
@@ -38,7 +42,9 @@ read_less (b ∷ bs) n k h = of (λ m l g. read_less bs m l g) (is_ascii_digit b
     less : (b : ℕ) → is_ascii_digit b ≡ true → b - 48 < 10
     less b e = grind (arith, nat_tests)
 
-    of : ((m l : ℕ) → m < 10 ^ l → read_from m bs < 10 ^ (l + count_by is_ascii_digit bs)) → (t : Bool) → is_ascii_digit b ≡ t → read_from (cond t ((n * 10) + (b - 48)) n) bs < 10 ^ (k + count_by is_ascii_digit (b ∷ bs))
+    of : ((m l : ℕ) → m < 10 ^ l → read_from m bs < 10 ^ (l + count_by is_ascii_digit bs))
+        → (t : Bool) → is_ascii_digit b ≡ t
+        → read_from (cond t ((n * 10) + (b - 48)) n) bs < 10 ^ (k + count_by is_ascii_digit (b ∷ bs))
     of more true e =
         let c : (k + count_by is_ascii_digit (b ∷ bs)) ≡ suc k + count_by is_ascii_digit bs = let d = digits_cons b bs in let f = one e in omega (arith, d, f) in
         subst (λ (m : ℕ). read_from ((n * 10) + (b - 48)) bs < 10 ^ m) (sym c) (more ((n * 10) + (b - 48)) (suc k) (rw (pow-suc 10 k) (omega (arith, less b e, h))))
@@ -56,12 +62,14 @@ small_number bs h = of (starts_with nat_eq bs (codes "-"))
     minus zero l = l
     minus (suc n) l = l
 
-    of : (b : Bool) → nat_abs (if b then neg_ℤ (pos (read_from 0 bs)) else pos (read_from 0 bs)) < 10 ^ 18
+    of : (b : Bool)
+        → nat_abs (if b then neg_ℤ (pos (read_from 0 bs)) else pos (read_from 0 bs)) < 10 ^ 18
     of true = minus (read_from 0 bs) less
     of false = less
 
 -- a number with at most 18 digits so far
-pub small : (bytes : List ℕ) (i n : ℕ) → count_by is_ascii_digit bytes ≤ 18 → n < 10 ^ count_by is_ascii_digit (take i bytes) → n < 10 ^ 18
+pub small : (bytes : List ℕ) (i n : ℕ) → count_by is_ascii_digit bytes ≤ 18
+    → n < 10 ^ count_by is_ascii_digit (take i bytes) → n < 10 ^ 18
 small bytes i n h g =
     let k = count_by is_ascii_digit (take i bytes) in
     let le : k ≤ 18 = omega (arith, h, sum_by-take-le (λ x. cond (is_ascii_digit x) 1 0) bytes i) in

@@ -1,5 +1,6 @@
 -- Faults of the reader and stops of the machine.
-use Rattle.std.proofs.Common.{◌≡◌, ℕ, List, [], ◌∷◌, drop, length, ◌<◌, ◌≤◌, Some, None, Bool, true, false, ◌||◌, not, refl, sym, subst}
+use Rattle.std.proofs.Common.{◌≡◌, ℕ, List, [], ◌∷◌, drop, length, ◌<◌, ◌≤◌, Some, None, Bool, true}
+use Rattle.std.proofs.Common.{false, ◌||◌, not, refl, sym, subst}
 use Rattle.std.proofs.Math.Bool.{or-false}
 use Rattle.std.proofs.lemmas.Bool.{or_parts}
 use Rattle.ili_lexer.specs.declared.tokens.Token.{Token}
@@ -20,14 +21,17 @@ use Rattle.ili_grammar.specs.Steps.{Refuses, IsFaultAt, code_here, is_plain}
 use Rattle.ili_grammar.proofs.Leads.{nothing, leads, none_left}
 
 -- ---- faults
-pub fault_here : (text : List ℕ) (ts : List Token) (i : ℕ) (d : wanted.Wanted) (c : code.SyntaxCode) → i < length ts → code_of c ≡ code_here (drop i (toks text ts)) d
+pub fault_here : (text : List ℕ) (ts : List Token) (i : ℕ) (d : wanted.Wanted) (c : code.SyntaxCode)
+    → i < length ts → code_of c ≡ code_here (drop i (toks text ts)) d
     → IsFaultAt (toks text ts) (drop i (toks text ts)) d (faults.At c (Some i))
 fault_here text ts i d c h e = told (drop i (toks text ts)) _ _ (leads text ts i nothing h) refl e
   where
-    told : (w : List Tok) (t : Tok) (r : List Tok) → w ≡ t ∷ r → drop i (toks text ts) ≡ w → code_of c ≡ code_here w d → IsFaultAt (toks text ts) w d (faults.At c (Some i))
+    told : (w : List Tok) (t : Tok) (r : List Tok) → w ≡ t ∷ r → drop i (toks text ts) ≡ w
+        → code_of c ≡ code_here w d → IsFaultAt (toks text ts) w d (faults.At c (Some i))
     told w t r e f g = subst (λ (w : List Tok). drop i (toks text ts) ≡ w → code_of c ≡ code_here w d → IsFaultAt (toks text ts) w d (faults.At c (Some i))) (sym e) (λ f g. (g, sym f)) f g
 
-pub fault_at_end : (text : List ℕ) (ts : List Token) (i : ℕ) (d : wanted.Wanted) → length ts ≤ i → IsFaultAt (toks text ts) (drop i (toks text ts)) d (faults.At codes.Expected None)
+pub fault_at_end : (text : List ℕ) (ts : List Token) (i : ℕ) (d : wanted.Wanted) → length ts ≤ i
+    → IsFaultAt (toks text ts) (drop i (toks text ts)) d (faults.At codes.Expected None)
 fault_at_end text ts i d h = subst (λ (w : List Tok). IsFaultAt (toks text ts) w d (faults.At codes.Expected None)) (sym (none_left text ts i h)) refl
 
 -- ---- stops
@@ -44,7 +48,8 @@ abbrev pub Stuck : Sym → wanted.Wanted → List Tok → Type 0
 Stuck x d [] = Unit {0}
 Stuck x d (tok k i ∷ r) = (step x (tok k i) ≡ None) × (at_limit x k ≡ is_too_deep d)
 
-pub stops : (all w : List Tok) (x : Sym) (d : wanted.Wanted) (f : fault.SyntaxFault) → AsksFor x d → Stuck x d w → IsFaultAt all w d f → Refuses all w (x ∷ []) f
+pub stops : (all w : List Tok) (x : Sym) (d : wanted.Wanted) (f : fault.SyntaxFault) → AsksFor x d
+    → Stuck x d w → IsFaultAt all w d f → Refuses all w (x ∷ []) f
 stops all [] x d (faults.At c None) a h e = record { told = λ stack. e }
 stops all [] x d (faults.At c (Some n)) a h e = absurd e
 stops all [] x d faults.Memory a h e = absurd e
@@ -73,10 +78,12 @@ pub stuck_want : (k : Kind) (w : List Tok) → Not k w → Stuck (want k) wants.
 stuck_want k [] n = tt
 stuck_want k (tok h i ∷ r) n = (rw (off (same_kind k h) n) refl, refl)
 
-pub stops_want : (all w : List Tok) (k : Kind) (f : fault.SyntaxFault) → is_plain k ≡ true → Not k w → IsFaultAt all w wants.Other f → Refuses all w (want k ∷ []) f
+pub stops_want : (all w : List Tok) (k : Kind) (f : fault.SyntaxFault) → is_plain k ≡ true → Not k w
+    → IsFaultAt all w wants.Other f → Refuses all w (want k ∷ []) f
 stops_want all w k f h n e = stops all w (want k) wants.Other f (wants_plain k h) (stuck_want k w n) e
 
-pub stops_free : (all w : List Tok) (f : fault.SyntaxFault) → Not (word FREE) w → IsFaultAt all w wants.Free f → Refuses all w (want (word FREE) ∷ []) f
+pub stops_free : (all w : List Tok) (f : fault.SyntaxFault) → Not (word FREE) w
+    → IsFaultAt all w wants.Free f → Refuses all w (want (word FREE) ∷ []) f
 stops_free all w f n e = stops all w (want (word FREE)) wants.Free f (record { must = refl; free = refl; form = refl; end_name = refl; value = refl }) (stuck w n) e
   where
     stuck : (w : List Tok) → Not (word FREE) w → Stuck (want (word FREE)) wants.Free w

@@ -3,8 +3,12 @@ use Rattle.std.proofs.Common.{Vec, ◌≡◌, List, [], ◌∙◌}
 use denote.Hole.Carrier.{roll}
 use Rattle.std.specs.Option.{option_map}
 use Rattle.ili_grammar.specs.declared.syntax.Content.TheOpen as opened
-use Rattle.ili_grammar.specs.declared.syntax.Content.TheViews.{roll-TypeSyntax, roll-LineSyntax, roll-AttributeSyntax, roll-Content}
-use Rattle.ili_grammar.specs.declared.syntax.Content.TheFolds.{fold-roll-TypeSyntax, fold-roll-LineSyntax, fold-roll-AttributeSyntax, fold-roll-Content}
+use Rattle.ili_grammar.specs.declared.syntax.Content.TheViews.{roll-TypeSyntax, roll-LineSyntax}
+use Rattle.ili_grammar.specs.declared.syntax.Content.TheViews.{roll-AttributeSyntax, roll-Content}
+use Rattle.ili_grammar.specs.declared.syntax.Content.TheFolds.{fold-roll-TypeSyntax}
+use Rattle.ili_grammar.specs.declared.syntax.Content.TheFolds.{fold-roll-LineSyntax}
+use Rattle.ili_grammar.specs.declared.syntax.Content.TheFolds.{fold-roll-AttributeSyntax}
+use Rattle.ili_grammar.specs.declared.syntax.Content.TheFolds.{fold-roll-Content}
 use Rattle.ili_grammar.specs.declared.syntax.AttributeSyntax as attribute
 use Rattle.ili_grammar.specs.declared.syntax.Content as content
 use Rattle.ili_grammar.specs.declared.syntax.Content.TheVariants as contents
@@ -18,8 +22,15 @@ use Rattle.ili_grammar.specs.declared.syntax.Element as element
 use Rattle.ili_grammar.specs.declared.syntax.IdentList as list
 use Rattle.ili_grammar.specs.declared.syntax.TypeSyntax as kind
 use Rattle.ili_grammar.specs.declared.syntax.LineSyntax as line
-use Rattle.ili_grammar.specs.Syntax.{Named, Coord2, Coord3, Dim1, Dim2, Radians, Grads, Degrees, Range, Text, Date, HAlignment, VAlignment, Enumeration, Polyline, Surface, Area, Value, Reference, TypeSyntax, LineHead, LineSyntax, a_line, no_attributes, AttributeSyntax, an_attribute, Content}
-use Rattle.ili_grammar.specs.Values.{type_of, span_of, corners2_of, corners3_of, elements_of, ident_of, decimal_of, lists_of, content_step, type_step, attribute_step, line_step, line_of, attribute_of, content_of, attributes_of}
+use Rattle.ili_grammar.specs.Syntax.{Named, Coord2, Coord3, Dim1, Dim2, Radians, Grads, Degrees}
+use Rattle.ili_grammar.specs.Syntax.{Range, Text, Date, HAlignment, VAlignment, Enumeration}
+use Rattle.ili_grammar.specs.Syntax.{Polyline, Surface, Area, Value, Reference, TypeSyntax}
+use Rattle.ili_grammar.specs.Syntax.{LineHead, LineSyntax, a_line, no_attributes, AttributeSyntax}
+use Rattle.ili_grammar.specs.Syntax.{an_attribute, Content}
+use Rattle.ili_grammar.specs.Values.{type_of, span_of, corners2_of, corners3_of, elements_of}
+use Rattle.ili_grammar.specs.Values.{ident_of, decimal_of, lists_of, content_step, type_step}
+use Rattle.ili_grammar.specs.Values.{attribute_step, line_step, line_of, attribute_of, content_of}
+use Rattle.ili_grammar.specs.Values.{attributes_of}
 
 pub line_roll : (x : opened.LineSyntax-F content.Content kind.TypeSyntax attribute.AttributeSyntax line.LineSyntax)
     → line_of (roll-LineSyntax x) ≡ a_line (record { straights = x.straights; arcs = x.arcs; vertex = ident_of x.vertex; overlap = option_map decimal_of x.overlap }) (attributes_of x.attributes.items) (lists_of x.idents.items)
@@ -30,7 +41,9 @@ pub attribute_roll : (x : opened.AttributeSyntax-F content.Content kind.TypeSynt
 attribute_roll = fold-roll-AttributeSyntax Content TypeSyntax AttributeSyntax LineSyntax content_step type_step attribute_step line_step
 
 -- a line without a LINEATTR part
-pub bare : (x : LineSyntax) (l : LineHead) (bs : List attribute.AttributeSyntax) (ls : List list.IdentList) → x ≡ a_line l (attributes_of bs) (lists_of ls) → bs ≡ [] → ls ≡ [] → x ≡ a_line l no_attributes []
+pub bare : (x : LineSyntax) (l : LineHead) (bs : List attribute.AttributeSyntax) (ls : List list.IdentList)
+    → x ≡ a_line l (attributes_of bs) (lists_of ls) → bs ≡ [] → ls ≡ []
+    → x ≡ a_line l no_attributes []
 bare x l bs ls e p q = e ∙ (λ z. a_line l (attributes_of (p z)) (lists_of (q z)))
 
 -- ---- types and contents, variant by variant
@@ -98,7 +111,8 @@ pub type-valignment : type_of kinds.VAlignment ≡ VAlignment
 unfolding roll-TypeSyntax roll
 type-valignment = fold-roll-TypeSyntax Content TypeSyntax AttributeSyntax LineSyntax content_step type_step attribute_step line_step opened.VAlignment
 
-pub type-enumeration : (es : Vec element.Element _) → type_of (kinds.Enumeration es) ≡ Enumeration (elements_of es.items)
+pub type-enumeration : (es : Vec element.Element _)
+    → type_of (kinds.Enumeration es) ≡ Enumeration (elements_of es.items)
 unfolding roll-TypeSyntax roll
 type-enumeration es = fold-roll-TypeSyntax Content TypeSyntax AttributeSyntax LineSyntax content_step type_step attribute_step line_step (opened.Enumeration es)
 
@@ -106,6 +120,7 @@ pub content-value : (t : kind.TypeSyntax) → content_of (contents.Value t) ≡ 
 unfolding roll-Content roll
 content-value t = fold-roll-Content Content TypeSyntax AttributeSyntax LineSyntax content_step type_step attribute_step line_step (opened.Value t)
 
-pub content-reference : (n : ident.Ident) → content_of (contents.Reference n) ≡ Reference (ident_of n)
+pub content-reference : (n : ident.Ident)
+    → content_of (contents.Reference n) ≡ Reference (ident_of n)
 unfolding roll-Content roll
 content-reference n = fold-roll-Content Content TypeSyntax AttributeSyntax LineSyntax content_step type_step attribute_step line_step (opened.Reference n)

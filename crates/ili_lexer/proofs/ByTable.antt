@@ -1,17 +1,22 @@
 -- What stands at the front of a text is the longest token of the table.
-use Rattle.std.proofs.Common.{◌≡◌, ℕ, ◌+◌, ◌≤◌, List, [], ◌∷◌, ◌++◌, length, take, drop, Bool, true, false, Option, Some, None, refl, sym, ap, ◌∙◌, subst, arith, codes, nat_eq, append-nil, length-take-le}
+use Rattle.std.proofs.Common.{◌≡◌, ℕ, ◌+◌, ◌≤◌, List, [], ◌∷◌, ◌++◌, length, take, drop, Bool, true}
+use Rattle.std.proofs.Common.{false, Option, Some, None, refl, sym, ap, ◌∙◌, subst, arith, codes}
+use Rattle.std.proofs.Common.{nat_eq, append-nil, length-take-le}
 use Rattle.std.proofs.lemmas.Bool.{eqb-true}
 use Rattle.std.specs.Option.{option_map_or}
 use Rattle.std.specs.List.{prefix_len}
 use Rattle.std.specs.Char.{is_ascii_hexdigit}
 use Rattle.ili_lexer.specs.declared.fronts.Front.{Front}
-use Rattle.ili_lexer.specs.declared.fronts.Front.TheVariants.{End, Passed, Token, BadByte, OpenExplanation, LongNumber}
+use Rattle.ili_lexer.specs.declared.fronts.Front.TheVariants.{End, Passed, Token, BadByte}
+use Rattle.ili_lexer.specs.declared.fronts.Front.TheVariants.{OpenExplanation, LongNumber}
 use Rattle.ili_lexer.specs.declared.tokens.Kind.{Kind}
 use Rattle.ili_lexer.specs.declared.tokens.Kind.TheVariants as kind
 use Rattle.ili_lexer.specs.Bytes.{is_blank, is_inside_line}
 use Rattle.ili_lexer.specs.Fronts.{begins, closing, front_of, explanation_front, hex_front}
 use Rattle.ili_lexer.specs.Forms.{IsToken, IsNumber, IsShort}
-use Rattle.ili_lexer.specs.Longest.{Stands, HasNone, begins_blank, blank, comment, HasFewDigits, IsTaken, IsTooLong, IsBad, nothing, open_hex, IsFront, MayHoldToken}
+use Rattle.ili_lexer.specs.Longest.{Stands, HasNone, begins_blank, blank, comment, HasFewDigits}
+use Rattle.ili_lexer.specs.Longest.{IsTaken, IsTooLong, IsBad, nothing, open_hex, IsFront}
+use Rattle.ili_lexer.specs.Longest.{MayHoldToken}
 use Rattle.ili_lexer.proofs.FrontLengths.{IsPartOf, front_fits, number_length}
 use Rattle.ili_lexer.proofs.Runs.{chosen, first_two}
 use Rattle.ili_lexer.proofs.Sound as found
@@ -20,7 +25,8 @@ use Rattle.ili_lexer.proofs.Reach.{Reaches}
 use Rattle.ili_lexer.proofs.NumberReach.{reaches, stands_reaches, short_too, one_is_short}
 
 -- ---- what is found is right
-right : (text : List ℕ) (f : Front) → ((k : Kind) (n : ℕ) → Stands text k n → Reaches k n text f) → IsPartOf text f → Sound text f → IsFront text f
+right : (text : List ℕ) (f : Front) → ((k : Kind) (n : ℕ) → Stands text k n → Reaches k n text f)
+    → IsPartOf text f → Sound text f → IsFront text f
 right text End r p s = s
 right text (Passed n) r p s = s
 right text (Token k n) r p s = record {
@@ -31,7 +37,8 @@ right text (Token k n) r p s = record {
 right text BadByte r p (found.open_hex h) = open_hex h
 right text BadByte r p (found.clear c) = bad (begins text (codes "0x")) (nat_eq (prefix_len is_ascii_hexdigit (drop 2 text)) 0) refl refl
   where
-    bad : (s t : Bool) → begins text (codes "0x") ≡ s → nat_eq (prefix_len is_ascii_hexdigit (drop 2 text)) 0 ≡ t → IsBad text
+    bad : (s t : Bool) → begins text (codes "0x") ≡ s
+        → nat_eq (prefix_len is_ascii_hexdigit (drop 2 text)) 0 ≡ t → IsBad text
     bad true true e f = open_hex (record { opened = e; none = eqb-true (prefix_len is_ascii_hexdigit (drop 2 text)) 0 f })
     bad false t e f = nothing c.some c.blank c.comment c.explanation (λ k n h. let o = (r k n h).0 in let q = o.opened in absurd (cc))
     bad true false e f = nothing c.some c.blank c.comment c.explanation (λ k n h. let o = (r k n h).0 in let z = o.none in absurd (let g : nat_eq (prefix_len is_ascii_hexdigit (drop 2 text)) 0 ≡ true = ap (λ (x : ℕ). nat_eq x 0) z in cc))
@@ -46,7 +53,8 @@ pub front_is : (text : List ℕ) (f : Front) → front_of text ≡ f → IsFront
 front_is text f e = subst (IsFront text) e (stands_at_front text)
 
 -- ---- and what is right is found
-taken_is : (text : List ℕ) (k : Kind) (n : ℕ) → IsTaken text k n → (g : Front) → IsFront text g → Reaches k n text g → g ≡ Token k n
+taken_is : (text : List ℕ) (k : Kind) (n : ℕ) → IsTaken text k n → (g : Front) → IsFront text g
+    → Reaches k n text g → g ≡ Token k n
 taken_is text k n t End s r = absurd r
 taken_is text k n t (Passed m) s r = absurd r
 taken_is text k n t (Token j m) s r =
@@ -63,10 +71,12 @@ taken_is text k n t LongNumber s r =
     let e : n ≡ m = omega (arith, a, b) in
     absurd (clash m l.number l.long (subst (λ (k : Kind). HasFewDigits k (take m text)) r.0 (subst (λ (n : ℕ). HasFewDigits k (take n text)) e t.few)))
   where
-    clash : (m : ℕ) (a : IsNumber (take m text)) → (IsShort a → ⊥) → HasFewDigits kind.Number (take m text) → ⊥
+    clash : (m : ℕ) (a : IsNumber (take m text)) → (IsShort a → ⊥)
+        → HasFewDigits kind.Number (take m text) → ⊥
     clash m a l (b, s) = l (short_too (take m text) b a s)
 
-too_long_is : (text : List ℕ) (n : ℕ) → IsTooLong text n → (g : Front) → IsFront text g → Reaches kind.Number n text g → g ≡ LongNumber
+too_long_is : (text : List ℕ) (n : ℕ) → IsTooLong text n → (g : Front) → IsFront text g
+    → Reaches kind.Number n text g → g ≡ LongNumber
 too_long_is text n t End s r = absurd r
 too_long_is text n t (Passed m) s r = absurd r
 too_long_is text n t (Token j m) s r =
@@ -82,7 +92,9 @@ too_long_is text n t BadByte s r =
 too_long_is text n t OpenExplanation s r = absurd r
 too_long_is text n t LongNumber s r = refl
 
-bad_is : (text : List ℕ) → (text ≡ [] → ⊥) → begins_blank text ≡ false → begins text (codes "!!") ≡ false → begins text (codes "//") ≡ false → HasNone text → (g : Front) → IsFront text g → g ≡ BadByte
+bad_is : (text : List ℕ) → (text ≡ [] → ⊥) → begins_blank text ≡ false
+    → begins text (codes "!!") ≡ false → begins text (codes "//") ≡ false → HasNone text
+    → (g : Front) → IsFront text g → g ≡ BadByte
 bad_is text n b c x none End s = absurd (n s)
 bad_is text n b c x none (Passed m) (blank e q) = absurd (cc)
 bad_is text n b c x none (Passed m) (comment e q) = absurd (cc)
@@ -91,11 +103,14 @@ bad_is text n b c x none BadByte s = refl
 bad_is text n b c x none OpenExplanation s = let o = s.opened in absurd (cc)
 bad_is text n b c x none LongNumber s = absurd (none kind.Number s.0 s.1.longest.stands)
 
-open_is : (text : List ℕ) → HasNone text → (o : Option ℕ) → IsFront text (option_map_or (λ n. Token kind.Explanation (2 + n)) o OpenExplanation) → option_map_or (λ n. Token kind.Explanation (2 + n)) o OpenExplanation ≡ OpenExplanation
+open_is : (text : List ℕ) → HasNone text → (o : Option ℕ)
+    → IsFront text (option_map_or (λ n. Token kind.Explanation (2 + n)) o OpenExplanation)
+    → option_map_or (λ n. Token kind.Explanation (2 + n)) o OpenExplanation ≡ OpenExplanation
 open_is text none None s = refl
 open_is text none (Some n) s = absurd (none kind.Explanation (2 + n) s.longest.stands)
 
-front_at : (text : List ℕ) (a b : ℕ) (f : List ℕ → Front) → begins text (a ∷ b ∷ []) ≡ true → front_of (a ∷ b ∷ drop 2 text) ≡ f (a ∷ b ∷ drop 2 text) → front_of text ≡ f text
+front_at : (text : List ℕ) (a b : ℕ) (f : List ℕ → Front) → begins text (a ∷ b ∷ []) ≡ true
+    → front_of (a ∷ b ∷ drop 2 text) ≡ f (a ∷ b ∷ drop 2 text) → front_of text ≡ f text
 front_at text a b f e h = subst (λ (t : List ℕ). front_of t ≡ f t) (sym (first_two a b text e)) h
 
 pub is_found : (text : List ℕ) (f : Front) → IsFront text f → front_of text ≡ f
@@ -120,14 +135,16 @@ met text k n BadByte r = r.0
 met text k n OpenExplanation r = r
 met text k n LongNumber r = tt
 
-pub token_is_met : (text : List ℕ) (k : Kind) (n : ℕ) → Stands text k n → MayHoldToken text (front_of text)
+pub token_is_met : (text : List ℕ) (k : Kind) (n : ℕ) → Stands text k n
+    → MayHoldToken text (front_of text)
 token_is_met text k n s = met text k n (front_of text) (stands_reaches text k n s)
 
 -- ---- the same bytes are tokens of one kind
 pub one_kind : (j k : Kind) (bytes : List ℕ) → IsToken j bytes → IsToken k bytes → j ≡ k
 one_kind j k bytes s t = same (bytes ++ []) (front_of (bytes ++ [])) (ap (length {A = ℕ}) (append-nil bytes)) (front_fits (bytes ++ [])) (reaches j bytes [] s) (reaches k bytes [] t)
   where
-    same : (text : List ℕ) (f : Front) → length text ≡ length bytes → IsPartOf text f → Reaches j (length bytes) text f → Reaches k (length bytes) text f → j ≡ k
+    same : (text : List ℕ) (f : Front) → length text ≡ length bytes → IsPartOf text f
+        → Reaches j (length bytes) text f → Reaches k (length bytes) text f → j ≡ k
     same text End l p a b = absurd a
     same text (Passed n) l p a b = absurd a
     same text (Token i n) l p a b = let e : n ≡ length bytes = omega (arith, p.within, l, a.0) in sym (a.1 e) ∙ b.1 e

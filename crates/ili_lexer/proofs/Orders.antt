@@ -1,10 +1,13 @@
 -- The tokens of a text stand in its order and in the text.
-use Rattle.std.proofs.Common.{◌≡◌, ℕ, ◌+◌, ◌≤◌, ◌<◌, List, [], ◌∷◌, length, drop, sym, subst, arith, length-drop}
+use Rattle.std.proofs.Common.{◌≡◌, ℕ, ◌+◌, ◌≤◌, ◌<◌, List, [], ◌∷◌, length, drop, sym, subst, arith}
+use Rattle.std.proofs.Common.{length-drop}
 use Rattle.ili_lexer.specs.declared.fronts.Front.{Front}
 use Rattle.ili_lexer.specs.declared.fronts.Front.TheVariants as front
 use Rattle.ili_lexer.specs.declared.tokens.Token.{Token}
 use Rattle.ili_lexer.specs.Fronts.{front_of, LiesIn}
-use Rattle.ili_lexer.specs.Tokens.{Answer, tokens, fault, and_before, token_at, Gives, at_end, passing, taking, at_bad_byte, at_open_explanation, at_long_number, AreInOrder}
+use Rattle.ili_lexer.specs.Tokens.{Answer, tokens, fault, and_before, token_at, Gives, at_end}
+use Rattle.ili_lexer.specs.Tokens.{passing, taking, at_bad_byte, at_open_explanation}
+use Rattle.ili_lexer.specs.Tokens.{at_long_number, AreInOrder}
 use Rattle.ili_lexer.proofs.ByTable.{is_found}
 use Rattle.ili_lexer.proofs.FrontLengths.{IsPartOf, front_fits}
 
@@ -17,7 +20,8 @@ lies text i front.BadByte p = tt
 lies text i front.OpenExplanation p = tt
 lies text i front.LongNumber p = tt
 
-pub lies_at : (text : List ℕ) (i : ℕ) (f : Front) → f ≡ front_of (drop i text) → LiesIn (length text) i f
+pub lies_at : (text : List ℕ) (i : ℕ) (f : Front) → f ≡ front_of (drop i text)
+    → LiesIn (length text) i f
 lies_at text i f e = lies text i f (subst (IsPartOf (drop i text)) (sym e) (front_fits (drop i text)))
 
 -- an earlier begin
@@ -29,11 +33,13 @@ abbrev InOrder : ℕ → ℕ → Answer → Type 0
 InOrder end i (tokens ts) = AreInOrder end i ts
 InOrder end i (fault f) = Unit {0}
 
-one_before : (end i : ℕ) (t : Token) (a : Answer) → i ≤ t.from → t.from < t.upto → InOrder end t.upto a → InOrder end i (and_before t a)
+one_before : (end i : ℕ) (t : Token) (a : Answer) → i ≤ t.from → t.from < t.upto
+    → InOrder end t.upto a → InOrder end i (and_before t a)
 one_before end i t (tokens ts) h g p = (h, g, p)
 one_before end i t (fault f) h g p = tt
 
-in_order_answer : (text : List ℕ) (i : ℕ) (a : Answer) → i ≤ length text → Gives text i a → InOrder (length text) i a
+in_order_answer : (text : List ℕ) (i : ℕ) (a : Answer) → i ≤ length text → Gives text i a
+    → InOrder (length text) i a
 in_order_answer text _ _ h (at_end i e) = h
 in_order_answer text _ _ h (passing i n a e g) =
     let p = lies_at text i (front.Passed n) (sym (is_found (drop i text) (front.Passed n) e)) in
@@ -49,5 +55,6 @@ in_order_answer text _ _ h (at_bad_byte i e) = tt
 in_order_answer text _ _ h (at_open_explanation i e) = tt
 in_order_answer text _ _ h (at_long_number i n e) = tt
 
-pub in_order : (text : List ℕ) (ts : List Token) → Gives text 0 (tokens ts) → AreInOrder (length text) 0 ts
+pub in_order : (text : List ℕ) (ts : List Token) → Gives text 0 (tokens ts)
+    → AreInOrder (length text) 0 ts
 in_order text ts g = in_order_answer text 0 (tokens ts) (omega arith) g

@@ -1,12 +1,15 @@
 -- The tokens of a text and its fault, by the table of tokens.
-use Rattle.std.proofs.Common.{◌≡◌, ℕ, ◌+◌, ◌-◌, ◌≤◌, List, length, take, drop, refl, sym, subst, arith}
+use Rattle.std.proofs.Common.{◌≡◌, ℕ, ◌+◌, ◌-◌, ◌≤◌, List, length, take, drop, refl, sym, subst}
+use Rattle.std.proofs.Common.{arith}
 use Rattle.std.proofs.lemmas.List.Elements.{All-nil, All-cons}
 use Rattle.ili_lexer.specs.declared.fronts.Front.TheVariants as front
 use Rattle.ili_lexer.specs.declared.tokens.Token.{Token}
 use Rattle.ili_lexer.specs.declared.tokens.LexFault.{LexFault}
 use Rattle.ili_lexer.specs.Places.{line_after, column_after}
 use Rattle.ili_lexer.specs.Longest.{IsTaken, IsBad, IsOpen, IsTooLong}
-use Rattle.ili_lexer.specs.Tokens.{Answer, tokens, fault, and_before, token_at, Gives, at_end, passing, taking, at_bad_byte, at_open_explanation, at_long_number, AreLongest, IsAt, IsFaultByTable}
+use Rattle.ili_lexer.specs.Tokens.{Answer, tokens, fault, and_before, token_at, Gives, at_end}
+use Rattle.ili_lexer.specs.Tokens.{passing, taking, at_bad_byte, at_open_explanation}
+use Rattle.ili_lexer.specs.Tokens.{at_long_number, AreLongest, IsAt, IsFaultByTable}
 use Rattle.ili_lexer.proofs.Orders.{lies_at}
 use Rattle.ili_lexer.proofs.ByTable.{is_found}
 
@@ -14,11 +17,14 @@ abbrev IsRight : List ℕ → Answer → Type 0
 IsRight text (tokens ts) = AreLongest text ts
 IsRight text (fault f) = IsFaultByTable text f
 
-right_before : (text : List ℕ) (t : Token) (a : Answer) → IsTaken (drop t.from text) t.kind (t.upto - t.from) → IsRight text a → IsRight text (and_before t a)
+right_before : (text : List ℕ) (t : Token) (a : Answer)
+    → IsTaken (drop t.from text) t.kind (t.upto - t.from) → IsRight text a
+    → IsRight text (and_before t a)
 right_before text t (tokens ts) h p = All-cons (λ (t : Token). IsTaken (drop t.from text) t.kind (t.upto - t.from)) t ts h p
 right_before text t (fault f) h p = p
 
-is_at : (text : List ℕ) (i : ℕ) (IsSo : List ℕ → Type 0) → i ≤ length text → IsSo (drop i text) → IsAt text (line_after (take i text)) (column_after (take i text)) IsSo
+is_at : (text : List ℕ) (i : ℕ) (IsSo : List ℕ → Type 0) → i ≤ length text → IsSo (drop i text)
+    → IsAt text (line_after (take i text)) (column_after (take i text)) IsSo
 is_at text i IsSo h s = record { offset = i; place = record { within = h; on_line = refl; at_column = refl }; so = s }
 
 is_right : (text : List ℕ) (i : ℕ) (a : Answer) → i ≤ length text → Gives text i a → IsRight text a

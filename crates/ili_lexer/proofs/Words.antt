@@ -1,12 +1,24 @@
 -- The keywords and their words, both ways.
-use Rattle.std.proofs.Common.{◌≡◌, ℕ, List, [], ◌∷◌, Bool, true, false, cond, Some, refl, sym, ap, ◌∙◌}
+use Rattle.std.proofs.Common.{◌≡◌, ℕ, List, [], ◌∷◌, Bool, true, false, cond, Some, refl, sym, ap}
+use Rattle.std.proofs.Common.{◌∙◌}
 use Rattle.std.specs.Prelude.{◌&&◌}
 use Rattle.std.specs.List.{list_all}
 use Rattle.std.specs.Str.{bytes_eq}
 use Rattle.std.specs.Char.{is_ascii_alphabetic}
 use Rattle.std.proofs.lemmas.Slice.Eq.{bytes_eq-Decides}
 use Rattle.ili_lexer.specs.declared.keywords.Keyword.{Keyword}
-use Rattle.ili_lexer.specs.declared.keywords.Keyword.TheVariants.{Transfer, Domain, Model, Topic, Table, Optional, End, No, Ident, Coord2, Coord3, Dim1, Dim2, Radians, Grads, Degrees, Text, Date, Halignment, Valignment, Polyline, Surface, Area, With, Straights, Arcs, Vertex, Base, Without, Overlaps, Lineattr, Format, Free, Fix, Code, Font, Blank, Undefined, Continue, Default, Tid, I16, I32, Any, View, Derivatives}
+use Rattle.ili_lexer.specs.declared.keywords.Keyword.TheVariants.{Transfer, Domain, Model, Topic}
+use Rattle.ili_lexer.specs.declared.keywords.Keyword.TheVariants.{Table, Optional, End, No, Ident}
+use Rattle.ili_lexer.specs.declared.keywords.Keyword.TheVariants.{Coord2, Coord3, Dim1, Dim2}
+use Rattle.ili_lexer.specs.declared.keywords.Keyword.TheVariants.{Radians, Grads, Degrees, Text}
+use Rattle.ili_lexer.specs.declared.keywords.Keyword.TheVariants.{Date, Halignment, Valignment}
+use Rattle.ili_lexer.specs.declared.keywords.Keyword.TheVariants.{Polyline, Surface, Area, With}
+use Rattle.ili_lexer.specs.declared.keywords.Keyword.TheVariants.{Straights, Arcs, Vertex, Base}
+use Rattle.ili_lexer.specs.declared.keywords.Keyword.TheVariants.{Without, Overlaps, Lineattr}
+use Rattle.ili_lexer.specs.declared.keywords.Keyword.TheVariants.{Format, Free, Fix, Code, Font}
+use Rattle.ili_lexer.specs.declared.keywords.Keyword.TheVariants.{Blank, Undefined, Continue}
+use Rattle.ili_lexer.specs.declared.keywords.Keyword.TheVariants.{Default, Tid, I16, I32, Any, View}
+use Rattle.ili_lexer.specs.declared.keywords.Keyword.TheVariants.{Derivatives}
 use Rattle.ili_lexer.specs.Bytes.{is_name_byte}
 use Rattle.ili_lexer.specs.Keywords.{word_of, keywords, keyword_among, keyword_of}
 
@@ -63,11 +75,13 @@ pub known : (k : Keyword) → keyword_of (word_of k) ≡ Some k
 unfolding keyword_of
 known k = known-among k
 
-found-among : (ks : List Keyword) (w : List ℕ) (k : Keyword) → keyword_among ks w ≡ Some k → w ≡ word_of k
+found-among : (ks : List Keyword) (w : List ℕ) (k : Keyword) → keyword_among ks w ≡ Some k
+    → w ≡ word_of k
 found-among [] w k h = absurd (cc)
 found-among (x ∷ ks) w k h = go (found-among ks w k) (bytes_eq (word_of x) w) refl h
   where
-    go : (keyword_among ks w ≡ Some k → w ≡ word_of k) → (t : Bool) → bytes_eq (word_of x) w ≡ t → cond t (Some x) (keyword_among ks w) ≡ Some k → w ≡ word_of k
+    go : (keyword_among ks w ≡ Some k → w ≡ word_of k) → (t : Bool) → bytes_eq (word_of x) w ≡ t
+        → cond t (Some x) (keyword_among ks w) ≡ Some k → w ≡ word_of k
     go f true e q = let same : word_of x ≡ w = (bytes_eq-Decides (word_of x) w).0 e in let p : x ≡ k = cc in sym same ∙ ap word_of p
     go f false e q = f q
 

@@ -1,8 +1,11 @@
 -- Where physical lines end.
-use Rattle.std.proofs.Common.{◌≡◌, ◌≤◌, ◌<◌, ◌+◌, ◌-◌, ◌==◌, ℕ, zero, suc, Bool, true, false, not, cond, ◌&&◌, List, [], ◌∷◌, ◌++◌, length, map, take, drop, refl, ap, sym, ◌∙◌, subst, arith, Some, None, nat_lt}
+use Rattle.std.proofs.Common.{◌≡◌, ◌≤◌, ◌<◌, ◌+◌, ◌-◌, ◌==◌, ℕ, zero, suc, Bool, true, false, not}
+use Rattle.std.proofs.Common.{cond, ◌&&◌, List, [], ◌∷◌, ◌++◌, length, map, take, drop, refl, ap}
+use Rattle.std.proofs.Common.{sym, ◌∙◌, subst, arith, Some, None, nat_lt}
 use Rattle.std.proofs.lemmas.Bool.{eqb-true}
 use Rattle.std.specs.Prelude.{slice_index}
-use Rattle.std.proofs.lemmas.List.{length-drop, length-append, take_more, take_all, drop_all, get_or-take, length-take-le, append_assoc, take_rest}
+use Rattle.std.proofs.lemmas.List.{length-drop, length-append, take_more, take_all, drop_all}
+use Rattle.std.proofs.lemmas.List.{get_or-take, length-take-le, append_assoc, take_rest}
 use Rattle.bstr.specs.Text.{lines_from, lines_of, line_len, without_terminator, no_cr}
 use Rattle.bstr.specs.Find.{IsFirstByte, is_byte}
 use Rattle.itf_lines.specs.Fields.{physical_lines}
@@ -43,7 +46,8 @@ fuel (suc n) (suc m) (c ∷ bs) h k =
 fuel zero m (c ∷ bs) h k = absurd (omega (arith, h))
 fuel (suc n) zero (c ∷ bs) h k = absurd (omega (arith, k))
 
-first_line : (c : ℕ) (bs : List ℕ) (k : ℕ) → line_len (c ∷ bs) ≡ k → lines_of (c ∷ bs) ≡ take k (c ∷ bs) ∷ lines_from (length bs) (drop k (c ∷ bs))
+first_line : (c : ℕ) (bs : List ℕ) (k : ℕ) → line_len (c ∷ bs) ≡ k
+    → lines_of (c ∷ bs) ≡ take k (c ∷ bs) ∷ lines_from (length bs) (drop k (c ∷ bs))
 unfolding lines_from
 first_line c bs k h = ap (λ (n : ℕ). take n (c ∷ bs) ∷ lines_from (length bs) (drop n (c ∷ bs))) h
 
@@ -55,7 +59,8 @@ drop_over : (a b : List ℕ) (x : ℕ) → drop (suc (length a)) (a ++ x ∷ b) 
 drop_over [] b x = refl
 drop_over (c ∷ a) b x = drop_over a b x
 
-cut_lines : (a b : List ℕ) → has_no_lf a ≡ true → lines_of (a ++ 10 ∷ b) ≡ (a ++ 10 ∷ []) ∷ lines_of b
+cut_lines : (a b : List ℕ) → has_no_lf a ≡ true
+    → lines_of (a ++ 10 ∷ b) ≡ (a ++ 10 ∷ []) ∷ lines_of b
 cut_lines [] b h = first_line 10 b 1 (len_ended [] b h)
 cut_lines (c ∷ a) b h =
     let l = length-append a (10 ∷ b) in
@@ -63,10 +68,12 @@ cut_lines (c ∷ a) b h =
     ∙ rw (take_over a b 10, drop_over a b 10) (ap (λ (ls : List (List ℕ)). (c ∷ (a ++ 10 ∷ [])) ∷ ls) (fuel (length (a ++ 10 ∷ b)) (length b) b (omega (arith, l)) (omega arith)))
 
 -- a line ends with its LF, whatever follows
-pub cut_physical : (a b : List ℕ) → has_no_lf a ≡ true → physical_lines (a ++ 10 ∷ b) ≡ without_terminator (a ++ 10 ∷ []) ∷ physical_lines b
+pub cut_physical : (a b : List ℕ) → has_no_lf a ≡ true
+    → physical_lines (a ++ 10 ∷ b) ≡ without_terminator (a ++ 10 ∷ []) ∷ physical_lines b
 cut_physical a b h = ap (map without_terminator) (cut_lines a b h)
 
-no_lf_at : (bs : List ℕ) (i : ℕ) → has_no_lf bs ≡ true → i < length bs → (slice_index bs i == 10) ≡ false
+no_lf_at : (bs : List ℕ) (i : ℕ) → has_no_lf bs ≡ true → i < length bs
+    → (slice_index bs i == 10) ≡ false
 no_lf_at [] i h k = absurd (omega (arith, k))
 no_lf_at (c ∷ bs) zero h k = elim (c == 10) as (λ t. (not t && has_no_lf bs) ≡ true → t ≡ false) [ true ↦ λ g. absurd cc | false ↦ λ g. refl ] h
 no_lf_at (c ∷ bs) (suc i) h k = elim (c == 10) as (λ t. (not t && has_no_lf bs) ≡ true → (slice_index bs i == 10) ≡ false) [ true ↦ λ g. absurd cc | false ↦ λ g. no_lf_at bs i g (omega (arith, k)) ] h
@@ -87,7 +94,8 @@ no_lines zero = refl
 no_lines (suc n) = refl
 
 -- bytes without LF are one line
-pub open_physical : (bs : List ℕ) → has_no_lf bs ≡ true → 0 < length bs → physical_lines bs ≡ bs ∷ []
+pub open_physical : (bs : List ℕ) → has_no_lf bs ≡ true → 0 < length bs
+    → physical_lines bs ≡ bs ∷ []
 open_physical [] h k = absurd (omega (arith, k))
 open_physical (c ∷ bs) h k =
     let one : lines_of (c ∷ bs) ≡ (c ∷ bs) ∷ [] =
@@ -97,11 +105,13 @@ open_physical (c ∷ bs) h k =
 pub nothing_physical : physical_lines [] ≡ []
 nothing_physical = ap (map without_terminator) (no_lines 0)
 
-pub no_lf-append : (a b : List ℕ) → has_no_lf a ≡ true → has_no_lf b ≡ true → has_no_lf (a ++ b) ≡ true
+pub no_lf-append : (a b : List ℕ) → has_no_lf a ≡ true → has_no_lf b ≡ true
+    → has_no_lf (a ++ b) ≡ true
 no_lf-append [] b h k = k
 no_lf-append (c ∷ a) b h k = elim (c == 10) as (λ t. (not t && has_no_lf a) ≡ true → (not t && has_no_lf (a ++ b)) ≡ true) [ true ↦ λ g. absurd cc | false ↦ λ g. no_lf-append a b g k ] h
 
-none_lf : (bs : List ℕ) → ((k : ℕ) → k < length bs → (slice_index bs k == 10) ≡ true → ⊥) → has_no_lf bs ≡ true
+none_lf : (bs : List ℕ) → ((k : ℕ) → k < length bs → (slice_index bs k == 10) ≡ true → ⊥)
+    → has_no_lf bs ≡ true
 none_lf [] h = refl
 none_lf (c ∷ bs) h = elim (c == 10) as (λ t. (c == 10) ≡ t → (not t && has_no_lf bs) ≡ true) [
   | true ↦ λ e. absurd (h 0 (omega arith) e)
@@ -112,7 +122,8 @@ regrouped : (b f z : List ℕ) → b ++ ((f ++ 10 ∷ []) ++ z) ≡ (b ++ f) ++ 
 regrouped b f z = ap (λ (l : List ℕ). b ++ l) (append_assoc f (10 ∷ []) z) ∙ sym (append_assoc b f (10 ∷ z))
 
 -- the last bytes of a physical line, after those before
-pub cut_begun : (b bytes : List ℕ) → has_no_lf b ≡ true → IsEnded bytes → (z : List ℕ) → physical_lines (b ++ (bytes ++ z)) ≡ without_terminator (b ++ bytes) ∷ physical_lines z
+pub cut_begun : (b bytes : List ℕ) → has_no_lf b ≡ true → IsEnded bytes → (z : List ℕ)
+    → physical_lines (b ++ (bytes ++ z)) ≡ without_terminator (b ++ bytes) ∷ physical_lines z
 cut_begun b bytes h k z =
     let whole : (b ++ k.front) ++ 10 ∷ [] ≡ b ++ bytes = append_assoc b k.front (10 ∷ []) ∙ ap (λ (l : List ℕ). b ++ l) (sym k.ends) in
     ap (λ (l : List ℕ). physical_lines (b ++ (l ++ z))) k.ends
@@ -125,7 +136,8 @@ pub none_found : (bs : List ℕ) → IsFirstByte (is_byte 10) bs None → has_no
 none_found bs h = none_lf bs (λ k l e. h k (omega arith) l e)
 
 -- up to and with the first one
-pub first_found : (bs : List ℕ) (k : ℕ) → IsFirstByte (is_byte 10) bs (Some k) → IsEnded (take (k + 1) bs)
+pub first_found : (bs : List ℕ) (k : ℕ) → IsFirstByte (is_byte 10) bs (Some k)
+    → IsEnded (take (k + 1) bs)
 first_found bs k h =
     let inside : k < length bs = h.0.high in
     let t = length-take-le k bs (omega (arith, inside)) in
@@ -136,16 +148,22 @@ first_found bs k h =
     }
 
 -- the same of what is left of a piece from a place on
-pub found_from : (piece : List ℕ) (at end : ℕ) → IsFirstByte (is_byte 10) (take (length piece - at) (drop at piece)) (Some end) → IsEnded (take (at + end + 1 - at) (drop at piece))
+pub found_from : (piece : List ℕ) (at end : ℕ)
+    → IsFirstByte (is_byte 10) (take (length piece - at) (drop at piece)) (Some end)
+    → IsEnded (take (at + end + 1 - at) (drop at piece))
 found_from piece at end h =
     let n : at + end + 1 - at ≡ end + 1 = omega arith in
     subst (λ (m : ℕ). IsEnded (take m (drop at piece))) (sym n) (first_found (drop at piece) end (subst (λ (l : List ℕ). IsFirstByte (is_byte 10) l (Some end)) (take_rest piece at) h))
 
-pub found_within : (piece : List ℕ) (at end : ℕ) → at ≤ length piece → IsFirstByte (is_byte 10) (take (length piece - at) (drop at piece)) (Some end) → at + end + 1 ≤ length piece
+pub found_within : (piece : List ℕ) (at end : ℕ) → at ≤ length piece
+    → IsFirstByte (is_byte 10) (take (length piece - at) (drop at piece)) (Some end)
+    → at + end + 1 ≤ length piece
 found_within piece at end h k =
     let l : end < length (take (length piece - at) (drop at piece)) = k.0.high in
     let e = ap length (take_rest piece at) ∙ length-drop at piece in
     omega (arith, l, e, h)
 
-pub none_from : (piece : List ℕ) (at : ℕ) → IsFirstByte (is_byte 10) (take (length piece - at) (drop at piece)) None → has_no_lf (take (length piece - at) (drop at piece)) ≡ true
+pub none_from : (piece : List ℕ) (at : ℕ)
+    → IsFirstByte (is_byte 10) (take (length piece - at) (drop at piece)) None
+    → has_no_lf (take (length piece - at) (drop at piece)) ≡ true
 none_from piece at h = none_found (take (length piece - at) (drop at piece)) h

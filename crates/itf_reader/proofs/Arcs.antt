@@ -5,7 +5,8 @@ use Rattle.itf_reader.specs.RowReadings.{vertices_view}
 use Rattle.itf_reader.specs.StrokeFindings.{are_arcs, arc_findings}
 
 -- two vertices have none
-pub too_few : (column : ℕ) (vs : List ReadVertex) → length vs < 3 → arc_findings column (vertices_view vs) ≡ []
+pub too_few : (column : ℕ) (vs : List ReadVertex) → length vs < 3
+    → arc_findings column (vertices_view vs) ≡ []
 too_few column [] h = refl
 too_few column (s ∷ []) h = refl
 too_few column (s ∷ m ∷ []) h = refl

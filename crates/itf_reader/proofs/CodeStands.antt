@@ -1,12 +1,19 @@
 -- The code with which the machine stops is the first that fits.
-use Rattle.std.proofs.Common.{◌≡◌, ℕ, Bool, true, false, List, [], Option, Some, None, Result, Ok, Err, ap, sym, if◌then◌else◌}
+use Rattle.std.proofs.Common.{◌≡◌, ℕ, Bool, true, false, List, [], Option, Some, None, Result, Ok}
+use Rattle.std.proofs.Common.{Err, ap, sym, if◌then◌else◌}
 use Rattle.std.specs.Prelude.{not, is_some, ◌&&◌}
 use Rattle.itf_lines.specs.declared.word.LineWord.{LineWord}
-use Rattle.itf_lines.specs.declared.word.LineWord.TheVariants.{Scnt, Slashes, Mtid, Modl, Motr, Topi, Tabl, Obje, Stpt, Lipt, Arcp, Elin, Etab, Etop, Emod, Ende}
+use Rattle.itf_lines.specs.declared.word.LineWord.TheVariants.{Scnt, Slashes, Mtid, Modl, Motr}
+use Rattle.itf_lines.specs.declared.word.LineWord.TheVariants.{Topi, Tabl, Obje, Stpt, Lipt, Arcp}
+use Rattle.itf_lines.specs.declared.word.LineWord.TheVariants.{Elin, Etab, Etop, Emod, Ende}
 use Rattle.itf_lines.specs.LogicalLines.{LogicalLine}
-use Rattle.itf_reader.specs.Forms.{Table, Form, TopicRows, names, table_named, topic_named, has_table, has_topic}
+use Rattle.itf_reader.specs.Forms.{Table, Form, TopicRows, names, table_named, topic_named}
+use Rattle.itf_reader.specs.Forms.{has_table, has_topic}
 use Rattle.itf_reader.specs.TransferText.{line}
-use Rattle.itf_reader.specs.Machine.{InTopic, State, start, free, title, model, topics, tables, objects, strokes, vertices, arc, last, done, named_table, named_topic, has_room, has_ended, Code, Word, AsMotr, Name, Twice, by_word}
+use Rattle.itf_reader.specs.Machine.{InTopic, State, start, free, title, model, topics, tables}
+use Rattle.itf_reader.specs.Machine.{objects, strokes, vertices, arc, last, done, named_table}
+use Rattle.itf_reader.specs.Machine.{named_topic, has_room, has_ended, Code, Word, AsMotr, Name}
+use Rattle.itf_reader.specs.Machine.{Twice, by_word}
 
 -- the words that may stand there
 abbrev pub may_stand : State → LineWord → Bool
@@ -61,11 +68,13 @@ pub same_code : (c d : Code) → fault c ≡ fault d → c ≡ d
 same_code c d e = ap (code_in c) e
 
 -- by a test
-no_room : (b : Bool) (s : State) (c : Code) → (if b then Ok s else fault Word) ≡ Err c → c ≡ (if not b then Word else Twice)
+no_room : (b : Bool) (s : State) (c : Code) → (if b then Ok s else fault Word) ≡ Err c
+    → c ≡ (if not b then Word else Twice)
 no_room true s c h = absurd cc
 no_room false s c h = sym (same_code Word c h)
 
-not_named : (b : Bool) (s : State) (c : Code) → (if b then Ok s else fault Name) ≡ Err c → c ≡ (if not b then Name else Twice)
+not_named : (b : Bool) (s : State) (c : Code) → (if b then Ok s else fault Name) ≡ Err c
+    → c ≡ (if not b then Name else Twice)
 not_named true s c h = absurd cc
 not_named false s c h = sym (same_code Name c h)
 
@@ -73,15 +82,18 @@ twice : (b : Bool) (s : State) (c : Code) → (if b then fault Twice else Ok s) 
 twice true s c h = sym (same_code Twice c h)
 twice false s c h = absurd cc
 
-topic_code : (earlier : List TopicRows) (found : Option ℕ) (c : Code) → named_topic earlier found ≡ Err c → c ≡ (if not (is_some found) then Name else Twice)
+topic_code : (earlier : List TopicRows) (found : Option ℕ) (c : Code)
+    → named_topic earlier found ≡ Err c → c ≡ (if not (is_some found) then Name else Twice)
 topic_code earlier None c h = sym (same_code Name c h)
 topic_code earlier (Some i) c h = twice (has_topic i earlier) (tables (record { earlier = earlier; number = i; tables = [] })) c h
 
-table_code : (o : InTopic) (found : Option (ℕ × Table)) (c : Code) → named_table o found ≡ Err c → c ≡ (if not (is_some found) then Name else Twice)
+table_code : (o : InTopic) (found : Option (ℕ × Table)) (c : Code) → named_table o found ≡ Err c
+    → c ≡ (if not (is_some found) then Name else Twice)
 table_code o None c h = sym (same_code Name c h)
 table_code o (Some found) c h = twice (has_table found.0 o.tables) (objects (record { inside = o; number = found.0; lines = (found.1).lines; rows = [] })) c h
 
-pub code_stands : (f : Form) (s : State) (word : LineWord) (n : ℕ) (fs : List (List ℕ)) (c : Code) → by_word f s word n fs ≡ Err c → c ≡ code_of f s (line word n fs)
+pub code_stands : (f : Form) (s : State) (word : LineWord) (n : ℕ) (fs : List (List ℕ)) (c : Code)
+    → by_word f s word n fs ≡ Err c → c ≡ code_of f s (line word n fs)
 code_stands f free Slashes n fs c h = absurd cc
 code_stands f free word n fs c h = absurd cc
 code_stands f model Modl n fs c h = not_named (names fs f.model) (topics []) c h

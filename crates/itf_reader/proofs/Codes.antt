@@ -1,13 +1,21 @@
 -- The code with which the machine stops is that of the line at fault.
-use Rattle.std.proofs.Common.{◌≡◌, ℕ, Bool, true, false, List, [], ◌∷◌, Option, Some, None, Result, Ok, Err, refl, ap, sym, subst, ◌∙◌, if◌then◌else◌}
+use Rattle.std.proofs.Common.{◌≡◌, ℕ, Bool, true, false, List, [], ◌∷◌, Option, Some, None, Result}
+use Rattle.std.proofs.Common.{Ok, Err, refl, ap, sym, subst, ◌∙◌, if◌then◌else◌}
 use Rattle.std.specs.Prelude.{⊤, not, ◌&&◌}
 use Rattle.itf_lines.specs.declared.word.LineWord.{LineWord}
-use Rattle.itf_lines.specs.declared.word.LineWord.TheVariants.{Scnt, Slashes, Mtid, Modl, Motr, Topi, Tabl, Obje, Stpt, Lipt, Arcp, Elin, Etab, Etop, Emod, Ende}
+use Rattle.itf_lines.specs.declared.word.LineWord.TheVariants.{Scnt, Slashes, Mtid, Modl, Motr}
+use Rattle.itf_lines.specs.declared.word.LineWord.TheVariants.{Topi, Tabl, Obje, Stpt, Lipt, Arcp}
+use Rattle.itf_lines.specs.declared.word.LineWord.TheVariants.{Elin, Etab, Etop, Emod, Ende}
 use Rattle.itf_lines.specs.LogicalLines.{LogicalLine}
-use Rattle.itf_reader.specs.Forms.{Table, Form, TopicRows, names, table_named, topic_named, has_table, has_topic}
+use Rattle.itf_reader.specs.Forms.{Table, Form, TopicRows, names, table_named, topic_named}
+use Rattle.itf_reader.specs.Forms.{has_table, has_topic}
 use Rattle.itf_reader.specs.TransferText.{line, IsText, IsFaultAt}
-use Rattle.itf_reader.specs.Machine.{InTopic, State, start, free, title, model, topics, tables, objects, strokes, vertices, arc, last, done, has_room, has_ended, named_table, named_topic, Code, Word, AsMotr, Name, Twice, by_word, step, then_run, run}
-use Rattle.itf_reader.specs.Codes.{with_more, MayStand, topic_after, open_topic, names_table, is_named, IsMotr, HasCode, motr, word, name, twice}
+use Rattle.itf_reader.specs.Machine.{InTopic, State, start, free, title, model, topics, tables}
+use Rattle.itf_reader.specs.Machine.{objects, strokes, vertices, arc, last, done, has_room}
+use Rattle.itf_reader.specs.Machine.{has_ended, named_table, named_topic, Code, Word, AsMotr, Name}
+use Rattle.itf_reader.specs.Machine.{Twice, by_word, step, then_run, run}
+use Rattle.itf_reader.specs.Codes.{with_more, MayStand, topic_after, open_topic, names_table}
+use Rattle.itf_reader.specs.Codes.{is_named, IsMotr, HasCode, motr, word, name, twice}
 use Rattle.itf_reader.proofs.Fresh.{same_itself, new_topic, new_table}
 use Rattle.itf_reader.proofs.Wider.{run_wider}
 use Rattle.itf_reader.proofs.Back.{ok, same_state}
@@ -25,7 +33,8 @@ record Goes (f : Form) (s : State) (w : LineWord) : Type 0 where
   after_line : by_word (with_more f more others) s w number fields ≡ Ok behind
 
 -- at once, with any fields
-goes_so : (f : Form) (s : State) (w : LineWord) (t : State) → by_word (with_more f [] []) s w 0 [] ≡ Ok t → Goes f s w
+goes_so : (f : Form) (s : State) (w : LineWord) (t : State)
+    → by_word (with_more f [] []) s w 0 [] ≡ Ok t → Goes f s w
 goes_so f s w t e = record { more = []; others = []; number = 0; fields = []; behind = t; after_line = e }
 
 goes_model : (f : Form) → Goes f model Modl
@@ -55,7 +64,8 @@ goes_table f o =
       after_line = ap (named_table o) q.named ∙ rw q.came_not refl;
     }
 
-goes_room : (f : Form) (s t : State) (w : LineWord) (b : Bool) → by_word (with_more f [] []) s w 0 [] ≡ (if b then Ok t else Err Word) → b ≡ true → Goes f s w
+goes_room : (f : Form) (s t : State) (w : LineWord) (b : Bool)
+    → by_word (with_more f [] []) s w 0 [] ≡ (if b then Ok t else Err Word) → b ≡ true → Goes f s w
 goes_room f s t w b e h = goes_so f s w t (e ∙ ap (λ (c : Bool). if c then Ok t else Err Word) h)
 
 -- where the word may stand, such a line goes there
@@ -82,7 +92,8 @@ goes f (arc r vs) Lipt h = goes_so f (arc r vs) Lipt _ refl
 goes f (last earlier) Ende h = goes_so f (last earlier) Ende (done earlier) refl
 goes f s w h = absurd cc
 
-stands : (f : Form) (front : List LogicalLine) (s : State) (w : LineWord) → run f start front ≡ Ok s → may_stand s w ≡ true → MayStand f front w
+stands : (f : Form) (front : List LogicalLine) (s : State) (w : LineWord) → run f start front ≡ Ok s
+    → may_stand s w ≡ true → MayStand f front w
 stands f front s w h e =
     let g = goes f s w e in
     (g.more, g.others, g.number, g.fields, taken_on (with_more f g.more g.others) front (line w g.number g.fields) s g.behind (run_wider f g.more g.others start s front h) g.after_line)
@@ -92,7 +103,8 @@ room_there : (b : Bool) (s t : State) → (if b then Ok s else Err Word) ≡ Ok 
 room_there true s t h = refl
 room_there false s t h = absurd cc
 
-may : (f : Form) (s t : State) (w : LineWord) (n : ℕ) (fs : List (List ℕ)) → by_word f s w n fs ≡ Ok t → may_stand s w ≡ true
+may : (f : Form) (s t : State) (w : LineWord) (n : ℕ) (fs : List (List ℕ))
+    → by_word f s w n fs ≡ Ok t → may_stand s w ≡ true
 may f start t Scnt n fs h = refl
 may f free t w n fs h = refl
 may f title t Mtid n fs h = refl
@@ -115,11 +127,14 @@ may f (last earlier) t Ende n fs h = refl
 may f s t w n fs h = absurd cc
 
 -- a line that begins a text after some lines is taken by the machine
-taken_of : (f : Form) (front : List LogicalLine) (l : LogicalLine) (s : State) (r : Result State Code) → run f start front ≡ Ok s → step f s l ≡ r → (IsFaultAt f front l → ⊥) → (t : State) × (r ≡ Ok t)
+taken_of : (f : Form) (front : List LogicalLine) (l : LogicalLine) (s : State) (r : Result State Code)
+    → run f start front ≡ Ok s → step f s l ≡ r → (IsFaultAt f front l → ⊥)
+    → (t : State) × (r ≡ Ok t)
 taken_of f front l s (Ok t) h e k = (t, refl)
 taken_of f front l s (Err c) h e k = absurd (k (refused_at f front l s c h e))
 
-stands_only : (f : Form) (front : List LogicalLine) (s : State) (w : LineWord) → run f start front ≡ Ok s → MayStand f front w → may_stand s w ≡ true
+stands_only : (f : Form) (front : List LogicalLine) (s : State) (w : LineWord)
+    → run f start front ≡ Ok s → MayStand f front w → may_stand s w ≡ true
 stands_only f front s w h (more, others, n, fs, b) =
     let k = run_wider f more others start s front h in
     let t = taken_of (with_more f more others) front (line w n fs) s (by_word (with_more f more others) s w n fs) k refl (λ q. q.1 b) in
@@ -137,23 +152,28 @@ Opens topic s = ⊤
 lands : (topic : Option ℕ) (s t : State) → ok s ≡ ok t → Opens topic s → Opens topic t
 lands topic s t h o = subst (λ (x : State). Opens topic x) (same_state s t h) o
 
-lands_if : (topic : Option ℕ) (b : Bool) (s t : State) (c : Code) → (if b then Ok s else Err c) ≡ Ok t → Opens topic s → Opens topic t
+lands_if : (topic : Option ℕ) (b : Bool) (s t : State) (c : Code)
+    → (if b then Ok s else Err c) ≡ Ok t → Opens topic s → Opens topic t
 lands_if topic true s t c h o = lands topic s t h o
 lands_if topic false s t c h o = absurd cc
 
-lands_unless : (topic : Option ℕ) (b : Bool) (s t : State) (c : Code) → (if b then Err c else Ok s) ≡ Ok t → Opens topic s → Opens topic t
+lands_unless : (topic : Option ℕ) (b : Bool) (s t : State) (c : Code)
+    → (if b then Err c else Ok s) ≡ Ok t → Opens topic s → Opens topic t
 lands_unless topic true s t c h o = absurd cc
 lands_unless topic false s t c h o = lands topic s t h o
 
-topic_lands : (earlier : List TopicRows) (found : Option ℕ) (t : State) → named_topic earlier found ≡ Ok t → Opens found t
+topic_lands : (earlier : List TopicRows) (found : Option ℕ) (t : State)
+    → named_topic earlier found ≡ Ok t → Opens found t
 topic_lands earlier None t h = absurd cc
 topic_lands earlier (Some i) t h = lands_unless (Some i) (has_topic i earlier) (tables (record { earlier = earlier; number = i; tables = [] })) t Twice h refl
 
-table_lands : (topic : Option ℕ) (o : InTopic) (found : Option (ℕ × Table)) (t : State) → named_table o found ≡ Ok t → topic ≡ Some o.number → Opens topic t
+table_lands : (topic : Option ℕ) (o : InTopic) (found : Option (ℕ × Table)) (t : State)
+    → named_table o found ≡ Ok t → topic ≡ Some o.number → Opens topic t
 table_lands topic o None t h e = absurd cc
 table_lands topic o (Some v) t h e = lands_unless topic (has_table v.0 o.tables) (objects (record { inside = o; number = v.0; lines = (v.1).lines; rows = [] })) t Twice h e
 
-step_opens : (f : Form) (topic : Option ℕ) (s t : State) (w : LineWord) (n : ℕ) (fs : List (List ℕ)) → by_word f s w n fs ≡ Ok t → Opens topic s → Opens (topic_after f topic w fs) t
+step_opens : (f : Form) (topic : Option ℕ) (s t : State) (w : LineWord) (n : ℕ) (fs : List (List ℕ))
+    → by_word f s w n fs ≡ Ok t → Opens topic s → Opens (topic_after f topic w fs) t
 step_opens f topic start t Scnt n fs h o = lands topic free t h tt
 step_opens f topic free t Slashes n fs h o = lands topic title t h tt
 step_opens f topic free t w n fs h o = lands (topic_after f topic w fs) free t h tt
@@ -176,12 +196,14 @@ step_opens f topic (arc r vs) t Lipt n fs h o = lands topic _ t h o
 step_opens f topic (last earlier) t Ende n fs h o = lands topic (done earlier) t h tt
 step_opens f topic s t w n fs h o = absurd cc
 
-opens_on : (f : Form) (topic : Option ℕ) (s t : State) (l : LogicalLine) (ls : List LogicalLine) (after_line : Result State Code) → step f s l ≡ after_line → then_run (λ u. run f u ls) after_line ≡ Ok t → Opens topic s
+opens_on : (f : Form) (topic : Option ℕ) (s t : State) (l : LogicalLine) (ls : List LogicalLine) (after_line : Result State Code)
+    → step f s l ≡ after_line → then_run (λ u. run f u ls) after_line ≡ Ok t → Opens topic s
     → ((u : State) → run f u ls ≡ Ok t → Opens (topic_after f topic l.word l.fields) u → Opens (open_topic f topic (l ∷ ls)) t) → Opens (open_topic f topic (l ∷ ls)) t
 opens_on f topic s t l ls (Ok u) e h o rest = rest u h (step_opens f topic s u l.word l.number l.fields e o)
 opens_on f topic s t l ls (Err c) e h o rest = absurd cc
 
-pub run_opens : (f : Form) (topic : Option ℕ) (s t : State) (ls : List LogicalLine) → run f s ls ≡ Ok t → Opens topic s → Opens (open_topic f topic ls) t
+pub run_opens : (f : Form) (topic : Option ℕ) (s t : State) (ls : List LogicalLine)
+    → run f s ls ≡ Ok t → Opens topic s → Opens (open_topic f topic ls) t
 run_opens f topic s t [] h o = lands topic s t h o
 run_opens f topic s t (l ∷ ls) h o = opens_on f topic s t l ls (step f s l) refl h o (λ u k p. run_opens f (topic_after f topic l.word l.fields) u t ls k p)
 
@@ -225,7 +247,8 @@ neither true true h e = refl
 neither true false h e = absurd cc
 neither false b h e = absurd cc
 
-ends : (f : Form) (front : List LogicalLine) (s : State) → run f start front ≡ Ok s → has_ended s ≡ true → (ts : List TopicRows) × IsText f ts front
+ends : (f : Form) (front : List LogicalLine) (s : State) → run f start front ≡ Ok s
+    → has_ended s ≡ true → (ts : List TopicRows) × IsText f ts front
 ends f front (done ts) h e = (ts, done_text f front ts h)
 ends f front s h e = absurd cc
 
@@ -237,17 +260,20 @@ abbrev ended_in : Result State Code → Bool
 ended_in (Ok s) = has_ended s
 ended_in (Err c) = false
 
-is_motr_there : (f : Form) (front : List LogicalLine) (s : State) (w : LineWord) → run f start front ≡ Ok s → (is_motr w && not (has_ended s)) ≡ true → IsMotr f front w
+is_motr_there : (f : Form) (front : List LogicalLine) (s : State) (w : LineWord)
+    → run f start front ≡ Ok s → (is_motr w && not (has_ended s)) ≡ true → IsMotr f front w
 is_motr_there f front s w h e =
     let b = both (is_motr w) (has_ended s) e in
     (motr_word w b.0, λ ts t. not_both (has_ended s) (ap ended_in (sym h ∙ text_drive f ts front t)) b.1)
 
-no_motr_there : (f : Form) (front : List LogicalLine) (s : State) (w : LineWord) → run f start front ≡ Ok s → (is_motr w && not (has_ended s)) ≡ false → IsMotr f front w → ⊥
+no_motr_there : (f : Form) (front : List LogicalLine) (s : State) (w : LineWord)
+    → run f start front ≡ Ok s → (is_motr w && not (has_ended s)) ≡ false → IsMotr f front w → ⊥
 no_motr_there f front s w h e m =
     let t = ends f front s h (neither (is_motr w) (has_ended s) e (ap is_motr m.0)) in
     m.1 t.0 t.1
 
-coded : (f : Form) (front : List LogicalLine) (l : LogicalLine) (a b c : Bool) → (a ≡ true → IsMotr f front l.word) → (a ≡ false → IsMotr f front l.word → ⊥)
+coded : (f : Form) (front : List LogicalLine) (l : LogicalLine) (a b c : Bool)
+    → (a ≡ true → IsMotr f front l.word) → (a ≡ false → IsMotr f front l.word → ⊥)
     → (b ≡ true → MayStand f front l.word) → (b ≡ false → MayStand f front l.word → ⊥) → (b ≡ true → c ≡ is_named f front l.word l.fields)
     → HasCode f front l (if a then AsMotr else if not b then Word else if not c then Name else Twice)
 coded f front l true b c p q r s t = motr (p refl)
@@ -256,7 +282,8 @@ coded f front l false true false p q r s t = name (q refl) (r refl) (sym (t refl
 coded f front l false true true p q r s t = twice (q refl) (r refl) (sym (t refl))
 
 -- the code with which the machine stops is that of the line
-pub has_code : (f : Form) (front : List LogicalLine) (l : LogicalLine) (s : State) (c : Code) → run f start front ≡ Ok s → step f s l ≡ Err c → HasCode f front l c
+pub has_code : (f : Form) (front : List LogicalLine) (l : LogicalLine) (s : State) (c : Code)
+    → run f start front ≡ Ok s → step f s l ≡ Err c → HasCode f front l c
 has_code f front l s c h e =
     let o = run_opens f None start s front h tt in
     let d =
@@ -267,7 +294,8 @@ has_code f front l s c h e =
     in subst (HasCode f front l) (sym (code_stands f s l.word l.number l.fields c e)) d
 
 -- a line has one code
-pub one_code : (f : Form) (front : List LogicalLine) (l : LogicalLine) (c d : Code) → HasCode f front l c → HasCode f front l d → c ≡ d
+pub one_code : (f : Form) (front : List LogicalLine) (l : LogicalLine) (c d : Code)
+    → HasCode f front l c → HasCode f front l d → c ≡ d
 one_code f front l _ _ (motr m) (motr n) = refl
 one_code f front l _ _ (motr m) (word n a) = absurd (n m)
 one_code f front l _ _ (motr m) (name n a b) = absurd (n m)

@@ -1,10 +1,14 @@
 -- What completes a state of the machine to a text.
 use Rattle.std.proofs.Common.{◌≡◌, ◌≤◌, ◌-◌, ℕ, true, List, [], ◌∷◌, ◌++◌, length}
-use Rattle.itf_lines.specs.declared.word.LineWord.TheVariants.{Scnt, Slashes, Mtid, Modl, Lipt, Elin, Etab, Etop, Emod, Ende}
+use Rattle.itf_lines.specs.declared.word.LineWord.TheVariants.{Scnt, Slashes, Mtid, Modl, Lipt}
+use Rattle.itf_lines.specs.declared.word.LineWord.TheVariants.{Elin, Etab, Etop, Emod, Ende}
 use Rattle.itf_lines.specs.LogicalLines.{LogicalLine}
 use Rattle.itf_reader.specs.Forms.{Form, Straight, Vertex, vertex, Row, TableRows, TopicRows, names}
-use Rattle.itf_reader.specs.TransferText.{line, IsVertices, IsStrokes, IsObjects, IsTables, IsTopics, AreFree}
-use Rattle.itf_reader.specs.Machine.{InTopic, InTable, InRow, State, start, free, title, model, topics, tables, objects, strokes, vertices, arc, last, done, with_table, with_stroke, closed_row}
+use Rattle.itf_reader.specs.TransferText.{line, IsVertices, IsStrokes, IsObjects, IsTables}
+use Rattle.itf_reader.specs.TransferText.{IsTopics, AreFree}
+use Rattle.itf_reader.specs.Machine.{InTopic, InTable, InRow, State, start, free, title, model}
+use Rattle.itf_reader.specs.Machine.{topics, tables, objects, strokes, vertices, arc, last, done}
+use Rattle.itf_reader.specs.Machine.{with_table, with_stroke, closed_row}
 
 -- the object with these strokes too
 abbrev pub and_strokes : InRow → List (List Vertex) → InRow
@@ -21,7 +25,8 @@ and_rows t rows = with_table t.inside (record { table = t.number; rows = t.rows 
 -- the lines that lead from a state to the end of a text, and the topics that it holds
 pub data Completes (f : Form) : State → List TopicRows → List LogicalLine → Type 0 where
   at_done : (ts : List TopicRows) → Completes f (done ts) ts []
-  at_last : (ts : List TopicRows) (n : ℕ) (fs : List (List ℕ)) → Completes f (last ts) ts (line Ende n fs ∷ [])
+  at_last : (ts : List TopicRows) (n : ℕ) (fs : List (List ℕ))
+      → Completes f (last ts) ts (line Ende n fs ∷ [])
   at_topics : (earlier ts all : List TopicRows) (n m : ℕ) (fs gs : List (List ℕ)) (w : List LogicalLine)
       → IsTopics f earlier ts w (line Emod n fs ∷ line Ende m gs ∷ []) → all ≡ earlier ++ ts → Completes f (topics earlier) all w
   at_tables : (t : InTopic) (ts : List TableRows) (all : List TopicRows) (n : ℕ) (fs : List (List ℕ)) (w u : List LogicalLine)
@@ -36,6 +41,9 @@ pub data Completes (f : Form) : State → List TopicRows → List LogicalLine �
       → IsVertices vs w (line Elin m gs ∷ u) → Completes f (strokes (with_stroke r (acc ++ (vertex Straight n fs ∷ vs)))) all u → Completes f (arc r acc) all (line Lipt n fs ∷ w)
   at_model : (all : List TopicRows) (n : ℕ) (fs : List (List ℕ)) (w : List LogicalLine)
       → names fs f.model ≡ true → Completes f (topics []) all w → Completes f model all (line Modl n fs ∷ w)
-  at_title : (all : List TopicRows) (n : ℕ) (fs : List (List ℕ)) (w : List LogicalLine) → Completes f model all w → Completes f title all (line Mtid n fs ∷ w)
-  at_free : (all : List TopicRows) (n : ℕ) (fs : List (List ℕ)) (w u : List LogicalLine) → AreFree w (line Slashes n fs ∷ u) → Completes f title all u → Completes f free all w
-  at_start : (all : List TopicRows) (n : ℕ) (fs : List (List ℕ)) (w : List LogicalLine) → Completes f free all w → Completes f start all (line Scnt n fs ∷ w)
+  at_title : (all : List TopicRows) (n : ℕ) (fs : List (List ℕ)) (w : List LogicalLine)
+      → Completes f model all w → Completes f title all (line Mtid n fs ∷ w)
+  at_free : (all : List TopicRows) (n : ℕ) (fs : List (List ℕ)) (w u : List LogicalLine)
+      → AreFree w (line Slashes n fs ∷ u) → Completes f title all u → Completes f free all w
+  at_start : (all : List TopicRows) (n : ℕ) (fs : List (List ℕ)) (w : List LogicalLine)
+      → Completes f free all w → Completes f start all (line Scnt n fs ∷ w)

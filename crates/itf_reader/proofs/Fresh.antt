@@ -1,9 +1,11 @@
 -- A form may have one more topic, and a topic one more table, that did not come.
-use Rattle.std.proofs.Common.{◌≡◌, ◌<◌, ◌+◌, ℕ, zero, suc, Bool, true, false, List, [], ◌∷◌, ◌++◌, length, Some, refl, ap, sym, ◌∙◌, arith, nat_eq, ◌&&◌}
+use Rattle.std.proofs.Common.{◌≡◌, ◌<◌, ◌+◌, ℕ, zero, suc, Bool, true, false, List, [], ◌∷◌, ◌++◌}
+use Rattle.std.proofs.Common.{length, Some, refl, ap, sym, ◌∙◌, arith, nat_eq, ◌&&◌}
 use Rattle.std.proofs.lemmas.List.{append_assoc, length-append}
 use Rattle.std.proofs.lemmas.Slice.Eq.{bytes_eq-Decides}
 use Rattle.itf_lines.specs.Words.{same}
-use Rattle.itf_reader.specs.Forms.{Table, TableRows, TopicRows, names, table_named, topic_named, has_table, has_topic}
+use Rattle.itf_reader.specs.Forms.{Table, TableRows, TopicRows, names, table_named, topic_named}
+use Rattle.itf_reader.specs.Forms.{has_table, has_topic}
 use Rattle.itf_reader.proofs.Sorting.{by_test}
 
 -- a name longer than some others is none of them
@@ -30,7 +32,8 @@ abbrev all_bytes : List (List ℕ) → ℕ
 all_bytes [] = 0
 all_bytes (name ∷ names) = length name + all_bytes names
 
-past_topics : (n : ℕ) (long : List ℕ) (a b : List (List ℕ)) → all_bytes a < length long → topic_named n (long ∷ []) (a ++ b) ≡ topic_named (length a + n) (long ∷ []) b
+past_topics : (n : ℕ) (long : List ℕ) (a b : List (List ℕ)) → all_bytes a < length long
+    → topic_named n (long ∷ []) (a ++ b) ≡ topic_named (length a + n) (long ∷ []) b
 past_topics n long [] b h = ap (λ (k : ℕ). topic_named k (long ∷ []) b) (omega arith)
 past_topics n long (name ∷ a) b h =
     let e = not_same long name (omega arith) in
@@ -40,7 +43,8 @@ abbrev topic_numbers : List TopicRows → ℕ
 topic_numbers [] = 0
 topic_numbers (t ∷ ts) = t.topic + topic_numbers ts
 
-no_topic_came : (i : ℕ) (earlier : List TopicRows) → topic_numbers earlier < i → has_topic i earlier ≡ false
+no_topic_came : (i : ℕ) (earlier : List TopicRows) → topic_numbers earlier < i
+    → has_topic i earlier ≡ false
 no_topic_came i [] h = refl
 no_topic_came i (t ∷ ts) h =
     let e : nat_eq t.topic i ≡ false = search arith in
@@ -98,7 +102,8 @@ and_false : (b : Bool) → (b && false) ≡ false
 and_false true = refl
 and_false false = refl
 
-past_tables : (n topic : ℕ) (long : List ℕ) (a b : List Table) → table_bytes a < length long → table_named n topic (long ∷ []) (a ++ b) ≡ table_named (length a + n) topic (long ∷ []) b
+past_tables : (n topic : ℕ) (long : List ℕ) (a b : List Table) → table_bytes a < length long
+    → table_named n topic (long ∷ []) (a ++ b) ≡ table_named (length a + n) topic (long ∷ []) b
 past_tables n topic long [] b h = ap (λ (k : ℕ). table_named k topic (long ∷ []) b) (omega arith)
 past_tables n topic long (t ∷ a) b h =
     let e = not_same long t.name (omega arith) in
@@ -109,7 +114,8 @@ abbrev table_numbers : List TableRows → ℕ
 table_numbers [] = 0
 table_numbers (t ∷ ts) = t.table + table_numbers ts
 
-no_table_came : (i : ℕ) (earlier : List TableRows) → table_numbers earlier < i → has_table i earlier ≡ false
+no_table_came : (i : ℕ) (earlier : List TableRows) → table_numbers earlier < i
+    → has_table i earlier ≡ false
 no_table_came i [] h = refl
 no_table_came i (t ∷ ts) h =
     let e : nat_eq t.table i ≡ false = search arith in
@@ -131,7 +137,8 @@ length-empty_tables : (k : ℕ) → length (empty_tables k) ≡ k
 length-empty_tables zero = refl
 length-empty_tables (suc k) = ap suc (length-empty_tables k)
 
-itself : (topic n : ℕ) (t : Table) (long : List ℕ) → t.topic ≡ topic → t.name ≡ long → table_named n topic (long ∷ []) (t ∷ []) ≡ Some (n, t)
+itself : (topic n : ℕ) (t : Table) (long : List ℕ) → t.topic ≡ topic → t.name ≡ long
+    → table_named n topic (long ∷ []) (t ∷ []) ≡ Some (n, t)
 itself topic n t long e h =
     let p : nat_eq t.topic topic ≡ true = search arith in
     let q : same long t.name ≡ true = ap (same long) h ∙ same_itself long in
@@ -144,7 +151,8 @@ pub record NewTable (tables : List Table) (topic : ℕ) (earlier : List TableRow
   pub named : table_named 0 topic fields (tables ++ more) ≡ Some found
   pub came_not : has_table found.0 earlier ≡ false
 
-pub new_table : (tables : List Table) (topic : ℕ) (earlier : List TableRows) → NewTable tables topic earlier
+pub new_table : (tables : List Table) (topic : ℕ) (earlier : List TableRows)
+    → NewTable tables topic earlier
 new_table tables topic earlier =
     let k = suc (table_numbers earlier) in
     let long = zeros (suc (table_bytes tables)) in

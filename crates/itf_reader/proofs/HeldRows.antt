@@ -1,12 +1,22 @@
 -- The rows that a machine holds are those that the lines before closed.
-use Rattle.std.proofs.Common.{◌≡◌, ℕ, Bool, true, false, List, [], ◌∷◌, ◌++◌, Option, Some, None, Result, Ok, Err, refl, ap, sym, ◌∙◌, if◌then◌else◌}
+use Rattle.std.proofs.Common.{◌≡◌, ℕ, Bool, true, false, List, [], ◌∷◌, ◌++◌, Option, Some, None}
+use Rattle.std.proofs.Common.{Result, Ok, Err, refl, ap, sym, ◌∙◌, if◌then◌else◌}
 use Rattle.std.proofs.lemmas.List.{append_assoc, append-nil, map-append}
 use Rattle.itf_lines.specs.declared.word.LineWord.{LineWord}
-use Rattle.itf_lines.specs.declared.word.LineWord.TheVariants.{Scnt, Slashes, Mtid, Modl, Topi, Tabl, Obje, Stpt, Lipt, Arcp, Elin, Etab, Etop, Emod, Ende}
+use Rattle.itf_lines.specs.declared.word.LineWord.TheVariants.{Scnt, Slashes, Mtid, Modl, Topi}
+use Rattle.itf_lines.specs.declared.word.LineWord.TheVariants.{Tabl, Obje, Stpt, Lipt, Arcp, Elin}
+use Rattle.itf_lines.specs.declared.word.LineWord.TheVariants.{Etab, Etop, Emod, Ende}
 use Rattle.itf_lines.specs.LogicalLines.{LogicalLine}
-use Rattle.itf_reader.specs.Forms.{Table, Form, Start, Straight, OnArc, vertex, Row, TableRows, TopicRows, names, table_named, topic_named, has_table, has_topic, tables_of}
-use Rattle.itf_reader.specs.Machine.{InTopic, InTable, InRow, State, start, free, title, model, topics, tables, objects, strokes, vertices, arc, last, done, Code, Name, Twice, Word, closed_topic, closed_table, closed_row, opened_row, named_topic, named_table, has_room, by_word, step, then_run, run}
-use Rattle.itf_reader.specs.ClosedRows.{row_closed, closes, closed_after, closed_from, pairs, all_pairs}
+use Rattle.itf_reader.specs.Forms.{Table, Form, Start, Straight, OnArc, vertex, Row, TableRows}
+use Rattle.itf_reader.specs.Forms.{TopicRows, names, table_named, topic_named, has_table, has_topic}
+use Rattle.itf_reader.specs.Forms.{tables_of}
+use Rattle.itf_reader.specs.Machine.{InTopic, InTable, InRow, State, start, free, title, model}
+use Rattle.itf_reader.specs.Machine.{topics, tables, objects, strokes, vertices, arc, last, done}
+use Rattle.itf_reader.specs.Machine.{Code, Name, Twice, Word, closed_topic, closed_table}
+use Rattle.itf_reader.specs.Machine.{closed_row, opened_row, named_topic, named_table, has_room}
+use Rattle.itf_reader.specs.Machine.{by_word, step, then_run, run}
+use Rattle.itf_reader.specs.ClosedRows.{row_closed, closes, closed_after, closed_from, pairs}
+use Rattle.itf_reader.specs.ClosedRows.{all_pairs}
 
 abbrev held_topics : List TopicRows → List (ℕ × Row)
 held_topics earlier = all_pairs (tables_of earlier)
@@ -33,7 +43,8 @@ all_pairs-append : (a b : List TableRows) → all_pairs (a ++ b) ≡ all_pairs a
 all_pairs-append [] b = refl
 all_pairs-append (c ∷ a) b = ap (λ (l : List (ℕ × Row)). pairs c ++ l) (all_pairs-append a b) ∙ sym (append_assoc (pairs c) (all_pairs a) (all_pairs b))
 
-one_pairs : (a : List TableRows) (c : TableRows) → all_pairs (a ++ (c ∷ [])) ≡ all_pairs a ++ pairs c
+one_pairs : (a : List TableRows) (c : TableRows)
+    → all_pairs (a ++ (c ∷ [])) ≡ all_pairs a ++ pairs c
 one_pairs a c = all_pairs-append a (c ∷ []) ∙ ap (λ (l : List (ℕ × Row)). all_pairs a ++ l) (append-nil (pairs c))
 
 tables_of-append : (a b : List TopicRows) → tables_of (a ++ b) ≡ tables_of a ++ tables_of b
@@ -50,7 +61,8 @@ table_kept t =
     ap (λ (l : List (ℕ × Row)). held_topics t.inside.earlier ++ l) (one_pairs t.inside.tables (record { table = t.number; rows = t.rows }))
     ∙ sym (append_assoc (held_topics t.inside.earlier) (all_pairs t.inside.tables) (pairs (record { table = t.number; rows = t.rows })))
 
-row_added : (r : InRow) → held_table (closed_row r) ≡ held_table r.inside ++ ((r.inside.number, row_closed r) ∷ [])
+row_added : (r : InRow)
+    → held_table (closed_row r) ≡ held_table r.inside ++ ((r.inside.number, row_closed r) ∷ [])
 row_added r =
     ap (λ (l : List (ℕ × Row)). held_topic r.inside.inside ++ l) (map-append (λ row. (r.inside.number, row)) r.inside.rows (row_closed r ∷ []))
     ∙ sym (append_assoc (held_topic r.inside.inside) (pairs (record { table = r.inside.number; rows = r.inside.rows })) ((r.inside.number, row_closed r) ∷ []))
@@ -63,7 +75,8 @@ state_in other (Err c) = other
 abbrev Leads : State → List (ℕ × Row) → Result State Code → Type 0
 Leads s more r = (t : State) → r ≡ Ok t → held t ≡ held s ++ more
 
-leads : (s : State) (more : List (ℕ × Row)) (u : State) → held u ≡ held s ++ more → Leads s more (Ok u)
+leads : (s : State) (more : List (ℕ × Row)) (u : State) → held u ≡ held s ++ more
+    → Leads s more (Ok u)
 leads s more u e t h = ap held (sym (ap (state_in u) h)) ∙ e
 
 same : (s u : State) → held u ≡ held s → Leads s [] (Ok u)
@@ -72,15 +85,18 @@ same s u e = leads s [] u (e ∙ sym (append-nil (held s)))
 none : (s : State) (more : List (ℕ × Row)) (c : Code) → Leads s more (Err c)
 none s more c t h = absurd cc
 
-if_same : (b : Bool) (s u : State) (c : Code) → held u ≡ held s → Leads s [] (if b then Ok u else Err c)
+if_same : (b : Bool) (s u : State) (c : Code) → held u ≡ held s
+    → Leads s [] (if b then Ok u else Err c)
 if_same true s u c e = same s u e
 if_same false s u c e = none s [] c
 
-if_taken : (b : Bool) (s u : State) (c : Code) → held u ≡ held s → Leads s [] (if b then Err c else Ok u)
+if_taken : (b : Bool) (s u : State) (c : Code) → held u ≡ held s
+    → Leads s [] (if b then Err c else Ok u)
 if_taken true s u c e = none s [] c
 if_taken false s u c e = same s u e
 
-topic_leads : (earlier : List TopicRows) (o : Option ℕ) → Leads (topics earlier) [] (named_topic earlier o)
+topic_leads : (earlier : List TopicRows) (o : Option ℕ)
+    → Leads (topics earlier) [] (named_topic earlier o)
 topic_leads earlier None = none (topics earlier) [] Name
 topic_leads earlier (Some i) = if_taken (has_topic i earlier) (topics earlier) (tables (record { earlier = earlier; number = i; tables = [] })) Twice (append-nil (held_topics earlier))
 
@@ -88,7 +104,8 @@ table_leads : (t : InTopic) (o : Option (ℕ × Table)) → Leads (tables t) [] 
 table_leads t None = none (tables t) [] Name
 table_leads t (Some p) = if_taken (has_table p.0 t.tables) (tables t) (objects (record { inside = t; number = p.0; lines = p.1.lines; rows = [] })) Twice (append-nil (held_topic t))
 
-held_word : (f : Form) (s : State) (w : LineWord) (n : ℕ) (fs : List (List ℕ)) → Leads s (closes s w) (by_word f s w n fs)
+held_word : (f : Form) (s : State) (w : LineWord) (n : ℕ) (fs : List (List ℕ))
+    → Leads s (closes s w) (by_word f s w n fs)
 held_word f start Scnt n fs = same start free refl
 held_word f free Slashes n fs = same free title refl
 held_word f free word n fs = same free free refl
@@ -113,7 +130,8 @@ held_word f (done earlier) word n fs = λ t h. absurd cc
 held_word f state word n fs = λ t h. absurd cc
 
 -- and so over lines
-held_run : (f : Form) (s t : State) (ls : List LogicalLine) → run f s ls ≡ Ok t → held t ≡ held s ++ closed_from f s ls
+held_run : (f : Form) (s t : State) (ls : List LogicalLine) → run f s ls ≡ Ok t
+    → held t ≡ held s ++ closed_from f s ls
 held_run f s t [] h = same s s refl t h
 held_run f s t (l ∷ ls) h =
     elim (step f s l) as (λ r. step f s l ≡ r → then_run (λ u. run f u ls) r ≡ Ok t → held t ≡ held s ++ (closes s l.word ++ closed_after (λ u. closed_from f u ls) r)) [
@@ -122,5 +140,6 @@ held_run f s t (l ∷ ls) h =
     ] refl h
 
 -- where a text ends, they are all of its rows
-pub closed_whole : (f : Form) (ls : List LogicalLine) (ts : List TopicRows) → run f start ls ≡ Ok (done ts) → all_pairs (tables_of ts) ≡ closed_from f start ls
+pub closed_whole : (f : Form) (ls : List LogicalLine) (ts : List TopicRows)
+    → run f start ls ≡ Ok (done ts) → all_pairs (tables_of ts) ≡ closed_from f start ls
 closed_whole f ls ts h = held_run f start (done ts) ls h

@@ -1,5 +1,6 @@
 -- The lines that a row leaves out.
-use Rattle.std.proofs.Common.{◌≡◌, ◌≤◌, ◌<◌, ◌+◌, ◌-◌, ◌&&◌, ℕ, zero, suc, Bool, true, false, List, [], ◌∷◌, ◌++◌, length, refl, ap, sym, subst, ◌∙◌, arith, append_assoc}
+use Rattle.std.proofs.Common.{◌≡◌, ◌≤◌, ◌<◌, ◌+◌, ◌-◌, ◌&&◌, ℕ, zero, suc, Bool, true, false, List}
+use Rattle.std.proofs.Common.{[], ◌∷◌, ◌++◌, length, refl, ap, sym, subst, ◌∙◌, arith, append_assoc}
 use Rattle.std.specs.Prelude.{replicate, not, nat_le, nat_lt, Some, ℤ, if◌then◌else◌}
 use Rattle.std.proofs.lemmas.List.Elements.{All-nil, All-cons, All-append}
 use Rattle.std.specs.List.{All, flat_map}
@@ -14,9 +15,11 @@ use Rattle.itf_reader.specs.Findings.{Finding}
 use Rattle.itf_reader.specs.Forms.{Vertex}
 use Rattle.itf_reader.specs.declared.transfer.Stroke.{Stroke as CodeStroke}
 use Rattle.itf_reader.specs.Views.{stroke_of, strokes_of}
-use Rattle.itf_reader.specs.LeftOut.{mandatory_from, is_left_out, left_out_finding, left_out_findings}
+use Rattle.itf_reader.specs.LeftOut.{mandatory_from, is_left_out, left_out_finding}
+use Rattle.itf_reader.specs.LeftOut.{left_out_findings}
 use Rattle.itf_reader.specs.RowFindings.{line_findings, lines_findings}
-use Rattle.itf_reader.specs.RowReadings.{lines_vertices, lines_heights, sound_vertices, sound_heights}
+use Rattle.itf_reader.specs.RowReadings.{lines_vertices, lines_heights, sound_vertices}
+use Rattle.itf_reader.specs.RowReadings.{sound_heights}
 use Rattle.itf_reader.specs.StrokeFindings.{Seen, code_if, finding_at}
 
 -- ---- vertices and heights: lines that are left out have none
@@ -24,7 +27,8 @@ no_vertices : (ls : List LineForm) → lines_vertices ls [] ≡ []
 no_vertices [] = refl
 no_vertices (l ∷ ls) = refl
 
-pub given_vertices : (ls : List LineForm) (ss : List (List Vertex)) (m : ℕ) → lines_vertices ls ss ≡ lines_vertices ls (ss ++ replicate m [])
+pub given_vertices : (ls : List LineForm) (ss : List (List Vertex)) (m : ℕ)
+    → lines_vertices ls ss ≡ lines_vertices ls (ss ++ replicate m [])
 given_vertices [] ss m = refl
 given_vertices (l ∷ ls) (s ∷ ss) m = ap (λ (vs : List Seen). sound_vertices l s ++ vs) (given_vertices ls ss m)
 given_vertices (l ∷ ls) [] zero = refl
@@ -34,14 +38,16 @@ no_heights : (ls : List LineForm) → lines_heights ls [] ≡ []
 no_heights [] = refl
 no_heights (l ∷ ls) = refl
 
-pub given_heights : (ls : List LineForm) (ss : List (List Vertex)) (m : ℕ) → lines_heights ls ss ≡ lines_heights ls (ss ++ replicate m [])
+pub given_heights : (ls : List LineForm) (ss : List (List Vertex)) (m : ℕ)
+    → lines_heights ls ss ≡ lines_heights ls (ss ++ replicate m [])
 given_heights [] ss m = refl
 given_heights (l ∷ ls) (s ∷ ss) m = ap (λ (hs : List ℤ). sound_heights l s ++ hs) (given_heights ls ss m)
 given_heights (l ∷ ls) [] zero = refl
 given_heights (l ∷ ls) [] (suc m) = sym (no_heights ls) ∙ given_heights ls [] m
 
 -- ---- the numbers of mandatory lines
-pub mandatory_below : (first bound k : ℕ) (ls : List LineForm) → first + (k + length ls) ≤ bound → All (λ n. first + n ≤ bound) (mandatory_from k ls)
+pub mandatory_below : (first bound k : ℕ) (ls : List LineForm) → first + (k + length ls) ≤ bound
+    → All (λ n. first + n ≤ bound) (mandatory_from k ls)
 mandatory_below first bound k [] h = All-nil (λ n. first + n ≤ bound)
 mandatory_below first bound k (l ∷ ls) h =
     All-append (λ n. first + n ≤ bound) (if l.optional then [] else k ∷ []) (mandatory_from (k + 1) ls) (own l.optional) (mandatory_below first bound (k + 1) ls (omega (arith, h)))
@@ -51,7 +57,8 @@ mandatory_below first bound k (l ∷ ls) h =
     own false = All-cons (λ n. first + n ≤ bound) k [] (omega (arith, h)) (All-nil (λ n. first + n ≤ bound))
 
 -- ---- findings
-at_first : (b : Bool) (find : ℕ → List Finding) (k : ℕ) (rest : List ℕ) → flat_map find ((if b then [] else k ∷ []) ++ rest) ≡ (if b then [] else find k) ++ flat_map find rest
+at_first : (b : Bool) (find : ℕ → List Finding) (k : ℕ) (rest : List ℕ)
+    → flat_map find ((if b then [] else k ∷ []) ++ rest) ≡ (if b then [] else find k) ++ flat_map find rest
 at_first true find k rest = refl
 at_first false find k rest = refl
 
@@ -60,7 +67,8 @@ unless true find h = refl
 unless false find h = h
 
 -- a line before those that are left out, or after them
-not_left_out : (line first lo m k : ℕ) → is_left_out lo m k ≡ false → left_out_finding line first lo m k ≡ []
+not_left_out : (line first lo m k : ℕ) → is_left_out lo m k ≡ false
+    → left_out_finding line first lo m k ≡ []
 not_left_out line first lo m k h = rw h refl
 
 before : (lo m k : ℕ) → k < lo → is_left_out lo m k ≡ false
@@ -72,26 +80,32 @@ after lo m k h = rw (le-leb lo k (omega arith), le-ltb (k - lo) m (omega arith))
 within : (lo m k : ℕ) → lo ≤ k → k < m + lo → is_left_out lo m k ≡ true
 within lo m k h i = rw (le-leb lo k h, lt-ltb (k - lo) m (omega arith)) refl
 
-none_after : (line first lo m k : ℕ) (ls : List LineForm) → m + lo ≤ k → left_out_findings line first lo m (mandatory_from k ls) ≡ []
+none_after : (line first lo m k : ℕ) (ls : List LineForm) → m + lo ≤ k
+    → left_out_findings line first lo m (mandatory_from k ls) ≡ []
 none_after line first lo m k [] h = refl
 none_after line first lo m k (l ∷ ls) h =
     at_first l.optional (left_out_finding line first lo m) k (mandatory_from (k + 1) ls)
     ∙ rw (unless l.optional _ (not_left_out line first lo m k (after lo m k h))) (none_after line first lo m (k + 1) ls (omega arith))
 
 -- a line that is left out
-undefined_line : (role : Role) (line first lo m k : ℕ) (l : LineForm) → lo ≤ k → k < m + lo → line_findings role line (first + k) l [] ≡ (if l.optional then [] else left_out_finding line first lo m k)
+undefined_line : (role : Role) (line first lo m k : ℕ) (l : LineForm) → lo ≤ k → k < m + lo
+    → line_findings role line (first + k) l [] ≡ (if l.optional then [] else left_out_finding line first lo m k)
 undefined_line role line first lo m k l h i = by_option l.optional
   where
-    by_option : (b : Bool) → finding_at line (first + k) (code_if (not b) Undefined) ≡ (if b then [] else left_out_finding line first lo m k)
+    by_option : (b : Bool)
+        → finding_at line (first + k) (code_if (not b) Undefined) ≡ (if b then [] else left_out_finding line first lo m k)
     by_option true = refl
     by_option false = rw (within lo m k h i) refl
 
-no_findings : (role : Role) (line column : ℕ) (ls : List LineForm) → lines_findings role line column ls [] ≡ []
+no_findings : (role : Role) (line column : ℕ) (ls : List LineForm)
+    → lines_findings role line column ls [] ≡ []
 no_findings role line column [] = refl
 no_findings role line column (l ∷ ls) = refl
 
 -- all lines from one on are left out
-rest_left_out : (role : Role) (line first lo k m n : ℕ) (ls : List LineForm) → lo ≤ k → n ≡ m + (k - lo) → lines_findings role line (first + k) ls (replicate m []) ≡ left_out_findings line first lo n (mandatory_from k ls)
+rest_left_out : (role : Role) (line first lo k m n : ℕ) (ls : List LineForm) → lo ≤ k
+    → n ≡ m + (k - lo)
+    → lines_findings role line (first + k) ls (replicate m []) ≡ left_out_findings line first lo n (mandatory_from k ls)
 rest_left_out role line first lo k m n [] h e = refl
 rest_left_out role line first lo k zero n (l ∷ ls) h e = sym (none_after line first lo n k (l ∷ ls) (omega arith))
 rest_left_out role line first lo k (suc m) n (l ∷ ls) h e =
@@ -125,14 +139,16 @@ lines_left_out role line first k m (l ∷ ls) (s ∷ ss) =
     ∙ ap (λ (fs : List Finding). (own ++ lines_findings role line (first + k + 1) ls ss) ++ fs) (sym none)
 
 -- ---- what is read of all lines, where those that are given were read
-pub all_vertices : (lent forms : List CodeForm) (read given : List CodeStroke) (m : ℕ) (old new : List Seen) → lent ≡ forms → read ≡ given
+pub all_vertices : (lent forms : List CodeForm) (read given : List CodeStroke) (m : ℕ) (old new : List Seen)
+    → lent ≡ forms → read ≡ given
     → new ≡ old ++ lines_vertices (lines_view lent) (strokes_of read) → new ≡ old ++ lines_vertices (lines_view forms) (strokes_of given ++ replicate m [])
 all_vertices lent forms read given m old new e f h =
     h ∙ ap (λ (ls : List CodeForm). old ++ lines_vertices (lines_view ls) (strokes_of read)) e
     ∙ ap (λ (ss : List CodeStroke). old ++ lines_vertices (lines_view forms) (strokes_of ss)) f
     ∙ ap (λ (vs : List Seen). old ++ vs) (given_vertices (lines_view forms) (strokes_of given) m)
 
-pub all_heights : (lent forms : List CodeForm) (read given : List CodeStroke) (m : ℕ) (old new : List ℤ) → lent ≡ forms → read ≡ given
+pub all_heights : (lent forms : List CodeForm) (read given : List CodeStroke) (m : ℕ) (old new : List ℤ)
+    → lent ≡ forms → read ≡ given
     → new ≡ old ++ lines_heights (lines_view lent) (strokes_of read) → new ≡ old ++ lines_heights (lines_view forms) (strokes_of given ++ replicate m [])
 all_heights lent forms read given m old new e f h =
     h ∙ ap (λ (ls : List CodeForm). old ++ lines_heights (lines_view ls) (strokes_of read)) e

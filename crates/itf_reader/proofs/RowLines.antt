@@ -7,7 +7,8 @@ use Rattle.std.specs.List.Sorted.{IsStrictlyIncreasing}
 use Rattle.std.proofs.lemmas.List.Elements.{All-nil, All-cons, All-head, All-tail, All-append}
 use Rattle.std.proofs.lemmas.List.Elements.{All-weaker}
 use Rattle.itf_lines.specs.LogicalLines.{LogicalLine}
-use Rattle.itf_lines.specs.declared.word.LineWord.TheVariants.{Slashes, Mtid, Modl, Topi, Tabl, Elin}
+use Rattle.itf_lines.specs.declared.word.LineWord.TheVariants.{Slashes, Mtid, Modl, Topi, Tabl}
+use Rattle.itf_lines.specs.declared.word.LineWord.TheVariants.{Elin}
 use Rattle.itf_lines.specs.declared.word.LineWord.TheVariants.{Etab, Etop, Emod, Ende, Scnt}
 use Rattle.itf_lines.specs.Rising.{Rise}
 use Rattle.itf_reader.specs.Forms.{Table, Form, Vertex, Row, TableRows, TopicRows, fill_strokes}
@@ -154,7 +155,8 @@ AreRising rows = IsStrictlyIncreasing (table_lines rows)
 no_rows : AreRising []
 no_rows k l = absurd (omega (arith, l))
 
-rows_rise : (n : ℕ) (cs : List TableRows) → All (λ c. AreRising c.rows) cs → AreRising (rows_in n cs)
+rows_rise : (n : ℕ) (cs : List TableRows) → All (λ c. AreRising c.rows) cs
+    → AreRising (rows_in n cs)
 rows_rise n [] h = no_rows
 rows_rise n (c ∷ cs) h =
     elim (nat_eq c.table n) as (λ b. AreRising (if b then c.rows else rows_in n cs)) [

@@ -1,5 +1,6 @@
 -- A stable sort by an order gives what an insertion in order gives.
-use Rattle.std.proofs.Common.{◌≡◌, ◌<◌, ◌≤◌, ℕ, suc, zero, Bool, true, false, cond, List, [], ◌∷◌, length, map, refl, ap, sym, ◌∙◌, arith, not, ◌&&◌}
+use Rattle.std.proofs.Common.{◌≡◌, ◌<◌, ◌≤◌, ℕ, suc, zero, Bool, true, false, cond, List, [], ◌∷◌}
+use Rattle.std.proofs.Common.{length, map, refl, ap, sym, ◌∙◌, arith, not, ◌&&◌}
 use Rattle.std.specs.Prelude.{⊤}
 use Rattle.std.specs.Cmp.{IsStrictWeakOrder, IsTotalOrder, then_total, on_total, nat_cmp_total}
 use Rattle.std.specs.List.{filter}
@@ -8,7 +9,8 @@ use Rattle.std.proofs.lemmas.List.Sorted.{sorted_far, ranks_by}
 use mathlib.Core.Bool.{true≢false}
 use lib.ListN.{get_or}
 use Rattle.itf_reader.specs.declared.findings.Finding.{Finding as CodeFinding}
-use Rattle.itf_reader.specs.Findings.{Finding, rank, finding_cmp, is_before, finding_of, findings_of, in_order, put_in, sorted}
+use Rattle.itf_reader.specs.Findings.{Finding, rank, finding_cmp, is_before, finding_of}
+use Rattle.itf_reader.specs.Findings.{findings_of, in_order, put_in, sorted}
 
 pub by_test : {P : Type 0} (b : Bool) → (b ≡ true → P) → (b ≡ false → P) → P
 by_test true f g = f refl
@@ -47,7 +49,8 @@ module _ {X : Type 0} (lt : X → X → Bool) (o : IsStrictWeakOrder lt) where
   NoneLess-weaker x y h [] a = tt
   NoneLess-weaker x y h (z ∷ ys) a = (o.chain z y x a.0 h, NoneLess-weaker x y h ys a.1)
 
-  NoneLess-put_in : (z x : X) (ys : List X) → lt x z ≡ false → NoneLess z ys → NoneLess z (put_in lt x ys)
+  NoneLess-put_in : (z x : X) (ys : List X) → lt x z ≡ false → NoneLess z ys
+      → NoneLess z (put_in lt x ys)
   NoneLess-put_in z x [] h a = (h, tt)
   NoneLess-put_in z x (y ∷ ys) h a = by_test (lt y x) (λ e. rw e (a.0, NoneLess-put_in z x ys h a.1)) (λ e. rw e (h, a))
 
@@ -65,11 +68,13 @@ module _ {X : Type 0} (lt : X → X → Bool) (o : IsStrictWeakOrder lt) where
   abbrev kept : Bool → X → List X → List X
   kept b x xs = cond b (x ∷ xs) xs
 
-  stands_first : (a b : Bool) (x y : X) (r : List X) → (b ≡ true → a ≡ false) → kept b y (kept a x r) ≡ kept a x (kept b y r)
+  stands_first : (a b : Bool) (x y : X) (r : List X) → (b ≡ true → a ≡ false)
+      → kept b y (kept a x r) ≡ kept a x (kept b y r)
   stands_first a false x y r h = refl
   stands_first a true x y r h = rw (h refl) refl
 
-  stable-put_in : (z x : X) (ys : List X) → filter (ties lt z) (put_in lt x ys) ≡ filter (ties lt z) (x ∷ ys)
+  stable-put_in : (z x : X) (ys : List X)
+      → filter (ties lt z) (put_in lt x ys) ≡ filter (ties lt z) (x ∷ ys)
   stable-put_in z x [] = refl
   stable-put_in z x (y ∷ ys) =
       by_test (lt y x)
@@ -102,7 +107,8 @@ module _ {X : Type 0} (lt : X → X → Bool) (o : IsStrictWeakOrder lt) where
   kept_false b x xs e = ap (λ (c : Bool). kept c x xs) e
 
   -- where none of some elements is less than y, neither is the first that passes a test
-  first_kept : (p : X → Bool) (x y : X) (r ys : List X) → filter p ys ≡ x ∷ r → NoneLess y ys → lt x y ≡ false
+  first_kept : (p : X → Bool) (x y : X) (r ys : List X) → filter p ys ≡ x ∷ r → NoneLess y ys
+      → lt x y ≡ false
   first_kept p x y r [] e a = no_first x r e
   first_kept p x y r (z ∷ ys) e a =
       by_test (p z)
@@ -113,7 +119,8 @@ module _ {X : Type 0} (lt : X → X → Bool) (o : IsStrictWeakOrder lt) where
   SameTies xs ys = (z : X) → filter (ties lt z) xs ≡ filter (ties lt z) ys
 
   -- the first of a list that ascends is not greater than that of one with the same ties
-  not_greater : (x y : X) (xs ys : List X) → SameTies (x ∷ xs) (y ∷ ys) → NoneLess y ys → lt x y ≡ false
+  not_greater : (x y : X) (xs ys : List X) → SameTies (x ∷ xs) (y ∷ ys) → NoneLess y ys
+      → lt x y ≡ false
   not_greater x y xs ys e a =
       first_kept (ties lt x) x y (filter (ties lt x) xs) (y ∷ ys)
       (sym (e x) ∙ kept_true (ties lt x x) x (filter (ties lt x) xs) (tie x x (itself x) (itself x)))
@@ -142,11 +149,14 @@ module _ {X : Type 0} (lt : X → X → Bool) (o : IsStrictWeakOrder lt) where
       let f : SameTies (x ∷ xs) (x ∷ ys) = λ z. e z ∙ ap (λ (u : X). filter (ties lt z) (u ∷ ys)) (sym h) in
       ap (λ (l : List X). x ∷ l) (one_order xs ys a.1 b.1 (same_rest x xs ys f)) ∙ ap (λ (u : X). u ∷ ys) h
 
-  NoneLess-each : (x : X) (ys : List X) → ((k : ℕ) → k < length ys → lt (get_or ys k x) x ≡ false) → NoneLess x ys
+  NoneLess-each : (x : X) (ys : List X) → ((k : ℕ) → k < length ys → lt (get_or ys k x) x ≡ false)
+      → NoneLess x ys
   NoneLess-each x [] h = tt
   NoneLess-each x (y ∷ ys) h = (h zero (search arith), NoneLess-each x ys (λ k l. h (suc k) (search arith)))
 
-  Ascends-each : (xs : List X) → ((i j : ℕ) (d : X) → i ≤ j → j < length xs → lt (get_or xs j d) (get_or xs i d) ≡ false) → Ascends xs
+  Ascends-each : (xs : List X)
+      → ((i j : ℕ) (d : X) → i ≤ j → j < length xs → lt (get_or xs j d) (get_or xs i d) ≡ false)
+      → Ascends xs
   Ascends-each [] h = tt
   Ascends-each (x ∷ xs) h = (
     NoneLess-each x xs (λ k l. h zero (suc k) x (search arith) (search arith)),
@@ -182,5 +192,6 @@ finding_cmp_total = then_total (on_total (λ (f : Finding). f.line) nat_cmp_tota
 pub is_before_ranks : IsStrictWeakOrder (by_value is_before finding_of)
 is_before_ranks = ranks_by finding_cmp_total finding_of
 
-pub sort_in_order : (xs ys : List CodeFinding) → IsSortedBy (by_value is_before finding_of) ys → IsStableBy (by_value is_before finding_of) xs ys → findings_of ys ≡ in_order (findings_of xs)
+pub sort_in_order : (xs ys : List CodeFinding) → IsSortedBy (by_value is_before finding_of) ys
+    → IsStableBy (by_value is_before finding_of) xs ys → findings_of ys ≡ in_order (findings_of xs)
 sort_in_order xs ys up stable = ap findings_of (stable_sort (by_value is_before finding_of) is_before_ranks xs ys up stable) ∙ map-sorted is_before finding_of xs

@@ -1,14 +1,23 @@
 -- A machine that keeps no closed object goes as one that keeps them all.
-use Rattle.std.proofs.Common.{◌≡◌, ℕ, Bool, true, false, List, [], ◌∷◌, ◌++◌, map, Option, Some, None, Result, Ok, Err, refl, ap, sym, subst, ◌∙◌, if◌then◌else◌, nat_eq}
+use Rattle.std.proofs.Common.{◌≡◌, ℕ, Bool, true, false, List, [], ◌∷◌, ◌++◌, map, Option, Some}
+use Rattle.std.proofs.Common.{None, Result, Ok, Err, refl, ap, sym, subst, ◌∙◌, if◌then◌else◌}
+use Rattle.std.proofs.Common.{nat_eq}
 use Rattle.std.proofs.lemmas.List.{map-append}
 use Rattle.itf_lines.specs.declared.word.LineWord.{LineWord}
-use Rattle.itf_lines.specs.declared.word.LineWord.TheVariants.{Scnt, Slashes, Mtid, Modl, Topi, Tabl, Obje, Stpt, Lipt, Arcp, Elin, Etab, Etop, Emod, Ende}
+use Rattle.itf_lines.specs.declared.word.LineWord.TheVariants.{Scnt, Slashes, Mtid, Modl, Topi}
+use Rattle.itf_lines.specs.declared.word.LineWord.TheVariants.{Tabl, Obje, Stpt, Lipt, Arcp, Elin}
+use Rattle.itf_lines.specs.declared.word.LineWord.TheVariants.{Etab, Etop, Emod, Ende}
 use Rattle.itf_lines.specs.LogicalLines.{LogicalLine}
-use Rattle.itf_reader.specs.Forms.{Table, Form, Start, vertex, Row, TableRows, TopicRows, names, table_named, topic_named, has_table, has_topic}
-use Rattle.itf_reader.specs.Machine.{InTopic, InTable, InRow, State, start, free, title, model, topics, tables, objects, strokes, vertices, arc, last, done, with_stroke, Code, Name, Word, named_topic, named_table, has_room, has_ended, by_word, step, then_run, run}
+use Rattle.itf_reader.specs.Forms.{Table, Form, Start, vertex, Row, TableRows, TopicRows, names}
+use Rattle.itf_reader.specs.Forms.{table_named, topic_named, has_table, has_topic}
+use Rattle.itf_reader.specs.Machine.{InTopic, InTable, InRow, State, start, free, title, model}
+use Rattle.itf_reader.specs.Machine.{topics, tables, objects, strokes, vertices, arc, last, done}
+use Rattle.itf_reader.specs.Machine.{with_stroke, Code, Name, Word, named_topic, named_table}
+use Rattle.itf_reader.specs.Machine.{has_room, has_ended, by_word, step, then_run, run}
 use Rattle.itf_reader.specs.Readings.{Structure, OfLine}
 use Rattle.itf_reader.specs.ClosedRows.{closes, closed_after, closed_from}
-use Rattle.itf_reader.specs.RowFeeds.{Standing, standing, stopped, forget_closed, standing_by, next, after_lines, shows, shown_rows}
+use Rattle.itf_reader.specs.RowFeeds.{Standing, standing, stopped, forget_closed, standing_by, next}
+use Rattle.itf_reader.specs.RowFeeds.{after_lines, shows, shown_rows}
 
 -- ---- what is kept of a state
 abbrev bare_table : TableRows → TableRows
@@ -57,23 +66,28 @@ same_tables : (n : ℕ) (ts : List TableRows) → has_table n (map bare_table ts
 same_tables n [] = refl
 same_tables n (t ∷ ts) = ap (λ (b : Bool). if nat_eq t.table n then true else b) (same_tables n ts)
 
-either : (n : ℕ) (a b : Bool) (s t : State) (c d : Result State Code) → a ≡ b → thin s ≡ thin t → standing_by n c ≡ thinned n d → standing_by n (if a then c else Ok (thin s)) ≡ thinned n (if b then d else Ok t)
+either : (n : ℕ) (a b : Bool) (s t : State) (c d : Result State Code) → a ≡ b → thin s ≡ thin t
+    → standing_by n c ≡ thinned n d
+    → standing_by n (if a then c else Ok (thin s)) ≡ thinned n (if b then d else Ok t)
 either n true true s t c d e h k = k
 either n true false s t c d e h k = absurd cc
 either n false true s t c d e h k = absurd cc
 either n false false s t c d e h k = ap (λ (x : State). standing x) h
 
-if_room : (n : ℕ) (b : Bool) (s : State) (c : Code) → standing_by n (if b then Ok (thin s) else Err c) ≡ thinned n (if b then Ok s else Err c)
+if_room : (n : ℕ) (b : Bool) (s : State) (c : Code)
+    → standing_by n (if b then Ok (thin s) else Err c) ≡ thinned n (if b then Ok s else Err c)
 if_room n true s c = refl
 if_room n false s c = refl
 
-topic_word : (n : ℕ) (earlier : List TopicRows) (o : Option ℕ) → standing_by n (named_topic (map bare_topic earlier) o) ≡ thinned n (named_topic earlier o)
+topic_word : (n : ℕ) (earlier : List TopicRows) (o : Option ℕ)
+    → standing_by n (named_topic (map bare_topic earlier) o) ≡ thinned n (named_topic earlier o)
 topic_word n earlier None = refl
 topic_word n earlier (Some i) =
     let s = tables (record { earlier = earlier; number = i; tables = [] }) in
     either n (has_topic i (map bare_topic earlier)) (has_topic i earlier) s s _ _ (same_topics i earlier) refl refl
 
-table_word : (n : ℕ) (t : InTopic) (o : Option (ℕ × Table)) → standing_by n (named_table (thin_topic t) o) ≡ thinned n (named_table t o)
+table_word : (n : ℕ) (t : InTopic) (o : Option (ℕ × Table))
+    → standing_by n (named_table (thin_topic t) o) ≡ thinned n (named_table t o)
 table_word n t None = refl
 table_word n t (Some p) =
     let s = objects (record { inside = t; number = p.0; lines = p.1.lines; rows = [] }) in
@@ -88,7 +102,8 @@ table_in t ts = standing (tables (record { earlier = map bare_topic t.earlier; n
 table_end : (t : InTopic) (n : ℕ) (rows : List Row) → table_in t (map bare_table t.tables ++ (record { table = n; rows = [] } ∷ [])) ≡ table_in t (map bare_table (t.tables ++ (record { table = n; rows = rows } ∷ [])))
 table_end t n rows = ap (table_in t) (sym (map-append bare_table t.tables (record { table = n; rows = rows } ∷ [])))
 
-pub thin_word : (f : Form) (s : State) (w : LineWord) (n : ℕ) (fs : List (List ℕ)) → standing_by n (by_word f (forget_closed (thin s) w) w n fs) ≡ thinned n (by_word f s w n fs)
+pub thin_word : (f : Form) (s : State) (w : LineWord) (n : ℕ) (fs : List (List ℕ))
+    → standing_by n (by_word f (forget_closed (thin s) w) w n fs) ≡ thinned n (by_word f s w n fs)
 thin_word f start Scnt n fs = refl
 thin_word f free Slashes n fs = refl
 thin_word f free word n fs = refl
@@ -118,21 +133,25 @@ thin_shows (strokes r) Etab = refl
 thin_shows s w = refl
 
 -- ---- many lines
-pub stays : (f : Form) (n : ℕ) (code : Structure) (ls : List LogicalLine) → after_lines f (stopped n code) ls ≡ stopped n code
+pub stays : (f : Form) (n : ℕ) (code : Structure) (ls : List LogicalLine)
+    → after_lines f (stopped n code) ls ≡ stopped n code
 stays f n code [] = refl
 stays f n code (l ∷ ls) = stays f n code ls
 
-no_rows : (f : Form) (n : ℕ) (code : Structure) (ls : List LogicalLine) → shown_rows f (stopped n code) ls ≡ []
+no_rows : (f : Form) (n : ℕ) (code : Structure) (ls : List LogicalLine)
+    → shown_rows f (stopped n code) ls ≡ []
 no_rows f n code [] = refl
 no_rows f n code (l ∷ ls) = no_rows f n code ls
 
-rows_behind : (f : Form) (n : ℕ) (ls : List LogicalLine) (r : Result State Code) → ((t : State) → shown_rows f (standing (thin t)) ls ≡ closed_from f t ls)
+rows_behind : (f : Form) (n : ℕ) (ls : List LogicalLine) (r : Result State Code)
+    → ((t : State) → shown_rows f (standing (thin t)) ls ≡ closed_from f t ls)
     → shown_rows f (thinned n r) ls ≡ closed_after (λ t. closed_from f t ls) r
 rows_behind f n ls (Ok t) rest = rest t
 rows_behind f n ls (Err c) rest = no_rows f n (OfLine c) ls
 
 -- the rows that are shown are those that lines close
-pub rows_shown : (f : Form) (s : State) (ls : List LogicalLine) → shown_rows f (standing (thin s)) ls ≡ closed_from f s ls
+pub rows_shown : (f : Form) (s : State) (ls : List LogicalLine)
+    → shown_rows f (standing (thin s)) ls ≡ closed_from f s ls
 rows_shown f s [] = refl
 rows_shown f s (l ∷ ls) =
     ap (λ (x : List (ℕ × Row)). x ++ shown_rows f (next f (standing (thin s)) l) ls) (thin_shows s l.word)
@@ -157,7 +176,8 @@ abbrev pub Follows : Form → State → List LogicalLine → Standing → Type 0
 Follows f s ls (standing u) = (t : State) × (run f s ls ≡ Ok t) × (u ≡ thin t)
 Follows f s ls (stopped n code) = StopsWith f s ls n code
 
-ahead : (f : Form) (s u : State) (l : LogicalLine) (ls : List LogicalLine) (at : Standing) → step f s l ≡ Ok u → Follows f u ls at → Follows f s (l ∷ ls) at
+ahead : (f : Form) (s u : State) (l : LogicalLine) (ls : List LogicalLine) (at : Standing)
+    → step f s l ≡ Ok u → Follows f u ls at → Follows f s (l ∷ ls) at
 ahead f s u l ls (standing v) e h = (h.0, ap (then_run (λ t. run f t ls)) e ∙ h.1, h.2)
 ahead f s u l ls (stopped n code) e k = record {
   front = l ∷ k.front;
@@ -172,7 +192,8 @@ ahead f s u l ls (stopped n code) e k = record {
   is_code = k.is_code;
 }
 
-follow_on : (f : Form) (s : State) (l : LogicalLine) (ls : List LogicalLine) (r : Result State Code) → step f s l ≡ r → ((u : State) → Follows f u ls (after_lines f (standing (thin u)) ls))
+follow_on : (f : Form) (s : State) (l : LogicalLine) (ls : List LogicalLine) (r : Result State Code)
+    → step f s l ≡ r → ((u : State) → Follows f u ls (after_lines f (standing (thin u)) ls))
     → Follows f s (l ∷ ls) (after_lines f (thinned l.number r) ls)
 follow_on f s l ls (Ok u) e rest = ahead f s u l ls (after_lines f (standing (thin u)) ls) e (rest u)
 follow_on f s l ls (Err c) e rest = subst (λ (at : Standing). Follows f s (l ∷ ls) at) (sym (stays f l.number (OfLine c) ls)) stop
@@ -180,7 +201,8 @@ follow_on f s l ls (Err c) e rest = subst (λ (at : Standing). Follows f s (l �
     stop : StopsWith f s (l ∷ ls) l.number (OfLine c)
     stop = record { front = []; rest = ls; l = l; behind = s; kind = c; whole = refl; after_line = refl; refused = e; is_number = refl; is_code = refl }
 
-pub follow : (f : Form) (s : State) (ls : List LogicalLine) → Follows f s ls (after_lines f (standing (thin s)) ls)
+pub follow : (f : Form) (s : State) (ls : List LogicalLine)
+    → Follows f s ls (after_lines f (standing (thin s)) ls)
 follow f s [] = (s, refl, refl)
 follow f s (l ∷ ls) =
     subst (λ (at : Standing). Follows f s (l ∷ ls) (after_lines f at ls)) (sym (thin_word f s l.word l.number l.fields)) (follow_on f s l ls (step f s l) refl (λ u. follow f u ls))

@@ -1,33 +1,45 @@
 -- The canonical lines of a transfer are a text.
-use Rattle.std.proofs.Common.{◌≡◌, ◌<◌, ◌+◌, ◌-◌, inl, inr, ℕ, Bool, true, false, List, [], ◌∷◌, ◌++◌, map, replicate, length, All, Some, refl, ap, sym, subst, ◌∙◌, arith, if◌then◌else◌, nat_eq, append_assoc}
+use Rattle.std.proofs.Common.{◌≡◌, ◌<◌, ◌+◌, ◌-◌, inl, inr, ℕ, Bool, true, false, List, [], ◌∷◌}
+use Rattle.std.proofs.Common.{◌++◌, map, replicate, length, All, Some, refl, ap, sym, subst, ◌∙◌}
+use Rattle.std.proofs.Common.{arith, if◌then◌else◌, nat_eq, append_assoc}
 use Rattle.std.proofs.lemmas.Bool.{eqb-true, ne_eqb}
 use Rattle.std.proofs.lemmas.List.{append-nil, length-map}
 use Rattle.std.proofs.lemmas.List.Concat.{flat_map-cons}
 use Rattle.std.proofs.lemmas.List.Elements.{All-head, All-tail}
 use Rattle.std.proofs.lemmas.Slice.Eq.{bytes_eq-Decides}
 use Rattle.std.specs.List.{flat_map}
-use Rattle.itf_lines.specs.declared.word.LineWord.TheVariants.{Slashes, Mtid, Modl, Topi, Tabl, Obje, Elin, Etab, Etop, Emod, Ende}
+use Rattle.itf_lines.specs.declared.word.LineWord.TheVariants.{Slashes, Mtid, Modl, Topi, Tabl}
+use Rattle.itf_lines.specs.declared.word.LineWord.TheVariants.{Obje, Elin, Etab, Etop, Emod, Ende}
 use Rattle.itf_lines.specs.LogicalLines.{LogicalLine}
-use Rattle.itf_reader.specs.Forms.{Table, Form, Vertex, Row, TableRows, TopicRows, names, table_named, has_table, has_topic, fill_strokes}
-use Rattle.itf_reader.specs.TransferText.{line, IsVertices, no_vertex, straight_vertex, arc_vertex, IsStroke, undefined_stroke, defined_stroke, IsStrokes, no_stroke, more_strokes, IsObjects, no_object, more_objects, IsTables, no_table, more_tables, IsTopics, no_topic, more_topics, no_free, IsText, text}
+use Rattle.itf_reader.specs.Forms.{Table, Form, Vertex, Row, TableRows, TopicRows, names}
+use Rattle.itf_reader.specs.Forms.{table_named, has_table, has_topic, fill_strokes}
+use Rattle.itf_reader.specs.TransferText.{line, IsVertices, no_vertex, straight_vertex, arc_vertex}
+use Rattle.itf_reader.specs.TransferText.{IsStroke, undefined_stroke, defined_stroke, IsStrokes}
+use Rattle.itf_reader.specs.TransferText.{no_stroke, more_strokes, IsObjects, no_object}
+use Rattle.itf_reader.specs.TransferText.{more_objects, IsTables, no_table, more_tables, IsTopics}
+use Rattle.itf_reader.specs.TransferText.{no_topic, more_topics, no_free, IsText, text}
 use Rattle.itf_reader.specs.RowForms.{GoesOn, HasStrokeForm, IsCounted, HasForm, EachRow}
 use Rattle.itf_reader.specs.RowForms as form
-use Rattle.itf_writer.specs.Canonical.{stroke_lines, row_lines, table_lines, tables_lines, has_rows, topics_lines, canon_lines}
+use Rattle.itf_writer.specs.Canonical.{stroke_lines, row_lines, table_lines, tables_lines, has_rows}
+use Rattle.itf_writer.specs.Canonical.{topics_lines, canon_lines}
 use Rattle.itf_writer.specs.Same.{bare_stroke, bare_rows}
 use Rattle.itf_writer.proofs.Known.{Known, AllKnown, TopicRest, topic_rest_later, topic_known}
 use Rattle.itf_writer.proofs.SpelledLines.{head_lines}
 
 -- ---- one object
-vertices_built : (vs : List Vertex) (r : List LogicalLine) → GoesOn vs → IsVertices (bare_stroke vs) (stroke_lines vs ++ r) (line Elin 0 [] ∷ r)
+vertices_built : (vs : List Vertex) (r : List LogicalLine) → GoesOn vs
+    → IsVertices (bare_stroke vs) (stroke_lines vs ++ r) (line Elin 0 [] ∷ r)
 vertices_built _ r form.at_end = no_vertex (line Elin 0 [] ∷ r)
 vertices_built _ r (form.by_straight n fs vs h) = straight_vertex 0 fs (bare_stroke vs) (stroke_lines vs ++ r) _ (vertices_built vs r h)
 vertices_built _ r (form.by_arc n m fs gs vs h) = arc_vertex 0 0 fs gs (bare_stroke vs) (stroke_lines vs ++ r) _ (vertices_built vs r h)
 
-stroke_built : (s : List Vertex) (r : List LogicalLine) → HasStrokeForm s → IsStroke (bare_stroke s) (stroke_lines s ++ r) r
+stroke_built : (s : List Vertex) (r : List LogicalLine) → HasStrokeForm s
+    → IsStroke (bare_stroke s) (stroke_lines s ++ r) r
 stroke_built _ r form.undefined_stroke = undefined_stroke 0 [] r
 stroke_built _ r (form.defined_stroke n fs vs h) = defined_stroke 0 0 fs [] (bare_stroke vs) (stroke_lines vs ++ r) r (vertices_built vs r h)
 
-strokes_built : (ss : List (List Vertex)) (r : List LogicalLine) → All HasStrokeForm ss → IsStrokes (map bare_stroke ss) (flat_map stroke_lines ss ++ r) r
+strokes_built : (ss : List (List Vertex)) (r : List LogicalLine) → All HasStrokeForm ss
+    → IsStrokes (map bare_stroke ss) (flat_map stroke_lines ss ++ r) r
 strokes_built [] r h = no_stroke r
 strokes_built (s ∷ ss) r h =
     let e : stroke_lines s ++ (flat_map stroke_lines ss ++ r) ≡ flat_map stroke_lines (s ∷ ss) ++ r =
@@ -35,13 +47,15 @@ strokes_built (s ∷ ss) r h =
     subst (λ (w : List LogicalLine). IsStrokes (map bare_stroke (s ∷ ss)) w r) e
     (more_strokes (bare_stroke s) (map bare_stroke ss) _ (flat_map stroke_lines ss ++ r) r (stroke_built s (flat_map stroke_lines ss ++ r) (All-head HasStrokeForm s ss h)) (strokes_built ss r (All-tail HasStrokeForm s ss h)))
 
-none_missing : (lines : ℕ) (ss : List (List Vertex)) → length ss ≡ lines → fill_strokes lines (map bare_stroke ss) ≡ map bare_stroke ss
+none_missing : (lines : ℕ) (ss : List (List Vertex)) → length ss ≡ lines
+    → fill_strokes lines (map bare_stroke ss) ≡ map bare_stroke ss
 none_missing lines ss h =
     let l = length-map ss bare_stroke in
     let z : lines - length (map bare_stroke ss) ≡ 0 = omega (arith, l, h) in
     ap (λ (n : ℕ). map bare_stroke ss ++ replicate n []) z ∙ append-nil (map bare_stroke ss)
 
-objects_built : (lines : ℕ) (rows : List Row) (r : List LogicalLine) → All (IsCounted lines) rows → All (HasForm lines) rows → IsObjects lines (bare_rows rows) (flat_map row_lines rows ++ r) r
+objects_built : (lines : ℕ) (rows : List Row) (r : List LogicalLine) → All (IsCounted lines) rows
+    → All (HasForm lines) rows → IsObjects lines (bare_rows rows) (flat_map row_lines rows ++ r) r
 objects_built lines [] r h k = no_object r
 objects_built lines (row ∷ rows) r h k =
     let rest = flat_map row_lines rows ++ r in
@@ -82,7 +96,8 @@ kept k n [] transfer = []
 kept k n (t ∷ ts) [] = []
 kept k n (t ∷ ts) (rows ∷ others) = (if nat_eq t.topic k then some_rows n rows else []) ++ kept k (n + 1) ts others
 
-table_built : (f : Form) (k n : ℕ) (earlier : List TableRows) (t : Table) (rows : List Row) (cs : List TableRows) (ls r : List LogicalLine) → t.topic ≡ k → AreBelow n earlier → Known f n t rows
+table_built : (f : Form) (k n : ℕ) (earlier : List TableRows) (t : Table) (rows : List Row) (cs : List TableRows) (ls r : List LogicalLine)
+    → t.topic ≡ k → AreBelow n earlier → Known f n t rows
     → All (IsCounted t.lines) rows → All (HasForm t.lines) rows → ((before : List TableRows) → AreBelow (n + 1) before → IsTables f k before cs (ls ++ r) r)
     → IsTables f k earlier (some_rows n rows ++ cs) ((table_lines t.name rows ++ ls) ++ r) r
 table_built f k n earlier t [] cs ls r e b known counted formed rest = rest earlier (below_more n earlier b)
@@ -102,7 +117,8 @@ table_built f k n earlier t (row ∷ rows) cs ls r e b known counted formed rest
     not_none : (r : Row) (rows : List Row) → r ∷ rows ≡ [] → ⊥
     not_none r rows e = absurd cc
 
-tables_built : (f : Form) (k n : ℕ) (earlier : List TableRows) (ts : List Table) (transfer : List (List Row)) (r : List LogicalLine) → AreBelow n earlier → AllKnown f n ts transfer
+tables_built : (f : Form) (k n : ℕ) (earlier : List TableRows) (ts : List Table) (transfer : List (List Row)) (r : List LogicalLine)
+    → AreBelow n earlier → AllKnown f n ts transfer
     → EachRow IsCounted ts transfer → EachRow HasForm ts transfer → IsTables f k earlier (kept k n ts transfer) (tables_lines k ts transfer ++ r) r
 tables_built f k n earlier [] transfer r b a c d = no_table earlier r
 tables_built f k n earlier (t ∷ ts) [] r b a c d = absurd a
@@ -137,7 +153,8 @@ abbrev pub kept_topics : ℕ → List (List ℕ) → List Table → List (List R
 kept_topics k [] ts transfer = []
 kept_topics k (name ∷ names) ts transfer = some_topic (has_rows k ts transfer) k (kept k 0 ts transfer) ++ kept_topics (k + 1) names ts transfer
 
-topics_built : (f : Form) (k : ℕ) (earlier : List TopicRows) (ns : List (List ℕ)) (transfer : List (List Row)) (r : List LogicalLine) → TopicsBelow k earlier → TopicRest f k ns → AllKnown f 0 f.tables transfer
+topics_built : (f : Form) (k : ℕ) (earlier : List TopicRows) (ns : List (List ℕ)) (transfer : List (List Row)) (r : List LogicalLine)
+    → TopicsBelow k earlier → TopicRest f k ns → AllKnown f 0 f.tables transfer
     → EachRow IsCounted f.tables transfer → EachRow HasForm f.tables transfer → IsTopics f earlier (kept_topics k ns f.tables transfer) (topics_lines k ns f.tables transfer ++ r) r
 topics_built f k earlier [] transfer r b h a c d = no_topic earlier r
 topics_built f k earlier (name ∷ ns) transfer r b h a c d =
@@ -157,7 +174,8 @@ topics_built f k earlier (name ∷ ns) transfer r b h a c d =
       | false ↦ λ e. topics_built f (k + 1) earlier ns transfer r (topics_more k earlier b) (topic_rest_later f k name ns h) a c d
     ] refl
 
-pub canon_built : (f : Form) (transfer : List (List Row)) → AllKnown f 0 f.tables transfer → EachRow IsCounted f.tables transfer → EachRow HasForm f.tables transfer
+pub canon_built : (f : Form) (transfer : List (List Row)) → AllKnown f 0 f.tables transfer
+    → EachRow IsCounted f.tables transfer → EachRow HasForm f.tables transfer
     → IsText f (kept_topics 0 f.topics f.tables transfer) (head_lines ++ canon_lines f transfer)
 canon_built f transfer a c d =
     let u = topics_lines 0 f.topics f.tables transfer ++ line Emod 0 [] ∷ line Ende 0 [] ∷ [] in

@@ -1,12 +1,20 @@
 -- What is known of the rows of a text that was read: their tables and topics came by their names,
 -- and their fields are words.
-use Rattle.std.proofs.Common.{◌≡◌, ◌+◌, ◌⊎◌, inl, inr, ℕ, zero, suc, true, false, List, [], ◌∷◌, ◌++◌, replicate, ◌-◌, length, Some, refl, ap, sym, subst, if◌then◌else◌, nat_eq}
+use Rattle.std.proofs.Common.{◌≡◌, ◌+◌, ◌⊎◌, inl, inr, ℕ, zero, suc, true, false, List, [], ◌∷◌}
+use Rattle.std.proofs.Common.{◌++◌, replicate, ◌-◌, length, Some, refl, ap, sym, subst}
+use Rattle.std.proofs.Common.{if◌then◌else◌, nat_eq}
 use Rattle.std.proofs.lemmas.Bool.{eqb-true}
 use Rattle.std.proofs.lemmas.Slice.Eq.{bytes_eq-Decides}
 use Rattle.itf_lines.specs.Words.{same}
 use Rattle.itf_lines.specs.LogicalLines.{LogicalLine}
-use Rattle.itf_reader.specs.Forms.{Table, Form, Vertex, Row, TableRows, TopicRows, names, table_named, topic_named, rows_in, rows_from, tables_of}
-use Rattle.itf_reader.specs.TransferText.{IsVertices, no_vertex, straight_vertex, arc_vertex, IsStroke, undefined_stroke, defined_stroke, IsStrokes, no_stroke, more_strokes, IsObjects, no_object, more_objects, IsTables, no_table, more_tables, IsTopics, no_topic, more_topics, AreFree, no_free, more_free, IsText, text, TransferText}
+use Rattle.itf_reader.specs.Forms.{Table, Form, Vertex, Row, TableRows, TopicRows, names}
+use Rattle.itf_reader.specs.Forms.{table_named, topic_named, rows_in, rows_from, tables_of}
+use Rattle.itf_reader.specs.TransferText.{IsVertices, no_vertex, straight_vertex, arc_vertex}
+use Rattle.itf_reader.specs.TransferText.{IsStroke, undefined_stroke, defined_stroke, IsStrokes}
+use Rattle.itf_reader.specs.TransferText.{no_stroke, more_strokes, IsObjects, no_object}
+use Rattle.itf_reader.specs.TransferText.{more_objects, IsTables, no_table, more_tables, IsTopics}
+use Rattle.itf_reader.specs.TransferText.{no_topic, more_topics, AreFree, no_free, more_free}
+use Rattle.itf_reader.specs.TransferText.{IsText, text, TransferText}
 use Rattle.itf_writer.proofs.Words.{IsWord, AreWords, HaveWords}
 
 -- ---- words of rows
@@ -23,16 +31,19 @@ RowWords [] = Unit {0}
 RowWords (r ∷ rows) = AreWords r.fields × StrokeWords r.strokes × RowWords rows
 
 -- what is read has words, and what is left too
-vertices_words : (vs : List Vertex) (w r : List LogicalLine) → IsVertices vs w r → HaveWords w → VertexWords vs × HaveWords r
+vertices_words : (vs : List Vertex) (w r : List LogicalLine) → IsVertices vs w r → HaveWords w
+    → VertexWords vs × HaveWords r
 vertices_words _ _ _ (no_vertex r) h = (tt, h)
 vertices_words _ _ _ (straight_vertex n fs vs w r k) h = let i = vertices_words vs w r k h.1 in ((h.0, i.0), i.1)
 vertices_words _ _ _ (arc_vertex n m fs gs vs w r k) h = let i = vertices_words vs w r k h.1.1 in ((h.0, (h.1.0, i.0)), i.1)
 
-stroke_words : (s : List Vertex) (w r : List LogicalLine) → IsStroke s w r → HaveWords w → VertexWords s × HaveWords r
+stroke_words : (s : List Vertex) (w r : List LogicalLine) → IsStroke s w r → HaveWords w
+    → VertexWords s × HaveWords r
 stroke_words _ _ _ (undefined_stroke n fs r) h = (tt, h.1)
 stroke_words _ _ _ (defined_stroke n m fs gs vs w r k) h = let i = vertices_words vs w _ k h.1 in ((h.0, i.0), i.1.1)
 
-strokes_words : (ss : List (List Vertex)) (w r : List LogicalLine) → IsStrokes ss w r → HaveWords w → StrokeWords ss × HaveWords r
+strokes_words : (ss : List (List Vertex)) (w r : List LogicalLine) → IsStrokes ss w r → HaveWords w
+    → StrokeWords ss × HaveWords r
 strokes_words _ _ _ (no_stroke r) h = (tt, h)
 strokes_words _ _ _ (more_strokes s ss w u r k i) h =
     let a = stroke_words s w u k h in
@@ -47,7 +58,8 @@ more_words : (ss us : List (List Vertex)) → StrokeWords ss → StrokeWords us 
 more_words [] us h k = k
 more_words (s ∷ ss) us h k = (h.0, more_words ss us h.1 k)
 
-objects_words : (lines : ℕ) (rows : List Row) (w r : List LogicalLine) → IsObjects lines rows w r → HaveWords w → RowWords rows × HaveWords r
+objects_words : (lines : ℕ) (rows : List Row) (w r : List LogicalLine) → IsObjects lines rows w r
+    → HaveWords w → RowWords rows × HaveWords r
 objects_words lines _ _ _ (no_object r) h = (tt, h)
 objects_words lines _ _ _ (more_objects n fs ss rows w u r k l i) h =
     let a = strokes_words ss w u k h.1 in
@@ -71,7 +83,8 @@ abbrev AllCame : Form → List TableRows → Type 0
 AllCame f [] = Unit {0}
 AllCame f (c ∷ cs) = Came f c.table c.rows × AllCame f cs
 
-tables_came : (f : Form) (topic : ℕ) (gs : List (List ℕ)) (earlier ts : List TableRows) (w r : List LogicalLine) → topic_named 0 gs f.topics ≡ Some topic → AreWords gs
+tables_came : (f : Form) (topic : ℕ) (gs : List (List ℕ)) (earlier ts : List TableRows) (w r : List LogicalLine)
+    → topic_named 0 gs f.topics ≡ Some topic → AreWords gs
     → IsTables f topic earlier ts w r → HaveWords w → AllCame f ts × HaveWords r
 tables_came f topic gs _ _ _ _ e g (no_table earlier r) h = (tt, h)
 tables_came f topic gs _ _ _ _ e g (more_tables earlier n m i fs hs t rows ts w u r k l o s) h =
@@ -83,7 +96,8 @@ all_came-append : (f : Form) (a b : List TableRows) → AllCame f a → AllCame 
 all_came-append f [] b h k = k
 all_came-append f (c ∷ a) b h k = (h.0, all_came-append f a b h.1 k)
 
-topics_came : (f : Form) (earlier ts : List TopicRows) (w r : List LogicalLine) → IsTopics f earlier ts w r → HaveWords w → AllCame f (tables_of ts)
+topics_came : (f : Form) (earlier ts : List TopicRows) (w r : List LogicalLine)
+    → IsTopics f earlier ts w r → HaveWords w → AllCame f (tables_of ts)
 topics_came f _ _ _ _ (no_topic earlier r) h = tt
 topics_came f _ _ _ _ (more_topics earlier n m i fs gs tables ts w u r k l o s) h =
     let a = tables_came f i fs [] tables w _ k h.0 o h.1 in
@@ -109,7 +123,8 @@ AllPlaced f n [] [] = Unit {0}
 AllPlaced f n (t ∷ ts) (rows ∷ others) = Placed f n rows × AllPlaced f (n + 1) ts others
 AllPlaced f n ts transfer = ⊥
 
-placed_from : (f : Form) (n : ℕ) (ts : List Table) (cs : List TableRows) → AllCame f cs → AllPlaced f n ts (rows_from n ts cs)
+placed_from : (f : Form) (n : ℕ) (ts : List Table) (cs : List TableRows) → AllCame f cs
+    → AllPlaced f n ts (rows_from n ts cs)
 placed_from f n [] cs h = tt
 placed_from f n (t ∷ ts) cs h = (placed_in f n cs h, placed_from f (n + 1) ts cs h)
 
@@ -123,13 +138,16 @@ only_name (f ∷ []) name h = ap (λ (l : List ℕ). l ∷ []) (same_name f name
 only_name (f ∷ g ∷ fs) name h = absurd cc
 
 -- the rows of a text came by name, and its model has its name from a field
-pub text_placed : (f : Form) (ls : List LogicalLine) (transfer : List (List Row)) → TransferText f ls transfer → HaveWords ls → AllPlaced f 0 f.tables transfer × IsWord f.model
+pub text_placed : (f : Form) (ls : List LogicalLine) (transfer : List (List Row))
+    → TransferText f ls transfer → HaveWords ls → AllPlaced f 0 f.tables transfer × IsWord f.model
 text_placed f ls transfer t h = (subst (λ (x : List (List Row)). AllPlaced f 0 f.tables x) (sym t.2) (placed_from f 0 f.tables (tables_of t.0) (came f t.0 ls t.1 h)), model f t.0 ls t.1 h)
   where
-    came : (f : Form) (ts : List TopicRows) (ls : List LogicalLine) → IsText f ts ls → HaveWords ls → AllCame f (tables_of ts)
+    came : (f : Form) (ts : List TopicRows) (ls : List LogicalLine) → IsText f ts ls → HaveWords ls
+        → AllCame f (tables_of ts)
     came f _ _ (text n m i j k e fs gs hs is js ks ts w u a b o) h = topics_came f [] ts u _ o (free_words w _ a h.1).1.1.1
 
-    model : (f : Form) (ts : List TopicRows) (ls : List LogicalLine) → IsText f ts ls → HaveWords ls → IsWord f.model
+    model : (f : Form) (ts : List TopicRows) (ls : List LogicalLine) → IsText f ts ls → HaveWords ls
+        → IsWord f.model
     model f _ _ (text n m i j k e fs gs hs is js ks ts w u a b o) h =
         let words : AreWords is = (free_words w _ a h.1).1.1.0 in
         (subst (λ (x : List (List ℕ)). AreWords x) (only_name is f.model b) words).0

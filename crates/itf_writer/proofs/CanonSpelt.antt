@@ -1,15 +1,20 @@
 -- The canonical lines have words of a transfer, and fields that are words.
-use Rattle.std.proofs.Common.{◌≡◌, ◌+◌, ◌==◌, inl, inr, ℕ, Bool, true, false, not, ◌&&◌, List, [], ◌∷◌, ◌++◌, refl, subst, sym, if◌then◌else◌, nat_eq}
+use Rattle.std.proofs.Common.{◌≡◌, ◌+◌, ◌==◌, inl, inr, ℕ, Bool, true, false, not, ◌&&◌, List, []}
+use Rattle.std.proofs.Common.{◌∷◌, ◌++◌, refl, subst, sym, if◌then◌else◌, nat_eq}
 use Rattle.std.proofs.lemmas.List.Concat.{flat_map-cons}
 use Rattle.std.specs.Prelude.{codes}
 use Rattle.std.specs.List.{flat_map}
 use Rattle.itf_lines.specs.declared.word.LineWord.{LineWord}
-use Rattle.itf_lines.specs.declared.word.LineWord.TheVariants.{Mtid, Modl, Topi, Tabl, Obje, Stpt, Lipt, Arcp, Elin, Etab, Etop, Emod, Ende}
+use Rattle.itf_lines.specs.declared.word.LineWord.TheVariants.{Mtid, Modl, Topi, Tabl, Obje, Stpt}
+use Rattle.itf_lines.specs.declared.word.LineWord.TheVariants.{Lipt, Arcp, Elin, Etab, Etop, Emod}
+use Rattle.itf_lines.specs.declared.word.LineWord.TheVariants.{Ende}
 use Rattle.itf_lines.specs.Fields.{is_blank}
 use Rattle.itf_lines.specs.LogicalLines.{LogicalLine}
 use Rattle.itf_reader.specs.Forms.{Table, Form, Kind, Start, Straight, OnArc, Vertex, Row}
 use Rattle.itf_reader.specs.TransferText.{line}
-use Rattle.itf_writer.specs.Canonical.{vertex_word, stroke_lines, row_lines, table_lines, tables_lines, has_rows, topic_lines, topics_lines, canon_lines}
+use Rattle.itf_writer.specs.Canonical.{vertex_word, stroke_lines, row_lines, table_lines}
+use Rattle.itf_writer.specs.Canonical.{tables_lines, has_rows, topic_lines, topics_lines}
+use Rattle.itf_writer.specs.Canonical.{canon_lines}
 use Rattle.itf_writer.proofs.Words.{IsWord, one_byte, more_bytes}
 use Rattle.itf_writer.proofs.CameByName.{VertexWords, StrokeWords, RowWords}
 use Rattle.itf_writer.proofs.Known.{Known, AllKnown, TopicRest, topic_rest_later, topic_known}
@@ -94,7 +99,8 @@ rows_spelt (r ∷ rows) h =
     (spelt-append (row_lines r) (flat_map row_lines rows) (inside Obje obje, h.0, strokes_spelt r.strokes h.1) (rows_spelt rows h.2))
 
 -- ---- tables and topics
-table_spelt : {f : Form} {n : ℕ} (t : Table) (rows : List Row) → Known f n t rows → AreSpelt (table_lines t.name rows)
+table_spelt : {f : Form} {n : ℕ} (t : Table) (rows : List Row) → Known f n t rows
+    → AreSpelt (table_lines t.name rows)
 table_spelt t [] h = tt
 table_spelt t (r ∷ rows) h = elim h [
   | inl e ↦ absurd (not_none r rows e)
@@ -104,17 +110,21 @@ table_spelt t (r ∷ rows) h = elim h [
     not_none : (r : Row) (rows : List Row) → r ∷ rows ≡ [] → ⊥
     not_none r rows e = absurd cc
 
-spelt_if : (b : Bool) (ls : List LogicalLine) → (b ≡ true → AreSpelt ls) → AreSpelt (if b then ls else [])
+spelt_if : (b : Bool) (ls : List LogicalLine) → (b ≡ true → AreSpelt ls)
+    → AreSpelt (if b then ls else [])
 spelt_if true ls h = h refl
 spelt_if false ls h = tt
 
-tables_spelt : (f : Form) (k n : ℕ) (ts : List Table) (transfer : List (List Row)) → AllKnown f n ts transfer → AreSpelt (tables_lines k ts transfer)
+tables_spelt : (f : Form) (k n : ℕ) (ts : List Table) (transfer : List (List Row))
+    → AllKnown f n ts transfer → AreSpelt (tables_lines k ts transfer)
 tables_spelt f k n [] transfer h = tt
 tables_spelt f k n (t ∷ ts) [] h = absurd h
 tables_spelt f k n (t ∷ ts) (rows ∷ others) h =
     spelt-append (if nat_eq t.topic k then table_lines t.name rows else []) (tables_lines k ts others) (spelt_if (nat_eq t.topic k) (table_lines t.name rows) (λ e. table_spelt {f = f} {n = n} t rows h.0)) (tables_spelt f k (n + 1) ts others h.1)
 
-topics_spelt : (f : Form) (k : ℕ) (names : List (List ℕ)) (transfer : List (List Row)) → TopicRest f k names → AllKnown f 0 f.tables transfer → AreSpelt (topics_lines k names f.tables transfer)
+topics_spelt : (f : Form) (k : ℕ) (names : List (List ℕ)) (transfer : List (List Row))
+    → TopicRest f k names → AllKnown f 0 f.tables transfer
+    → AreSpelt (topics_lines k names f.tables transfer)
 topics_spelt f k [] transfer h a = tt
 topics_spelt f k (name ∷ names) transfer h a =
     let ls = tables_lines k f.tables transfer in
@@ -123,7 +133,8 @@ topics_spelt f k (name ∷ names) transfer h a =
     (λ e. (inside Topi topi, ((topic_known f k name names transfer h e a).1, tt), spelt-append ls (line Etop 0 [] ∷ []) (tables_spelt f k 0 f.tables transfer a) (inside Etop etop, tt, tt))))
     (topics_spelt f (k + 1) names transfer (topic_rest_later f k name names h) a)
 
-pub canon_spelt : (f : Form) (transfer : List (List Row)) → IsWord f.model → AllKnown f 0 f.tables transfer → AreSpelt (canon_lines f transfer)
+pub canon_spelt : (f : Form) (transfer : List (List Row)) → IsWord f.model
+    → AllKnown f 0 f.tables transfer → AreSpelt (canon_lines f transfer)
 canon_spelt f transfer m a = (
   inside Mtid mtid,
   tt,

@@ -1,5 +1,6 @@
 -- Lines by their last byte.
-use Rattle.std.proofs.Common.{◌≡◌, ◌-◌, ◌==◌, ℕ, Bool, true, false, cond, ◌&&◌, List, [], ◌∷◌, ◌++◌, length, take, refl, ap, ◌∙◌, arith, nat_lt, nat_eq}
+use Rattle.std.proofs.Common.{◌≡◌, ◌-◌, ◌==◌, ℕ, Bool, true, false, cond, ◌&&◌, List, [], ◌∷◌, ◌++◌}
+use Rattle.std.proofs.Common.{length, take, refl, ap, ◌∙◌, arith, nat_lt, nat_eq}
 use Rattle.std.specs.Prelude.{slice_index}
 use Rattle.std.proofs.lemmas.List.{length-append}
 use Rattle.bstr.specs.Text.{without_terminator, no_cr}
@@ -19,7 +20,8 @@ place front c = let l = length-append front (c ∷ []) in omega (arith, l)
 is_there : (front : List ℕ) (c : ℕ) → nat_lt 0 (length (front ++ c ∷ [])) ≡ true
 is_there front c = let l = length-append front (c ∷ []) in search (arith, l)
 
-last_is : (front : List ℕ) (c code : ℕ) → (nat_lt 0 (length (front ++ c ∷ [])) && slice_index (front ++ c ∷ []) (length (front ++ c ∷ []) - 1) == code) ≡ (c == code)
+last_is : (front : List ℕ) (c code : ℕ)
+    → (nat_lt 0 (length (front ++ c ∷ [])) && slice_index (front ++ c ∷ []) (length (front ++ c ∷ []) - 1) == code) ≡ (c == code)
 last_is front c code =
     ap (λ (b : Bool). b && slice_index (front ++ c ∷ []) (length (front ++ c ∷ []) - 1) == code) (is_there front c)
     ∙ (ap (λ (i : ℕ). slice_index (front ++ c ∷ []) i == code) (place front c) ∙ ap (λ (d : ℕ). d == code) (last_at front c))
@@ -37,14 +39,16 @@ pub cr_off : (front : List ℕ) → no_cr (front ++ 13 ∷ []) ≡ front
 cr_off front = ap (λ (b : Bool). cond b (take (length (front ++ 13 ∷ []) - 1) (front ++ 13 ∷ [])) (front ++ 13 ∷ [])) (last_is front 13 13) ∙ front_is front 13
 
 -- but no other byte
-pub other_stays : (front : List ℕ) (c : ℕ) → (c == 13) ≡ false → no_cr (front ++ c ∷ []) ≡ front ++ c ∷ []
+pub other_stays : (front : List ℕ) (c : ℕ) → (c == 13) ≡ false
+    → no_cr (front ++ c ∷ []) ≡ front ++ c ∷ []
 other_stays front c h = ap (λ (b : Bool). cond b (take (length (front ++ c ∷ []) - 1) (front ++ c ∷ [])) (front ++ c ∷ [])) (last_is front c 13 ∙ h)
 
 pub last_off : (front : List ℕ) (c : ℕ) → without_last (front ++ c ∷ []) ≡ front
 last_off front c = front_is front c
 
 -- the last byte tells whether a line goes on
-pub ends_in_last : (code : ℕ) (front : List ℕ) (c : ℕ) → ends_in code (front ++ c ∷ []) ≡ nat_eq c code
+pub ends_in_last : (code : ℕ) (front : List ℕ) (c : ℕ)
+    → ends_in code (front ++ c ∷ []) ≡ nat_eq c code
 ends_in_last code [] c = refl
 ends_in_last code (d ∷ []) c = refl
 ends_in_last code (d ∷ e ∷ front) c = ends_in_last code (e ∷ front) c
@@ -54,7 +58,8 @@ not_blank [] c h = rw h refl
 not_blank (d ∷ front) c h = elim (is_blank d) as (λ b. (b && all_blank (front ++ c ∷ [])) ≡ false) [ true ↦ not_blank front c h | false ↦ refl ]
 
 -- nothing is dropped behind a byte that is no blank
-pub nothing_dropped : (front : List ℕ) (c : ℕ) → is_blank c ≡ false → trim_end (front ++ c ∷ []) ≡ front ++ c ∷ []
+pub nothing_dropped : (front : List ℕ) (c : ℕ) → is_blank c ≡ false
+    → trim_end (front ++ c ∷ []) ≡ front ++ c ∷ []
 nothing_dropped [] c h = rw h refl
 nothing_dropped (d ∷ front) c h =
     rw (not_blank front c h, nothing_dropped front c h) (elim (is_blank d) as (λ b. cond (b && false) [] (d ∷ (front ++ c ∷ [])) ≡ d ∷ (front ++ c ∷ [])) [ true ↦ refl | false ↦ refl ])

@@ -1,8 +1,10 @@
 -- The canonical text of a transfer that was read is read as the same transfer.
-use Rattle.std.proofs.Common.{◌≡◌, ◌≤◌, ◌+◌, ◌==◌, ℕ, true, false, List, [], ◌∷◌, ◌++◌, map, refl, ap, sym, ◌∙◌, arith, if◌then◌else◌, nat_eq}
+use Rattle.std.proofs.Common.{◌≡◌, ◌≤◌, ◌+◌, ◌==◌, ℕ, true, false, List, [], ◌∷◌, ◌++◌, map, refl}
+use Rattle.std.proofs.Common.{ap, sym, ◌∙◌, arith, if◌then◌else◌, nat_eq}
 use Rattle.std.proofs.lemmas.Bool.{ne_eqb}
 use Rattle.itf_lines.specs.LogicalLines.{LogicalLines, logical}
-use Rattle.itf_reader.specs.Forms.{Table, Form, Vertex, Row, TableRows, TopicRows, rows_in, rows_from, tables_of, rows_by_form}
+use Rattle.itf_reader.specs.Forms.{Table, Form, Vertex, Row, TableRows, TopicRows, rows_in}
+use Rattle.itf_reader.specs.Forms.{rows_from, tables_of, rows_by_form}
 use Rattle.itf_reader.specs.Readings.{IsRead}
 use Rattle.itf_reader.proofs.RowLaws.{rows_counted, rows_formed}
 use Rattle.itf_writer.specs.Canonical.{canon_lines, canon_text}
@@ -28,7 +30,8 @@ bare_rows_in n (c ∷ cs) = elim (nat_eq c.table n) as (λ b. bare_rows (if b th
   | false ↦ bare_rows_in n cs
 ]
 
-bare_from : (n : ℕ) (ts : List Table) (cs : List TableRows) → bare (rows_from n ts cs) ≡ rows_from n ts (bare_tables cs)
+bare_from : (n : ℕ) (ts : List Table) (cs : List TableRows)
+    → bare (rows_from n ts cs) ≡ rows_from n ts (bare_tables cs)
 bare_from n [] cs = refl
 bare_from n (t ∷ ts) cs =
     ap (λ (r : List Row). r ∷ bare (rows_from (n + 1) ts cs)) (bare_rows_in n cs) ∙ ap (λ (r : List (List Row)). rows_in n (bare_tables cs) ∷ r) (bare_from (n + 1) ts cs)
@@ -37,14 +40,16 @@ bare_tables_of : (ts : List TopicRows) → bare_tables (tables_of ts) ≡ tables
 bare_tables_of [] = refl
 bare_tables_of (t ∷ ts) = map_append t.tables (tables_of ts) ∙ ap (λ (l : List TableRows). bare_tables t.tables ++ l) (bare_tables_of ts)
 
-bare_by_form : (f : Form) (ts : List TopicRows) → bare (rows_by_form f ts) ≡ rows_by_form f (bare_topics ts)
+bare_by_form : (f : Form) (ts : List TopicRows)
+    → bare (rows_by_form f ts) ≡ rows_by_form f (bare_topics ts)
 bare_by_form f ts = bare_from 0 f.tables (tables_of ts) ∙ ap (rows_from 0 f.tables) (bare_tables_of ts)
 
 twice_stroke : (s : List Vertex) → bare_stroke (bare_stroke s) ≡ bare_stroke s
 twice_stroke [] = refl
 twice_stroke (v ∷ vs) = ap (λ (l : List Vertex). bare_vertex v ∷ l) (twice_stroke vs)
 
-twice_strokes : (ss : List (List Vertex)) → map bare_stroke (map bare_stroke ss) ≡ map bare_stroke ss
+twice_strokes : (ss : List (List Vertex))
+    → map bare_stroke (map bare_stroke ss) ≡ map bare_stroke ss
 twice_strokes [] = refl
 twice_strokes (s ∷ ss) = ap (λ (x : List Vertex). x ∷ map bare_stroke (map bare_stroke ss)) (twice_stroke s) ∙ ap (λ (l : List (List Vertex)). bare_stroke s ∷ l) (twice_strokes ss)
 
@@ -71,7 +76,8 @@ code_of_model code h k = record {
 }
 
 -- ---- the text
-pub read_again : (code : ℕ) (f : Form) (given : LogicalLines) (t : List (List Row)) → IsCode code → IsRead f given t → HaveWords given.lines
+pub read_again : (code : ℕ) (f : Form) (given : LogicalLines) (t : List (List Row)) → IsCode code
+    → IsRead f given t → HaveWords given.lines
     → (u : List (List Row)) × IsRead f (logical code (canon_text code f t)) u × Same t u
 read_again code f given t c h w =
     let placed = text_placed f given.lines t h.1 w in

@@ -1,5 +1,6 @@
 -- The lines of a canonical text are read as they were written, but for their numbers.
-use Rattle.std.proofs.Common.{◌≡◌, ◌+◌, ◌==◌, ℕ, Bool, true, false, List, [], ◌∷◌, ◌++◌, map, refl, ap, sym, subst, ◌∙◌, if◌then◌else◌, nat_eq, None, append_assoc}
+use Rattle.std.proofs.Common.{◌≡◌, ◌+◌, ◌==◌, ℕ, Bool, true, false, List, [], ◌∷◌, ◌++◌, map, refl}
+use Rattle.std.proofs.Common.{ap, sym, subst, ◌∙◌, if◌then◌else◌, nat_eq, None, append_assoc}
 use Rattle.std.proofs.lemmas.Bool.{eq-eqb}
 use Rattle.std.proofs.lemmas.List.{append-nil}
 use Rattle.std.proofs.lemmas.List.Concat.{flat_map-cons}
@@ -9,18 +10,22 @@ use Rattle.bstr.specs.Text.{no_cr}
 use Rattle.itf_lines.specs.declared.word.LineWord.{LineWord}
 use Rattle.itf_lines.specs.declared.word.LineWord.TheVariants.{Scnt, Slashes}
 use Rattle.itf_lines.specs.Words.{same, word_of}
-use Rattle.itf_lines.specs.Fields.{physical_lines, is_blank, fields, ends_field, with_first_byte, trim_end, ends_in, without_last}
+use Rattle.itf_lines.specs.Fields.{physical_lines, is_blank, fields, ends_field, with_first_byte}
+use Rattle.itf_lines.specs.Fields.{trim_end, ends_in, without_last}
 use Rattle.itf_lines.specs.FeedStates.{has_no_lf}
-use Rattle.itf_lines.specs.LogicalLines.{LogicalLine, LogicalLines, logical, is_cont, without_code, goes_on, line_with}
+use Rattle.itf_lines.specs.LogicalLines.{LogicalLine, LogicalLines, logical, is_cont, without_code}
+use Rattle.itf_lines.specs.LogicalLines.{goes_on, line_with}
 use Rattle.itf_lines.specs.PassStates.{in_the_head, between, waiting}
-use Rattle.itf_lines.specs.Pass.{Rest, Step, lines_then, no_fields, with_fields, end_step, fault_step, start_step, continue_step, step, pass}
+use Rattle.itf_lines.specs.Pass.{Rest, Step, lines_then, no_fields, with_fields, end_step}
+use Rattle.itf_lines.specs.Pass.{fault_step, start_step, continue_step, step, pass}
 use Rattle.itf_lines.specs.declared.logical.LineFault.TheVariants.{StrayCont}
 use Rattle.itf_lines.proofs.Gathering.{gathered_line}
 use Rattle.itf_lines.proofs.LineCuts.{cut_physical, no_lf-append, nothing_physical}
 use Rattle.itf_lines.proofs.PassLaws.{whole_pass}
 use Rattle.itf_reader.specs.TransferText.{line}
 use Rattle.itf_writer.specs.Canonical.{spelt, blank_before, line_end, line_text}
-use Rattle.itf_writer.proofs.LastBytes.{terminator_off, cr_off, other_stays, last_off, ends_in_last, nothing_dropped}
+use Rattle.itf_writer.proofs.LastBytes.{terminator_off, cr_off, other_stays, last_off, ends_in_last}
+use Rattle.itf_writer.proofs.LastBytes.{nothing_dropped}
 use Rattle.itf_writer.proofs.Renumbered.{bare_line}
 use Rattle.itf_writer.proofs.Words.{IsWord, one_byte, more_bytes, AreWords}
 
@@ -29,7 +34,8 @@ starts : (w rest : List ℕ) → IsWord w → ends_field (w ++ rest) ≡ false
 starts _ rest (one_byte c h k) = h
 starts _ rest (more_bytes c w h k i) = h
 
-first_field : (w rest : List ℕ) → IsWord w → ends_field rest ≡ true → fields (w ++ rest) ≡ w ∷ fields rest
+first_field : (w rest : List ℕ) → IsWord w → ends_field rest ≡ true
+    → fields (w ++ rest) ≡ w ∷ fields rest
 first_field _ rest (one_byte c h k) e = rw (h, e) refl
 first_field _ rest (more_bytes c w h k i) e = rw (h, starts w rest i) (ap (with_first_byte c) (first_field w rest i e))
 
@@ -42,7 +48,8 @@ fields_before [] h = refl
 fields_before (w ∷ ws) h = first_field w (blank_before ws) h.0 (blanks_end ws) ∙ ap (λ (fs : List (List ℕ)). w ∷ fs) (fields_before ws h.1)
 
 -- the fields of a word with others
-fields_of_words : (w : List ℕ) (ws : List (List ℕ)) → IsWord w → AreWords ws → fields (w ++ blank_before ws) ≡ w ∷ ws
+fields_of_words : (w : List ℕ) (ws : List (List ℕ)) → IsWord w → AreWords ws
+    → fields (w ++ blank_before ws) ≡ w ∷ ws
 fields_of_words w ws h k = first_field w (blank_before ws) h (blanks_end ws) ∙ ap (λ (fs : List (List ℕ)). w ∷ fs) (fields_before ws k)
 
 word_plain : (w : List ℕ) → IsWord w → has_no_lf w ≡ true
@@ -70,7 +77,8 @@ word_last _ (more_bytes c w h k i) =
 further_last : (a l : List ℕ) → HasLast l → HasLast (a ++ l)
 further_last a l h = record { front = a ++ h.front; byte = h.byte; ends = ap (λ (x : List ℕ). a ++ x) h.ends ∙ sym (append_assoc a h.front (h.byte ∷ [])); solid = h.solid; plain = h.plain }
 
-bytes_last : (w : List ℕ) (ws : List (List ℕ)) → IsWord w → AreWords ws → HasLast (w ++ blank_before ws)
+bytes_last : (w : List ℕ) (ws : List (List ℕ)) → IsWord w → AreWords ws
+    → HasLast (w ++ blank_before ws)
 bytes_last w [] h k = subst (λ (l : List ℕ). HasLast l) (sym (append-nil w)) (word_last w h)
 bytes_last w (v ∷ ws) h k = further_last w (32 ∷ (v ++ blank_before ws)) (further_last (32 ∷ []) (v ++ blank_before ws) (bytes_last v ws k.0 k.1))
 
@@ -83,7 +91,8 @@ pub record IsCode (code : ℕ) : Type 0 where
   pub cont : (84 == code) ≡ false
 
 -- a physical line that is not continued is its line
-one_line : (code n : ℕ) (l w : List ℕ) (ws : List (List ℕ)) (rest : List (List ℕ)) → goes_on code l ≡ false → fields l ≡ w ∷ ws → same w (codes "CONT") ≡ false
+one_line : (code n : ℕ) (l w : List ℕ) (ws : List (List ℕ)) (rest : List (List ℕ))
+    → goes_on code l ≡ false → fields l ≡ w ∷ ws → same w (codes "CONT") ≡ false
     → pass code n between (l ∷ rest) ≡ lines_then (line (word_of w) n ws ∷ []) (pass code (n + 1) between rest)
 one_line code n l w ws rest g f k =
     let text : without_code code l ≡ l = rw g refl in
@@ -94,7 +103,8 @@ one_line code n l w ws rest g f k =
     ap (λ (t : Step). lines_then t.lines (pass code (n + 1) t.next rest)) s
 
 -- a line with the code once more, and CONT behind it
-two_lines : (code n : ℕ) (l w : List ℕ) (ws : List (List ℕ)) (rest : List (List ℕ)) → IsCode code → fields l ≡ w ∷ ws → same w (codes "CONT") ≡ false
+two_lines : (code n : ℕ) (l w : List ℕ) (ws : List (List ℕ)) (rest : List (List ℕ)) → IsCode code
+    → fields l ≡ w ∷ ws → same w (codes "CONT") ≡ false
     → pass code n between ((l ++ code ∷ []) ∷ codes "CONT" ∷ rest) ≡ lines_then (line (word_of w) n ws ∷ []) (pass code (n + 1 + 1) between rest)
 two_lines code n l w ws rest c f k =
     let held = with_fields (no_fields n) (fields l) in
@@ -121,10 +131,12 @@ Passes code n text l z = (m : ℕ) × (pass code n between (physical_lines (text
 abbrev text_with : List ℕ → List ℕ → List ℕ
 text_with bytes end = bytes ++ end
 
-cut_line : (bytes z front : List ℕ) → has_no_lf bytes ≡ true → no_cr bytes ≡ front → physical_lines (bytes ++ 10 ∷ z) ≡ front ∷ physical_lines z
+cut_line : (bytes z front : List ℕ) → has_no_lf bytes ≡ true → no_cr bytes ≡ front
+    → physical_lines (bytes ++ 10 ∷ z) ≡ front ∷ physical_lines z
 cut_line bytes z front h k = cut_physical bytes z h ∙ ap (λ (l : List ℕ). l ∷ physical_lines z) (terminator_off bytes ∙ k)
 
-doubled : (code n : ℕ) (bytes w : List ℕ) (ws : List (List ℕ)) (z : List ℕ) → IsCode code → has_no_lf bytes ≡ true → fields bytes ≡ w ∷ ws → same w (codes "CONT") ≡ false
+doubled : (code n : ℕ) (bytes w : List ℕ) (ws : List (List ℕ)) (z : List ℕ) → IsCode code
+    → has_no_lf bytes ≡ true → fields bytes ≡ w ∷ ws → same w (codes "CONT") ≡ false
     → Passes code n (bytes ++ code ∷ codes "\nCONT\n") (line (word_of w) n ws) z
 doubled code n bytes w ws z c h f k =
     let all : (bytes ++ code ∷ codes "\nCONT\n") ++ z ≡ (bytes ++ code ∷ []) ++ 10 ∷ (codes "CONT" ++ 10 ∷ z) =
@@ -135,7 +147,9 @@ doubled code n bytes w ws z c h f k =
     ∙ ap (λ (ls : List (List ℕ)). (bytes ++ code ∷ []) ∷ ls) (cut_line (codes "CONT") z (codes "CONT") refl refl)) in
     (n + 1 + 1, ap (pass code n between) lines ∙ two_lines code n bytes w ws (physical_lines z) c f k)
 
-with_cr : (code n : ℕ) (bytes w : List ℕ) (ws : List (List ℕ)) (z : List ℕ) → goes_on code bytes ≡ false → has_no_lf bytes ≡ true → fields bytes ≡ w ∷ ws → same w (codes "CONT") ≡ false
+with_cr : (code n : ℕ) (bytes w : List ℕ) (ws : List (List ℕ)) (z : List ℕ)
+    → goes_on code bytes ≡ false → has_no_lf bytes ≡ true → fields bytes ≡ w ∷ ws
+    → same w (codes "CONT") ≡ false
     → Passes code n (bytes ++ codes "\r\n") (line (word_of w) n ws) z
 with_cr code n bytes w ws z g h f k =
     let all : (bytes ++ codes "\r\n") ++ z ≡ (bytes ++ 13 ∷ []) ++ 10 ∷ z = append_assoc bytes (codes "\r\n") z ∙ sym (append_assoc bytes (13 ∷ []) (10 ∷ z)) in
@@ -143,7 +157,9 @@ with_cr code n bytes w ws z g h f k =
     ap physical_lines all ∙ cut_line (bytes ++ 13 ∷ []) z bytes (no_lf-append bytes (13 ∷ []) h refl) (cr_off bytes) in
     (n + 1, ap (pass code n between) lines ∙ one_line code n bytes w ws (physical_lines z) g f k)
 
-alone : (code n : ℕ) (bytes w : List ℕ) (ws : List (List ℕ)) (z : List ℕ) → goes_on code bytes ≡ false → has_no_lf bytes ≡ true → no_cr bytes ≡ bytes → fields bytes ≡ w ∷ ws → same w (codes "CONT") ≡ false
+alone : (code n : ℕ) (bytes w : List ℕ) (ws : List (List ℕ)) (z : List ℕ)
+    → goes_on code bytes ≡ false → has_no_lf bytes ≡ true → no_cr bytes ≡ bytes
+    → fields bytes ≡ w ∷ ws → same w (codes "CONT") ≡ false
     → Passes code n (bytes ++ codes "\n") (line (word_of w) n ws) z
 alone code n bytes w ws z g h r f k =
     let lines : physical_lines ((bytes ++ codes "\n") ++ z) ≡ bytes ∷ physical_lines z = ap physical_lines (append_assoc bytes (codes "\n") z) ∙ cut_line bytes z bytes h r in
@@ -154,10 +170,12 @@ kept_whole bytes l h =
     let e : (l.byte == 13) ≡ false = sym (ends_in_last 13 l.front l.byte) ∙ (ap (ends_in 13) (sym l.ends) ∙ h) in
     ap no_cr l.ends ∙ (other_stays l.front l.byte e ∙ sym l.ends)
 
-goes_not : (code : ℕ) (bytes : List ℕ) (l : HasLast bytes) → ends_in code bytes ≡ false → goes_on code bytes ≡ false
+goes_not : (code : ℕ) (bytes : List ℕ) (l : HasLast bytes) → ends_in code bytes ≡ false
+    → goes_on code bytes ≡ false
 goes_not code bytes l h = ap (λ (x : List ℕ). ends_in code (trim_end x)) l.ends ∙ (ap (ends_in code) (nothing_dropped l.front l.byte l.solid) ∙ (ap (ends_in code) (sym l.ends) ∙ h))
 
-pub spelled_line : (code n : ℕ) (w : List ℕ) (ws : List (List ℕ)) (z : List ℕ) → IsCode code → IsWord w → same w (codes "CONT") ≡ false → AreWords ws
+pub spelled_line : (code n : ℕ) (w : List ℕ) (ws : List (List ℕ)) (z : List ℕ) → IsCode code
+    → IsWord w → same w (codes "CONT") ≡ false → AreWords ws
     → Passes code n ((w ++ blank_before ws) ++ line_end code (w ++ blank_before ws)) (line (word_of w) n ws) z
 spelled_line code n w ws z c h k a =
     let bytes = w ++ blank_before ws in
@@ -175,7 +193,8 @@ spelled_line code n w ws z c h k a =
 -- ---- many lines
 -- the words that a canonical text has after its head
 pub data IsSpelt : LineWord → Type 0 where
-  is_spelt : (w : LineWord) → IsWord (spelt w) → same (spelt w) (codes "CONT") ≡ false → word_of (spelt w) ≡ w → IsSpelt w
+  is_spelt : (w : LineWord) → IsWord (spelt w) → same (spelt w) (codes "CONT") ≡ false
+      → word_of (spelt w) ≡ w → IsSpelt w
 
 abbrev pub AreSpelt : List LogicalLine → Type 0
 AreSpelt [] = Unit {0}
@@ -185,16 +204,19 @@ AreSpelt (l ∷ ls) = IsSpelt l.word × AreWords l.fields × AreSpelt ls
 abbrev pub Gives : Rest → List LogicalLine → Type 0
 Gives r ls = (map bare_line r.lines ≡ map bare_line ls) × (r.fault ≡ None)
 
-one_more : (r : Rest) (l k : LogicalLine) (ls : List LogicalLine) → bare_line k ≡ bare_line l → Gives r ls → Gives (lines_then (k ∷ []) r) (l ∷ ls)
+one_more : (r : Rest) (l k : LogicalLine) (ls : List LogicalLine) → bare_line k ≡ bare_line l
+    → Gives r ls → Gives (lines_then (k ∷ []) r) (l ∷ ls)
 one_more r l k ls e h = (ap (λ (x : List LogicalLine). bare_line k ∷ x) h.0 ∙ ap (λ (x : LogicalLine). x ∷ map bare_line ls) e, h.1)
 
-spelled : (code n : ℕ) (l : LogicalLine) (z : List ℕ) → IsCode code → IsSpelt l.word → AreWords l.fields
+spelled : (code n : ℕ) (l : LogicalLine) (z : List ℕ) → IsCode code → IsSpelt l.word
+    → AreWords l.fields
     → (m : ℕ) × (k : LogicalLine) × (bare_line k ≡ bare_line l) × (pass code n between (physical_lines (line_text code l ++ z)) ≡ lines_then (k ∷ []) (pass code m between (physical_lines z)))
 spelled code n l z c (is_spelt w h k e) a =
     let s = spelled_line code n (spelt w) l.fields z c h k a in
     (s.0, line (word_of (spelt w)) n l.fields, ap (λ (x : LineWord). line x 0 l.fields) e, s.1)
 
-pub spelled_lines : (code n : ℕ) (ls : List LogicalLine) → IsCode code → AreSpelt ls → Gives (pass code n between (physical_lines (flat_map (line_text code) ls))) ls
+pub spelled_lines : (code n : ℕ) (ls : List LogicalLine) → IsCode code → AreSpelt ls
+    → Gives (pass code n between (physical_lines (flat_map (line_text code) ls))) ls
 spelled_lines code n [] c h = subst (λ (ps : List (List ℕ)). Gives (pass code n between ps) []) (sym nothing_physical) (refl, refl)
 spelled_lines code n (l ∷ ls) c h =
     let z = flat_map (line_text code) ls in
@@ -206,7 +228,8 @@ spelled_lines code n (l ∷ ls) c h =
 abbrev head_text : List ℕ
 head_text = codes "SCNT\n////\n"
 
-head_cut : (z : List ℕ) → physical_lines (head_text ++ z) ≡ codes "SCNT" ∷ codes "////" ∷ physical_lines z
+head_cut : (z : List ℕ)
+    → physical_lines (head_text ++ z) ≡ codes "SCNT" ∷ codes "////" ∷ physical_lines z
 head_cut z = cut_line (codes "SCNT") (codes "////\n" ++ z) (codes "SCNT") refl refl ∙ ap (λ (ls : List (List ℕ)). codes "SCNT" ∷ ls) (cut_line (codes "////") z (codes "////") refl refl)
 
 abbrev pub head_lines : List LogicalLine

@@ -1,13 +1,18 @@
 -- Fields are words: one or more bytes, none of them a blank, a tab or a LF.
-use Rattle.std.proofs.Common.{◌≡◌, ◌+◌, ◌-◌, ◌==◌, ℕ, zero, suc, Bool, true, false, not, cond, ◌&&◌, List, [], ◌∷◌, ◌++◌, map, length, take, drop, refl, ap, sym, subst, ◌∙◌, if◌then◌else◌, Option, Some, None}
+use Rattle.std.proofs.Common.{◌≡◌, ◌+◌, ◌-◌, ◌==◌, ℕ, zero, suc, Bool, true, false, not, cond, ◌&&◌}
+use Rattle.std.proofs.Common.{List, [], ◌∷◌, ◌++◌, map, length, take, drop, refl, ap, sym, subst}
+use Rattle.std.proofs.Common.{◌∙◌, if◌then◌else◌, Option, Some, None}
 use Rattle.std.proofs.lemmas.Bool.{eqb-true}
 use Rattle.bstr.specs.Text.{lines_from, line_len, without_terminator, no_cr}
 use Rattle.itf_lines.specs.declared.word.LineWord.{LineWord}
-use Rattle.itf_lines.specs.Fields.{physical_lines, is_blank, with_first_byte, ends_field, fields, all_blank, trim_end, without_last}
+use Rattle.itf_lines.specs.Fields.{physical_lines, is_blank, with_first_byte, ends_field, fields}
+use Rattle.itf_lines.specs.Fields.{all_blank, trim_end, without_last}
 use Rattle.itf_lines.specs.FeedStates.{has_no_lf}
-use Rattle.itf_lines.specs.LogicalLines.{LogicalLine, logical, is_slashes, is_cont, without_first, without_code, goes_on}
+use Rattle.itf_lines.specs.LogicalLines.{LogicalLine, logical, is_slashes, is_cont, without_first}
+use Rattle.itf_lines.specs.LogicalLines.{without_code, goes_on}
 use Rattle.itf_lines.specs.PassStates.{OpenLine, PassState, in_the_head, between, waiting, broken}
-use Rattle.itf_lines.specs.Pass.{Step, no_fields, add_field, with_field, with_fields, line_by_word, end_step, fault_step, step, pass}
+use Rattle.itf_lines.specs.Pass.{Step, no_fields, add_field, with_field, with_fields, line_by_word}
+use Rattle.itf_lines.specs.Pass.{end_step, fault_step, step, pass}
 use Rattle.itf_lines.specs.declared.logical.LineFault.TheVariants.{OpenContinue, StrayCont}
 use Rattle.itf_lines.proofs.PassLaws.{whole_pass}
 use Rattle.itf_lines.specs.LogicalLines.{LogicalLines}
@@ -15,7 +20,8 @@ use Rattle.itf_writer.proofs.LastBytes.{terminator_off}
 
 pub data IsWord : List ℕ → Type 0 where
   one_byte : (c : ℕ) → is_blank c ≡ false → (c == 10) ≡ false → IsWord (c ∷ [])
-  more_bytes : (c : ℕ) (w : List ℕ) → is_blank c ≡ false → (c == 10) ≡ false → IsWord w → IsWord (c ∷ w)
+  more_bytes : (c : ℕ) (w : List ℕ) → is_blank c ≡ false → (c == 10) ≡ false → IsWord w
+      → IsWord (c ∷ w)
 
 abbrev pub AreWords : List (List ℕ) → Type 0
 AreWords [] = Unit {0}
@@ -39,7 +45,8 @@ both : (a b : Bool) → (not a && b) ≡ true → (a ≡ false) × (b ≡ true)
 both true b h = absurd cc
 both false b h = (refl, h)
 
-first_words : (c : ℕ) (fs : List (List ℕ)) → is_blank c ≡ false → (c == 10) ≡ false → AreWords fs → AreWords (with_first_byte c fs)
+first_words : (c : ℕ) (fs : List (List ℕ)) → is_blank c ≡ false → (c == 10) ≡ false → AreWords fs
+    → AreWords (with_first_byte c fs)
 first_words c [] h k a = (one_byte c h k, tt)
 first_words c (f ∷ fs) h k a = (more_bytes c f h k a.0, a.1)
 
@@ -62,7 +69,8 @@ no_lf-take zero line h = refl
 no_lf-take (suc n) [] h = refl
 no_lf-take (suc n) (c ∷ line) h = let p = both (c == 10) (has_no_lf line) h in rw (p.0, no_lf-take n line p.1) refl
 
-no_lf-cond : (b : Bool) (x y : List ℕ) → has_no_lf x ≡ true → has_no_lf y ≡ true → has_no_lf (cond b x y) ≡ true
+no_lf-cond : (b : Bool) (x y : List ℕ) → has_no_lf x ≡ true → has_no_lf y ≡ true
+    → has_no_lf (cond b x y) ≡ true
 no_lf-cond true x y h k = h
 no_lf-cond false x y h k = k
 
@@ -75,7 +83,8 @@ no_lf-trim (c ∷ line) h =
     let p = both (c == 10) (has_no_lf line) h in
     no_lf-cond (all_blank (c ∷ line)) [] (c ∷ trim_end line) refl (rw (p.0, no_lf-trim line p.1) refl)
 
-no_lf-code : (code : ℕ) (line : List ℕ) → has_no_lf line ≡ true → has_no_lf (without_code code line) ≡ true
+no_lf-code : (code : ℕ) (line : List ℕ) → has_no_lf line ≡ true
+    → has_no_lf (without_code code line) ≡ true
 no_lf-code code line h =
     no_lf-cond (goes_on code line) (without_last (trim_end line)) line (no_lf-take (length (trim_end line) - 1) (trim_end line) (no_lf-trim line h)) h
 
@@ -115,15 +124,18 @@ words_from_second : (fs : List (List ℕ)) → AreWords fs → AreWords (without
 words_from_second [] h = tt
 words_from_second (f ∷ fs) h = h.1
 
-words_added : (n : ℕ) (w : Option LineWord) (xs : List (List ℕ)) (f : List ℕ) → AreWords xs → IsWord f → AreWords (add_field n w xs f).fields
+words_added : (n : ℕ) (w : Option LineWord) (xs : List (List ℕ)) (f : List ℕ) → AreWords xs
+    → IsWord f → AreWords (add_field n w xs f).fields
 words_added n None xs f h k = h
 words_added n (Some w) xs f h k = words-append xs (f ∷ []) h (k, tt)
 
-words_held : (held : OpenLine) (fs : List (List ℕ)) → AreWords held.fields → AreWords fs → AreWords (with_fields held fs).fields
+words_held : (held : OpenLine) (fs : List (List ℕ)) → AreWords held.fields → AreWords fs
+    → AreWords (with_fields held fs).fields
 words_held held [] h k = h
 words_held held (f ∷ fs) h k = words_held (with_field held f) fs (words_added held.number held.word held.fields f h k.0) k.1
 
-words_by : (n : ℕ) (w : Option LineWord) (fs : List (List ℕ)) → AreWords fs → HaveWords (line_by_word n w fs)
+words_by : (n : ℕ) (w : Option LineWord) (fs : List (List ℕ)) → AreWords fs
+    → HaveWords (line_by_word n w fs)
 words_by n None fs h = tt
 words_by n (Some w) fs h = (h, tt)
 
@@ -134,7 +146,8 @@ HeldWords state = Unit {0}
 abbrev StepWords : Step → Type 0
 StepWords s = HaveWords s.lines × HeldWords s.next
 
-words_end : (o : Bool) (n : ℕ) (held : OpenLine) → AreWords held.fields → StepWords (end_step o n held)
+words_end : (o : Bool) (n : ℕ) (held : OpenLine) → AreWords held.fields
+    → StepWords (end_step o n held)
 words_end true n held h = (tt, h)
 words_end false n held h = (words_by held.number held.word held.fields h, tt)
 
@@ -146,7 +159,8 @@ head_next : (b : Bool) → HeldWords (if b then between else in_the_head)
 head_next true = tt
 head_next false = tt
 
-words_step : (code n : ℕ) (line : List ℕ) (state : PassState) → has_no_lf line ≡ true → HeldWords state → StepWords (step code n line state)
+words_step : (code n : ℕ) (line : List ℕ) (state : PassState) → has_no_lf line ≡ true
+    → HeldWords state → StepWords (step code n line state)
 words_step code n line in_the_head h k = ((words_from_second (fields line) (fields_are_words line h), tt), head_next (is_slashes line))
 words_step code n line between h k =
     let fs = fields (without_code code line) in
@@ -160,7 +174,8 @@ words_step code n line (waiting held last) h k =
     (words_end (goes_on code line) n (with_fields held (without_first fs)) (words_held held (without_first fs) k (words_from_second fs words))) (tt, tt)
 words_step code n line (broken fault) h k = (tt, tt)
 
-words_pass : (code n : ℕ) (state : PassState) (ls : List (List ℕ)) → ArePlain ls → HeldWords state → HaveWords (pass code n state ls).lines
+words_pass : (code n : ℕ) (state : PassState) (ls : List (List ℕ)) → ArePlain ls → HeldWords state
+    → HaveWords (pass code n state ls).lines
 words_pass code n state [] h k = tt
 words_pass code n state (l ∷ ls) h k =
     let s = words_step code n l state h.0 k in

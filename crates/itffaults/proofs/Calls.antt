@@ -25,7 +25,8 @@ use Rattle.reports.specs.declared.status.Status.{Status}
 use Rattle.reports.specs.declared.status.Status.TheVariants as status
 use Rattle.table_layout.specs.Layouts.{Layout}
 use Rattle.table_layout.specs.Values.{areas_view, layout_view}
-use Rattle.itffaults.specs.Faults.{AreNames, EndsEarly, IsTold, Reports, TellsAll, has_surface_fault, names_by, status_of}
+use Rattle.itffaults.specs.Faults.{AreNames, EndsEarly, IsTold, Reports, TellsAll}
+use Rattle.itffaults.specs.Faults.{has_surface_fault, names_by, status_of}
 
 -- ---- the status
 -- what is said of areas is no failed write, and not out of memory
@@ -39,10 +40,12 @@ said_memory verdict.Clean e = absurd (cc)
 said_memory verdict.Faulty e = absurd (cc)
 said_memory verdict.Unsettled e = absurd (cc)
 
-pub told_writes : (l : Layout) (ds : List Plan) (xs : List SurfaceAnswer) (n : ℕ) (t r : List ℕ) (s : Status) → IsTold l ds xs n t r s → s ≡ status.WriteFault → ⊥
+pub told_writes : (l : Layout) (ds : List Plan) (xs : List SurfaceAnswer) (n : ℕ) (t r : List ℕ) (s : Status)
+    → IsTold l ds xs n t r s → s ≡ status.WriteFault → ⊥
 told_writes l ds xs n t r s h e = said_writes (all_verdict h.tellings (has_surface_fault l xs)) (sym h.status ∙ e)
 
-pub told_memory : (l : Layout) (ds : List Plan) (xs : List SurfaceAnswer) (n : ℕ) (t r : List ℕ) (s : Status) → IsTold l ds xs n t r s → s ≡ status.Memory → ⊥
+pub told_memory : (l : Layout) (ds : List Plan) (xs : List SurfaceAnswer) (n : ℕ) (t r : List ℕ) (s : Status)
+    → IsTold l ds xs n t r s → s ≡ status.Memory → ⊥
 told_memory l ds xs n t r s h e = said_memory (all_verdict h.tellings (has_surface_fault l xs)) (sym h.status ∙ e)
 
 pub early_writes : (s : Status) → IsEarlyStatus s → s ≡ status.WriteFault → ⊥

@@ -1,5 +1,6 @@
 -- Curves that are marked as alone break a level with no other one.
-use Rattle.std.proofs.Common.{◌≡◌, ◌⊎◌, inl, inr, ◌↔◌, ℕ, ◌<◌, Bool, true, false, IsTrue, List, [], length, ap, sym, ◌∙◌}
+use Rattle.std.proofs.Common.{◌≡◌, ◌⊎◌, inl, inr, ◌↔◌, ℕ, ◌<◌, Bool, true, false, IsTrue, List, []}
+use Rattle.std.proofs.Common.{length, ap, sym, ◌∙◌}
 use Rattle.near_pairs.specs.Boxes.{IsOneMarked, mark_of}
 use Rattle.plane.specs.Rule.Plans.{Plan}
 use Rattle.tubes.specs.Settled.{Breaks}
@@ -11,7 +12,8 @@ not_both e = cc
 no_truth : IsTrue false → ⊥
 no_truth t = cc
 
-pub none_are_alone : (d : Plan) (level : ℕ) (marks : List Bool) → marks ≡ [] → AreAlone d level marks
+pub none_are_alone : (d : Plan) (level : ℕ) (marks : List Bool) → marks ≡ []
+    → AreAlone d level marks
 none_are_alone d level marks e i j l m b = (ap (λ (ms : List Bool). mark_of ms i) e, ap (λ (ms : List Bool). mark_of ms j) e)
 
 -- the test of a pair with such a curve says no

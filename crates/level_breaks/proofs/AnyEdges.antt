@@ -1,12 +1,14 @@
 -- How two edges meet is decided, also where an edge is one point.
-use Rattle.std.proofs.Common.{◌≡◌, ◌⊎◌, inl, inr, Bool, true, false, cond, pos, ◌≤ℤ◌, ◌<ℤ◌, refl, arith, sym, ◌∙◌, subst}
+use Rattle.std.proofs.Common.{◌≡◌, ◌⊎◌, inl, inr, Bool, true, false, cond, pos, ◌≤ℤ◌, ◌<ℤ◌, refl}
+use Rattle.std.proofs.Common.{arith, sym, ◌∙◌, subst}
 use Rattle.std.proofs.lemmas.Int.{ints, by_lt_z}
 use Rattle.plane.specs.Forms.Meets.{Bad, Disjoint, Fine, IsEnd, OnStraight, Touch}
 use Rattle.plane.specs.Forms.Vectors.{Before, Place, Same, Vector, point}
 use Rattle.plane.specs.Rule.Straights.{IsOnStraight, dot, turn}
 use Rattle.plane.specs.declared.kinds.Edge.{Edge}
 use Rattle.plane.specs.declared.kinds.Point.{Point}
-use Rattle.plane.proofs.Covers.SamePlace.{first_on, on_straight_same, same_refl, same_sym, segment_same}
+use Rattle.plane.proofs.Covers.SamePlace.{first_on, on_straight_same, same_refl, same_sym}
+use Rattle.plane.proofs.Covers.SamePlace.{segment_same}
 use Rattle.plane.proofs.Linear.EdgePlaces.{place_point}
 use Rattle.plane.proofs.Windings.Enters.{Decided, decide_point, decide_z}
 use Rattle.tubes.specs.DrawnEdges.{comes_first, edge_from}
@@ -53,23 +55,27 @@ module _ (a b : Edge) (one : a.low ≡ a.high) where
       end_is p (inr e) = sym e ∙ sym one
 
 -- ---- any two
-rises_or_not : (p q : Point) → Before (edge_from p q).low (edge_from p q).high ⊎ ((edge_from p q).low ≡ (edge_from p q).high)
+rises_or_not : (p q : Point)
+    → Before (edge_from p q).low (edge_from p q).high ⊎ ((edge_from p q).low ≡ (edge_from p q).high)
 rises_or_not p q = elim (decide_point p q) [ inr n ↦ inl (edge_ends p q n).0 | inl e ↦ inr (by_test (comes_first p q) e) ]
   where
     by_test : (b : Bool) → p ≡ q → Edge.low (cond b (record { low = p; high = q }) (record { low = q; high = p })) ≡ Edge.high (cond b (record { low = p; high = q }) (record { low = q; high = p }))
     by_test true e = e
     by_test false e = sym e
 
-other_way : (a b : Edge) → (Disjoint a b ⊎ Touch a b) ⊎ Bad a b → (Disjoint b a ⊎ Touch b a) ⊎ Bad b a
+other_way : (a b : Edge) → (Disjoint a b ⊎ Touch a b) ⊎ Bad a b
+    → (Disjoint b a ⊎ Touch b a) ⊎ Bad b a
 other_way a b (inl (inl h)) = inl (inl (λ z Z f g. h z Z g f))
 other_way a b (inl (inr h)) = inl (inr (touch_back a b h))
 other_way a b (inr h) = inr (bad_back a b h)
 
 module _ (decided : (a b : Edge) → Before a.low a.high → Before b.low b.high → Fine a b ⊎ Bad a b) (fine : (a b : Edge) → Before a.low a.high → Before b.low b.high → Fine a b → Disjoint a b ⊎ Touch a b) where
-  by_rise : (a b : Edge) → Before a.low a.high ⊎ (a.low ≡ a.high) → Before b.low b.high ⊎ (b.low ≡ b.high) → (Disjoint a b ⊎ Touch a b) ⊎ Bad a b
+  by_rise : (a b : Edge) → Before a.low a.high ⊎ (a.low ≡ a.high)
+      → Before b.low b.high ⊎ (b.low ≡ b.high) → (Disjoint a b ⊎ Touch a b) ⊎ Bad a b
   by_rise a b (inr e) g = meet_point a b e
   by_rise a b (inl f) (inr e) = other_way b a (meet_point b a e)
   by_rise a b (inl f) (inl g) = elim (decided a b f g) [ inl h ↦ inl (fine a b f g h) | inr h ↦ inr h ]
 
-  pub any_meet : (p q r s : Point) → (Disjoint (edge_from p q) (edge_from r s) ⊎ Touch (edge_from p q) (edge_from r s)) ⊎ Bad (edge_from p q) (edge_from r s)
+  pub any_meet : (p q r s : Point)
+      → (Disjoint (edge_from p q) (edge_from r s) ⊎ Touch (edge_from p q) (edge_from r s)) ⊎ Bad (edge_from p q) (edge_from r s)
   any_meet p q r s = by_rise (edge_from p q) (edge_from r s) (rises_or_not p q) (rises_or_not r s)

@@ -55,11 +55,13 @@ pub all_covered : (b a : Box) (ps : List Point) → Covers b a → HoldsAll a ps
 all_covered b a [] k h = tt
 all_covered b a (p ∷ ps) k h = (covered b a p k h.0, all_covered b a ps k h.1)
 
-pub all_of_both : (b : Box) (ps qs : List Point) → HoldsAll b ps → HoldsAll b qs → HoldsAll b (ps ++ qs)
+pub all_of_both : (b : Box) (ps qs : List Point) → HoldsAll b ps → HoldsAll b qs
+    → HoldsAll b (ps ++ qs)
 all_of_both b [] qs h k = k
 all_of_both b (p ∷ ps) qs h k = (h.0, all_of_both b ps qs h.1 k)
 
 -- ---- edges that share a place
 module _ (law : (b : Box) (z : Vector) (p q : Point) → Place z → InBox b (point p) → InBox b (point q) → IsOnStraight (point p) (point q) z → InBox b z) where
-  pub bad_shares : (e f : Edge) (a b : Box) → InBox a (point e.low) → InBox a (point e.high) → InBox b (point f.low) → InBox b (point f.high) → Bad e f → ShareAPlace a b
+  pub bad_shares : (e f : Edge) (a b : Box) → InBox a (point e.low) → InBox a (point e.high)
+      → InBox b (point f.low) → InBox b (point f.high) → Bad e f → ShareAPlace a b
   bad_shares e f a b el eh fl fh h = (h.at, h.place, law a h.at e.low e.high h.place el eh h.of_first, law b h.at f.low f.high h.place fl fh h.of_second)

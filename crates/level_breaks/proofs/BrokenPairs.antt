@@ -1,12 +1,14 @@
 -- Of two curves that break a level one is a half arc, and their boxes share a place.
-use Rattle.std.proofs.Common.{◌≡◌, ◌⊎◌, inl, inr, ℕ, ◌<◌, ◌≤◌, Bool, Option, Some, None, List, [], ◌∷◌, length, refl, arith, sym, ◌∙◌, subst}
+use Rattle.std.proofs.Common.{◌≡◌, ◌⊎◌, inl, inr, ℕ, ◌<◌, ◌≤◌, Bool, Option, Some, None, List, []}
+use Rattle.std.proofs.Common.{◌∷◌, length, refl, arith, sym, ◌∙◌, subst}
 use Rattle.plane.specs.CurveRuns.TubedRuns as runs
 use Rattle.plane.specs.Forms.Boxes.{Box, InBox}
 use Rattle.plane.specs.Forms.Meets.{Bad}
 use Rattle.plane.specs.Forms.Segments.{IsEdgeOf}
 use Rattle.plane.specs.Forms.Vectors.{Place, Vector, point}
 use Rattle.plane.specs.Lists.{Each, Has}
-use Rattle.plane.specs.Rule.BadPairs.{AreBad, HaveSameEnds, IsBadPair, StraightsMeet, straights_meet}
+use Rattle.plane.specs.Rule.BadPairs.{AreBad, HaveSameEnds, IsBadPair, StraightsMeet}
+use Rattle.plane.specs.Rule.BadPairs.{straights_meet}
 use Rattle.plane.specs.Rule.Plans.{IsHalfArc, Plan, curve}
 use Rattle.plane.specs.Rule.Straights.{IsOnStraight}
 use Rattle.plane.specs.Tubes.Bays.{Bay, InTube}
@@ -20,12 +22,14 @@ use Rattle.straight_predicates.proofs.Orders.{by_lt}
 use Rattle.near_pairs.specs.Boxes.{AreNear, IsOneMarked, ShareAPlace, box_of, reach_of}
 use Rattle.near_pairs.specs.declared.reaches.Reach.{Reach}
 use Rattle.tubes.specs.DrawnEdges.{AreStraights}
-use Rattle.tubes.specs.Settled.{AreTubesAt, Breaks, BreaksOneWay, EdgesMeet, EndsAt, EntersTube, corners, edges, group, missing}
+use Rattle.tubes.specs.Settled.{AreTubesAt, Breaks, BreaksOneWay, EdgesMeet, EndsAt, EntersTube}
+use Rattle.tubes.specs.Settled.{corners, edges, group, missing}
 use Rattle.tubes.specs.TubedEdges.{drawn_bays, edge_as}
 use Rattle.tubes.specs.declared.kinds.Tube.{Tube}
 use Rattle.level_breaks.specs.Groups as groups
 use Rattle.level_breaks.specs.Groups.{HoldsAll, IsTubed, edges_with}
-use Rattle.level_breaks.specs.LevelLists.{AreBoxesTo, AreBreaksMarked, AreMarksTo, HasNoBadStraights, tube_of}
+use Rattle.level_breaks.specs.LevelLists.{AreBoxesTo, AreBreaksMarked, AreMarksTo}
+use Rattle.level_breaks.specs.LevelLists.{HasNoBadStraights, tube_of}
 use Rattle.level_breaks.proofs.AnyEdges.{bad_back}
 use Rattle.level_breaks.proofs.BoxPoints.{bad_shares}
 use Rattle.level_breaks.proofs.GroupEdges.{has_left, to_is_inner}
@@ -38,14 +42,17 @@ two_kinds e = cc
 
 -- ---- two straights do not break a level but where they are bad
 module _ (bad_is : (s t : Edge) (c d : Curve) → IsEdgeOf s c → IsEdgeOf t d → c.kind ≡ kind.Straight → d.kind ≡ kind.Straight → (Bad s t → StraightsMeet c d)) (d : Plan) (level : ℕ) where
-  straight_edge : (i : ℕ) (o : runs.Owned) → (curve d i).kind ≡ kind.Straight → Has o (group d level i) → IsEdgeOf (edge_as o) (curve d i)
+  straight_edge : (i : ℕ) (o : runs.Owned) → (curve d i).kind ≡ kind.Straight
+      → Has o (group d level i) → IsEdgeOf (edge_as o) (curve d i)
   straight_edge i o s h = by (subst (λ (k : CurveKind). Has o (runs.edges_of i k (curve d i) (drawn_bays d level i))) s h)
     where
-      by : Has o (runs.chain i runs.whole (curve d i).from ((curve d i).to ∷ [])) → IsEdgeOf (edge_as o) (curve d i)
+      by : Has o (runs.chain i runs.whole (curve d i).from ((curve d i).to ∷ []))
+          → IsEdgeOf (edge_as o) (curve d i)
       by (inl e) = subst (λ x. IsEdgeOf (edge_as x) (curve d i)) (sym e) (joins (curve d i).from (curve d i).to)
       by (inr n) = absurd n
 
-  straights_bad : (i j : ℕ) → (curve d i).kind ≡ kind.Straight → (curve d j).kind ≡ kind.Straight → EdgesMeet d level i j → AreBad (curve d i) (curve d j)
+  straights_bad : (i j : ℕ) → (curve d i).kind ≡ kind.Straight → (curve d j).kind ≡ kind.Straight
+      → EdgesMeet d level i j → AreBad (curve d i) (curve d j)
   straights_bad i j s t (o, u, a, b, h) = straights_meet (bad_is (edge_as o) (edge_as u) (curve d i) (curve d j) (straight_edge i o s a) (straight_edge j u t b) s t h)
 
   way_has_half_arc : (i j : ℕ) → BreaksOneWay d level i j → IsHalfArc d i ⊎ IsHalfArc d j
@@ -60,13 +67,15 @@ module _ (bad_is : (s t : Edge) (c d : Curve) → IsEdgeOf s c → IsEdgeOf t d 
   meet_back : (i j : ℕ) → EdgesMeet d level i j → EdgesMeet d level j i
   meet_back i j (o, u, a, b, h) = (u, o, b, a, bad_back (edge_as o) (edge_as u) h)
 
-  pub one_is_half_arc : HasNoBadStraights d → (i j : ℕ) → Breaks d level i j → IsHalfArc d i ⊎ IsHalfArc d j
+  pub one_is_half_arc : HasNoBadStraights d → (i j : ℕ) → Breaks d level i j
+      → IsHalfArc d i ⊎ IsHalfArc d j
   one_is_half_arc none i j (missing e h k) = inl h
   one_is_half_arc none i j (corners n g h (inl w)) = way_has_half_arc i j w
   one_is_half_arc none i j (corners n g h (inr w)) = turned (way_has_half_arc j i w)
   one_is_half_arc none i j (edges n g h m) = by (curve d i).kind (curve d j).kind refl refl
     where
-      by : (a b : CurveKind) → (curve d i).kind ≡ a → (curve d j).kind ≡ b → IsHalfArc d i ⊎ IsHalfArc d j
+      by : (a b : CurveKind) → (curve d i).kind ≡ a → (curve d j).kind ≡ b
+          → IsHalfArc d i ⊎ IsHalfArc d j
       by kind.HalfArc b p q = inl (record { there = g.there; kind = p })
       by kind.Straight kind.HalfArc p q = inr (record { there = h.there; kind = q })
       by kind.Straight kind.Straight p q = absurd (by_lt i j
@@ -80,11 +89,13 @@ pub no_half_arc : (d : Plan) → AreStraights d → (i : ℕ) → IsHalfArc d i 
 no_half_arc d s i h = two_kinds (sym (s i h.there) ∙ h.kind)
 
 -- ---- boxes share a place
-own_from : (level : ℕ) (c : Curve) (t : Option Tube) → IsTubed level c t → Has c.from (groups.corners c t)
+own_from : (level : ℕ) (c : Curve) (t : Option Tube) → IsTubed level c t
+    → Has c.from (groups.corners c t)
 own_from level c None h = inl refl
 own_from level c (Some t) (k, m) = has_left c.from t.inner.items t.outer.items (subst (Has c.from) (sym m.inner) (inl refl))
 
-own_to : (level : ℕ) (c : Curve) (t : Option Tube) → IsTubed level c t → Has c.to (groups.corners c t)
+own_to : (level : ℕ) (c : Curve) (t : Option Tube) → IsTubed level c t
+    → Has c.to (groups.corners c t)
 own_to level c None h = inr (inl refl)
 own_to level c (Some t) (k, m) = has_left c.to t.inner.items t.outer.items (subst (Has c.to) (sym m.inner) (inr (to_is_inner level c t m)))
 
@@ -105,7 +116,8 @@ module _ (d : Plan) (level : ℕ)
     enter_shares : EntersTube d level i j → ShareAPlace a b
     enter_shares h = by t ht ha
       where
-        by : (t : Option Tube) → IsTubed level (curve d i) t → HoldsAll a (groups.corners (curve d i) t) → ShareAPlace a b
+        by : (t : Option Tube) → IsTubed level (curve d i) t
+            → HoldsAll a (groups.corners (curve d i) t) → ShareAPlace a b
         by None s all = two_kinds (sym s ∙ h.half_arc.kind)
         by (Some t) s all = (point h.p, place_point h.p, tube_in_box level (curve d i) t s.1 tube a (point h.p) (place_point h.p) all ((held_is_in_tile level (curve d i) t s.1 (point h.p)).1 (h.triangle, h.of_tube, h.holds)), end_in_too h.p h.ends)
 
@@ -121,7 +133,9 @@ module _ (d : Plan) (level : ℕ)
   share_back : (a b : Box) → ShareAPlace a b → ShareAPlace b a
   share_back a b (z, Z, f, g) = (z, Z, g, f)
 
-  pub broken_shares : (i j : ℕ) (t u : Option Tube) → (i ≡ j → ⊥) → IsTubed level (curve d i) t → IsTubed level (curve d j) u → (a b : Box) → HoldsAll a (groups.corners (curve d i) t) → HoldsAll b (groups.corners (curve d j) u) → Breaks d level i j → ShareAPlace a b
+  pub broken_shares : (i j : ℕ) (t u : Option Tube) → (i ≡ j → ⊥) → IsTubed level (curve d i) t
+      → IsTubed level (curve d j) u → (a b : Box) → HoldsAll a (groups.corners (curve d i) t)
+      → HoldsAll b (groups.corners (curve d j) u) → Breaks d level i j → ShareAPlace a b
   broken_shares i j t u n ht hu a b ha hb (missing e h k) = absurd (n e)
   broken_shares i j t u n ht hu a b ha hb (edges m g h k) = meet_shares i j t u ht hu a b ha hb k
   broken_shares i j t u n ht hu a b ha hb (corners m g h (inl w)) = way_shares i j t u ht hu a b ha hb w
@@ -129,7 +143,8 @@ module _ (d : Plan) (level : ℕ)
 
   -- of the lists of a drawing
   module _ (tubes : List (Option Tube)) (boxes : List Reach) (marks : List Bool) (ht : AreTubesAt d level tubes) (hb : AreBoxesTo d.curves tubes (length d.curves) boxes) (hm : AreBreaksMarked d level marks) where
-    pub broken_near : (i j : ℕ) → i < j → j < length d.curves → Breaks d level i j → AreNear boxes marks i j
+    pub broken_near : (i j : ℕ) → i < j → j < length d.curves → Breaks d level i j
+        → AreNear boxes marks i j
     broken_near i j l m h =
         let k : i < length d.curves = omega (arith, l, m) in
         let g = groups_of d level i j (λ e. omega (arith, l, e)) h in

@@ -1,5 +1,6 @@
 -- The first two curves that break a level.
-use Rattle.std.proofs.Common.{◌≡◌, ◌⊎◌, inl, inr, ℕ, ◌<◌, ◌≤◌, Option, Some, None, List, length, refl, arith, sym, subst}
+use Rattle.std.proofs.Common.{◌≡◌, ◌⊎◌, inl, inr, ℕ, ◌<◌, ◌≤◌, Option, Some, None, List, length}
+use Rattle.std.proofs.Common.{refl, arith, sym, subst}
 use Rattle.std.specs.Prelude.{IfSome}
 use Rattle.plane.specs.CurveRuns.TubedRuns as runs
 use Rattle.plane.specs.Forms.Meets.{Bad, Disjoint, IsEnd, Touch}
@@ -17,7 +18,8 @@ use Rattle.near_pairs.specs.LeastPairs.{IsLeastPair, IsLess}
 use Rattle.near_pairs.specs.declared.pairs.NearPair.{NearPair}
 use Rattle.tubes.specs.DrawnEdges.{edge_from}
 use Rattle.tubes.specs.HalfArcTubes.{HasNoTube}
-use Rattle.tubes.specs.Settled.{AreTubesAt, Breaks, HaveTubes, IsFirstBreak, IsSettledAt, IsTubeFor, corners, edges, missing, owned_at}
+use Rattle.tubes.specs.Settled.{AreTubesAt, Breaks, HaveTubes, IsFirstBreak, IsSettledAt, IsTubeFor}
+use Rattle.tubes.specs.Settled.{corners, edges, missing, owned_at}
 use Rattle.tubes.specs.TubedEdges.{HasTube, drawn_bays}
 use Rattle.tubes.specs.declared.kinds.Tube.{Tube}
 use Rattle.level_breaks.specs.LevelLists.{IsBare, IsFirstBare, IsLesser, tube_of}
@@ -30,7 +32,8 @@ module _ (d : Plan) (level : ℕ) (tubes : List (Option Tube)) (ht : AreTubesAt 
   bare_has_none : (i : ℕ) → IsBare d.curves tubes i → HasNoTube (arc (curve d i)) level
   bare_has_none i h = by (tube_of tubes i) h.none (ht.each i h.there)
     where
-      by : (t : Option Tube) → t ≡ None → IsTubeFor (curve d i) level t → HasNoTube (arc (curve d i)) level
+      by : (t : Option Tube) → t ≡ None → IsTubeFor (curve d i) level t
+          → HasNoTube (arc (curve d i)) level
       by None e f = f.0 h.kind
       by (Some t) e f = none e
         where
@@ -43,7 +46,8 @@ module _ (d : Plan) (level : ℕ) (tubes : List (Option Tube)) (ht : AreTubesAt 
   has_tube_or : (i : ℕ) → IsHalfArc d i → HasTube (arc (curve d i)) level ⊎ IsBare d.curves tubes i
   has_tube_or i h = by (tube_of tubes i) refl (ht.each i h.there)
     where
-      by : (t : Option Tube) → tube_of tubes i ≡ t → IsTubeFor (curve d i) level t → HasTube (arc (curve d i)) level ⊎ IsBare d.curves tubes i
+      by : (t : Option Tube) → tube_of tubes i ≡ t → IsTubeFor (curve d i) level t
+          → HasTube (arc (curve d i)) level ⊎ IsBare d.curves tubes i
       by None e f = inr (record { there = h.there; kind = h.kind; none = e })
       by (Some t) e f = let m = f.0 h.kind in inl (m.after, t.outer.items, m.tube)
 
@@ -62,10 +66,12 @@ module _ (d : Plan) (level : ℕ) (tubes : List (Option Tube)) (ht : AreTubesAt 
   -- ---- the first of all
   module _ (pair : Option NearPair) (bare : Option ℕ) (some : IfSome pair (λ p. IsLeastPair (Breaks d level) (length d.curves) p)) (none : pair ≡ None → (i j : ℕ) → i < j → j < length d.curves → Breaks d level i j → ⊥) (first : IsFirstBare d.curves tubes bare) where
     -- no two curves that break the level are less than r
-    no_two : (r : LevelBreak) → IsLesser pair bare r → (k l : ℕ) → k < l → Breaks d level k l → IsLess k l r.first r.second → ⊥
+    no_two : (r : LevelBreak) → IsLesser pair bare r → (k l : ℕ) → k < l → Breaks d level k l
+        → IsLess k l r.first r.second → ⊥
     no_two r h k l m b less = by pair refl
       where
-        not_after : (p : NearPair) → (IsLess p.first p.second r.first r.second → ⊥) → IsLess k l r.first r.second → IsLess k l p.first p.second
+        not_after : (p : NearPair) → (IsLess p.first p.second r.first r.second → ⊥)
+            → IsLess k l r.first r.second → IsLess k l p.first p.second
         not_after p n (inl q) = by_lt k p.first (λ (x : k < p.first). inl x) (λ (x : p.first ≤ k). absurd (n (inl (omega (arith, x, q)))))
         not_after p n (inr (e, q)) = by_lt k p.first (λ (x : k < p.first). inl x) (λ (x : p.first ≤ k). by_lt p.first k (λ (y : p.first < k). absurd (n (inl (omega (arith, y, e)))))
             (λ (y : k ≤ p.first). by_lt l p.second (λ (z : l < p.second). inr (omega (arith, x, y), z)) (λ (z : p.second ≤ l). absurd (n (inr (omega (arith, x, y, e), omega (arith, z, q)))))))
@@ -77,7 +83,8 @@ module _ (d : Plan) (level : ℕ) (tubes : List (Option Tube)) (ht : AreTubesAt 
             let n = subst (λ o. IfSome o (λ p. IsLess p.first p.second r.first r.second → ⊥)) e h.not_pair in
             s.least k l m (second_there k l m b) b (not_after p n less)
 
-    no_one : (r : LevelBreak) → IsLesser pair bare r → (k : ℕ) → IsBare d.curves tubes k → IsLess k k r.first r.second → ⊥
+    no_one : (r : LevelBreak) → IsLesser pair bare r → (k : ℕ) → IsBare d.curves tubes k
+        → IsLess k k r.first r.second → ⊥
     no_one r h k b less = by bare refl
       where
         not_after : (i : ℕ) → i ≤ k → IsLess k k r.first r.second → IsLess i i r.first r.second
@@ -91,11 +98,13 @@ module _ (d : Plan) (level : ℕ) (tubes : List (Option Tube)) (ht : AreTubesAt 
             let n = subst (λ o. IfSome o (λ i. IsLess i i r.first r.second → ⊥)) e h.not_bare in
             by_lt k i (λ (l : k < i). f.1 k l b) (λ (l : i ≤ k). n (not_after i l less))
 
-    no_less : (r : LevelBreak) → IsLesser pair bare r → (k l : ℕ) → k ≤ l → Breaks d level k l → IsLess k l r.first r.second → ⊥
+    no_less : (r : LevelBreak) → IsLesser pair bare r → (k l : ℕ) → k ≤ l → Breaks d level k l
+        → IsLess k l r.first r.second → ⊥
     no_less r h k l m b less = by_lt k l (λ (x : k < l). no_two r h k l x b less)
         (λ (x : l ≤ k). let e : k ≡ l = omega (arith, m, x) in no_one r h k (alone_is_bare k l e b) (subst (λ (n : ℕ). IsLess k n r.first r.second) (sym e) less))
 
-    pub lesser_is_first : (r : LevelBreak) → IsLesser pair bare r → IsFirstBreak d level r.first r.second
+    pub lesser_is_first : (r : LevelBreak) → IsLesser pair bare r
+        → IsFirstBreak d level r.first r.second
     lesser_is_first r h = record {
       order = by_order h.is;
       breaks = by_kind h.is;
@@ -124,6 +133,7 @@ module _ (d : Plan) (level : ℕ) (tubes : List (Option Tube)) (ht : AreTubesAt 
       pub none_is_settled : pair ≡ None → bare ≡ None → IsSettledAt d level
       none_is_settled e q = settled d level (have_tubes (subst (IsFirstBare d.curves tubes) q first)) (λ i j l h. none e i j l (second_there i j l h) h) any_meet own_meet own_enter tube_is
 
-pub some_mapped : {A : Type 0} (o : Option A) (P Q : A → Type 0) → ((a : A) → P a → Q a) → IfSome o P → IfSome o Q
+pub some_mapped : {A : Type 0} (o : Option A) (P Q : A → Type 0) → ((a : A) → P a → Q a)
+    → IfSome o P → IfSome o Q
 some_mapped None P Q f h = tt
 some_mapped (Some a) P Q f h = f a h

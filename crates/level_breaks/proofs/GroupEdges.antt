@@ -1,5 +1,8 @@
 -- The edges of a curve with its tube, by number and as the list of the drawing has them, and the points in which they end.
-use Rattle.std.proofs.Common.{◌≡◌, ◌↔◌, ◌⊎◌, inl, inr, ℕ, zero, suc, ◌+◌, ◌*◌, ◌-◌, ◌^◌, ◌<◌, ◌≤◌, Bool, true, false, cond, Option, Some, None, List, [], ◌∷◌, ◌++◌, length, get_or, map, refl, arith, ap, sym, ◌∙◌, subst, add-one, length-append}
+use Rattle.std.proofs.Common.{◌≡◌, ◌↔◌, ◌⊎◌, inl, inr, ℕ, zero, suc, ◌+◌, ◌*◌, ◌-◌, ◌^◌, ◌<◌, ◌≤◌}
+use Rattle.std.proofs.Common.{Bool, true, false, cond, Option, Some, None, List, [], ◌∷◌, ◌++◌}
+use Rattle.std.proofs.Common.{length, get_or, map, refl, arith, ap, sym, ◌∙◌, subst, add-one}
+use Rattle.std.proofs.Common.{length-append}
 use Rattle.std.proofs.lemmas.List.{get_or_append_left, get_or-append-add}
 use Rattle.plane.specs.CurveRuns.TubedRuns as runs
 use Rattle.plane.specs.Forms.Meets.{IsEnd}
@@ -20,7 +23,8 @@ use Rattle.tubes.proofs.ChainEdges.{chains_distinct, edges_are, owned_are}
 use Rattle.tubes.proofs.EdgeLemmas.{one_edge}
 use Rattle.tubes.proofs.Rounds.{few_points}
 use Rattle.tubes.proofs.TubePoints.{inner_are, outer_size, power_positive}
-use Rattle.level_breaks.specs.Groups.{HasChains, IsEdged, IsTubed, chain_through, corners, edges_with, nth}
+use Rattle.level_breaks.specs.Groups.{HasChains, IsEdged, IsTubed, chain_through, corners}
+use Rattle.level_breaks.specs.Groups.{edges_with, nth}
 
 -- ---- lists
 pub map_app : {X Y : Type 0} (f : X → Y) (xs ys : List X) → map f (xs ++ ys) ≡ map f xs ++ map f ys
@@ -46,18 +50,21 @@ has_mapped f x [] h = absurd h
 has_mapped f x (y ∷ xs) (inl e) = inl (ap f e)
 has_mapped f x (y ∷ xs) (inr h) = inr (has_mapped f x xs h)
 
-pub mapped_has : {X Y : Type 0} (f : X → Y) (y : Y) (xs : List X) → Has y (map f xs) → (x : X) × Has x xs × (y ≡ f x)
+pub mapped_has : {X Y : Type 0} (f : X → Y) (y : Y) (xs : List X) → Has y (map f xs)
+    → (x : X) × Has x xs × (y ≡ f x)
 mapped_has f y [] h = absurd h
 mapped_has f y (x ∷ xs) (inl e) = (x, inl refl, e)
 mapped_has f y (x ∷ xs) (inr h) = let (z, m, e) = mapped_has f y xs h in (z, inr m, e)
 
 -- by number
-pub has_at : {X : Type 0} (x d : X) (xs : List X) → Has x xs → (k : ℕ) × (k < length xs) × (get_or xs k d ≡ x)
+pub has_at : {X : Type 0} (x d : X) (xs : List X) → Has x xs
+    → (k : ℕ) × (k < length xs) × (get_or xs k d ≡ x)
 has_at x d [] h = absurd h
 has_at x d (y ∷ xs) (inl e) = (0, omega arith, sym e)
 has_at x d (y ∷ xs) (inr h) = let (k, l, e) = has_at x d xs h in (suc k, omega (arith, l), e)
 
-pub one_default : {X : Type 0} (xs : List X) (k : ℕ) (d e : X) → k < length xs → get_or xs k d ≡ get_or xs k e
+pub one_default : {X : Type 0} (xs : List X) (k : ℕ) (d e : X) → k < length xs
+    → get_or xs k d ≡ get_or xs k e
 one_default [] k d e l = absurd (omega (arith, l))
 one_default (x ∷ xs) zero d e l = refl
 one_default (x ∷ xs) (suc k) d e l = one_default xs k d e (omega (arith, l))
@@ -72,12 +79,14 @@ pub chain_size : (p : Point) (qs : List Point) → length (chain_edges p qs) ≡
 chain_size p [] = refl
 chain_size p (q ∷ qs) = ap suc (chain_size q qs)
 
-pub chain_number : (p : Point) (qs : List Point) (k : ℕ) → k < length qs → edge_of (chain_edges p qs) k ≡ edge_from (nth (p ∷ qs) k) (nth qs k)
+pub chain_number : (p : Point) (qs : List Point) (k : ℕ) → k < length qs
+    → edge_of (chain_edges p qs) k ≡ edge_from (nth (p ∷ qs) k) (nth qs k)
 chain_number p [] k l = absurd (omega (arith, l))
 chain_number p (q ∷ qs) zero l = refl
 chain_number p (q ∷ qs) (suc k) l = chain_number q qs k (omega (arith, l))
 
-pub number_differs : (p : Point) (qs : List Point) (k : ℕ) → k < length qs → AreDistinct p qs → nth (p ∷ qs) k ≡ nth qs k → ⊥
+pub number_differs : (p : Point) (qs : List Point) (k : ℕ) → k < length qs → AreDistinct p qs
+    → nth (p ∷ qs) k ≡ nth qs k → ⊥
 number_differs p [] k l d = absurd (omega (arith, l))
 number_differs p (q ∷ qs) zero l d = d.0
 number_differs p (q ∷ qs) (suc k) l d = number_differs q qs k (omega (arith, l)) d.1
@@ -117,10 +126,13 @@ module _ (c : Curve) (t : Tube) (h : HasChains c t) where
   pub inner_sizes : (k : ℕ) → k < length outer → k + 1 < length t.inner.items
   inner_sizes k l = let a = ap length h.inner in let b = h.sizes in omega (arith, l, a, b)
 
-  pub inner_differs : (k : ℕ) → k < length outer → nth t.inner.items k ≡ nth t.inner.items (k + 1) → ⊥
+  pub inner_differs : (k : ℕ) → k < length outer → nth t.inner.items k ≡ nth t.inner.items (k + 1)
+      → ⊥
   inner_differs k l e = let b = h.sizes in number_differs c.from h.after k (omega (arith, l, b)) h.inner_distinct (inner_now k ∙ e ∙ sym (inner_next k))
 
-  pub inner_edge : (k : ℕ) (e : Edge) → k < length outer → Before e.low e.high → HasEnds e (nth t.inner.items k) (nth t.inner.items (k + 1)) → e ≡ edge_of (edges_with c (Some t)) k
+  pub inner_edge : (k : ℕ) (e : Edge) → k < length outer → Before e.low e.high
+      → HasEnds e (nth t.inner.items k) (nth t.inner.items (k + 1))
+      → e ≡ edge_of (edges_with c (Some t)) k
   inner_edge k e l s ends =
       let b = h.sizes in
       let z = through_size in
@@ -131,42 +143,52 @@ module _ (c : Curve) (t : Tube) (h : HasChains c t) where
       ∙ ap (λ es. edge_of es k) (sym through_is)
       ∙ sym (get_or_append_left through around no_edge k (omega (arith, l, z)))
 
-  pub outer_number : (k : ℕ) → length outer ≤ k → k < length (edges_with c (Some t)) → k - length outer ≤ length outer
+  pub outer_number : (k : ℕ) → length outer ≤ k → k < length (edges_with c (Some t))
+      → k - length outer ≤ length outer
   outer_number k l m = let a = count_is in omega (arith, l, m, a)
 
-  pub outer_edge : (k : ℕ) → length outer ≤ k → edge_of around (k - length outer) ≡ edge_of (edges_with c (Some t)) k
+  pub outer_edge : (k : ℕ) → length outer ≤ k
+      → edge_of around (k - length outer) ≡ edge_of (edges_with c (Some t)) k
   outer_edge k l =
       let z = through_size in
       sym (get_or-append-add through around (k - length outer) no_edge)
       ∙ ap (λ (n : ℕ). edge_of (edges_with c (Some t)) n) (omega (arith, l, z))
 
-pub outer_differs : (c : Curve) (outer : List Point) (k : ℕ) → k ≤ length outer → AreDistinct c.from (outer ++ c.to ∷ []) → nth (c.from ∷ outer) k ≡ nth (outer ++ c.to ∷ []) k → ⊥
+pub outer_differs : (c : Curve) (outer : List Point) (k : ℕ) → k ≤ length outer
+    → AreDistinct c.from (outer ++ c.to ∷ []) → nth (c.from ∷ outer) k ≡ nth (outer ++ c.to ∷ []) k
+    → ⊥
 outer_differs c outer k l d e = number_differs c.from (outer ++ c.to ∷ []) k (let a = length-append outer (c.to ∷ []) in omega (arith, a, l)) d (front c.from outer k l ∙ e)
   where
-    front : (p : Point) (qs : List Point) (k : ℕ) → k ≤ length qs → nth (p ∷ (qs ++ c.to ∷ [])) k ≡ nth (p ∷ qs) k
+    front : (p : Point) (qs : List Point) (k : ℕ) → k ≤ length qs
+        → nth (p ∷ (qs ++ c.to ∷ [])) k ≡ nth (p ∷ qs) k
     front p qs zero l = refl
     front p [] (suc k) l = absurd (omega (arith, l))
     front p (q ∷ qs) (suc k) l = front q qs k (omega (arith, l))
 
-pub outer_is : (c : Curve) (outer : List Point) (k : ℕ) (e : Edge) → k ≤ length outer → Before e.low e.high → HasEnds e (nth (c.from ∷ outer) k) (nth (outer ++ c.to ∷ []) k) → e ≡ edge_of (chain_edges c.from (outer ++ c.to ∷ [])) k
+pub outer_is : (c : Curve) (outer : List Point) (k : ℕ) (e : Edge) → k ≤ length outer
+    → Before e.low e.high → HasEnds e (nth (c.from ∷ outer) k) (nth (outer ++ c.to ∷ []) k)
+    → e ≡ edge_of (chain_edges c.from (outer ++ c.to ∷ [])) k
 outer_is c outer k e l s ends =
     one_edge e _ _ s ends
     ∙ ap (λ p. edge_from p (nth (outer ++ c.to ∷ []) k)) (front c.from outer k l)
     ∙ sym (chain_number c.from (outer ++ c.to ∷ []) k (let a = length-append outer (c.to ∷ []) in omega (arith, a, l)))
   where
-    front : (p : Point) (qs : List Point) (k : ℕ) → k ≤ length qs → nth (p ∷ qs) k ≡ nth (p ∷ (qs ++ c.to ∷ [])) k
+    front : (p : Point) (qs : List Point) (k : ℕ) → k ≤ length qs
+        → nth (p ∷ qs) k ≡ nth (p ∷ (qs ++ c.to ∷ [])) k
     front p qs zero l = refl
     front p [] (suc k) l = absurd (omega (arith, l))
     front p (q ∷ qs) (suc k) l = front q qs k (omega (arith, l))
 
-pub only_edge : (c : Curve) (e : Edge) (k : ℕ) → k < 1 → Before e.low e.high → HasEnds e c.from c.to → e ≡ edge_of (edges_with c None) k
+pub only_edge : (c : Curve) (e : Edge) (k : ℕ) → k < 1 → Before e.low e.high → HasEnds e c.from c.to
+    → e ≡ edge_of (edges_with c None) k
 only_edge c e k l s ends = one_edge e _ _ s ends ∙ ap (λ (n : ℕ). edge_of (edges_with c None) n) (zero_is k l)
   where
     zero_is : (k : ℕ) → k < 1 → 0 ≡ k
     zero_is k l = omega (arith, l)
 
 -- ---- what is asked to make them
-pub edged_with : (low high : Point) (level : ℕ) (c : Curve) (t : Option Tube) → level ≤ 5 → IsDrawn low high c → IsTubed level c t → IsEdged c t
+pub edged_with : (low high : Point) (level : ℕ) (c : Curve) (t : Option Tube) → level ≤ 5
+    → IsDrawn low high c → IsTubed level c t → IsEdged c t
 edged_with low high level c None l d t = d.distinct
 edged_with low high level c (Some t) l d (e, m) =
     let s = chains_distinct (arc c) level m.after t.outer.items m.tube in record {
@@ -179,7 +201,8 @@ edged_with low high level c (Some t) l d (e, m) =
     }
 
 -- ---- the same edges as the list of the drawing has them
-pub edges_map : (i level : ℕ) (c : Curve) (t : Option Tube) → IsTubed level c t → map edge_as (runs.edges_of i c.kind c (bays_at (arc c) level)) ≡ edges_with c t
+pub edges_map : (i level : ℕ) (c : Curve) (t : Option Tube) → IsTubed level c t
+    → map edge_as (runs.edges_of i c.kind c (bays_at (arc c) level)) ≡ edges_with c t
 edges_map i level c None e = ap (λ (k : CurveKind). map edge_as (runs.edges_of i k c (bays_at (arc c) level))) e
 edges_map i level c (Some t) (e, m) =
     ap (λ (k : CurveKind). map edge_as (runs.edges_of i k c (bays_at (arc c) level))) e
@@ -205,7 +228,8 @@ ends_of_one p q v = by_test (comes_first p q)
         turned (inl a) = inr a
         turned (inr b) = inl b
 
-chain_ends : (p : Point) (qs : List Point) (v : Point) → EndsOf (chain_edges p qs) v → Has v (p ∷ qs)
+chain_ends : (p : Point) (qs : List Point) (v : Point) → EndsOf (chain_edges p qs) v
+    → Has v (p ∷ qs)
 chain_ends p [] v (e, h, i) = absurd h
 chain_ends p (q ∷ qs) v (e, inl s, i) = elim ((ends_of_one p q v).0 (subst (λ f. IsEnd f v) s i)) [ inl a ↦ inl (sym a) | inr b ↦ inr (inl (sym b)) ]
 chain_ends p (q ∷ qs) v (e, inr h, i) = inr (chain_ends q qs v (e, h, i))
@@ -213,7 +237,8 @@ chain_ends p (q ∷ qs) v (e, inr h, i) = inr (chain_ends q qs v (e, h, i))
 ends_more : (f : Edge) (es : List Edge) (v : Point) → EndsOf es v → EndsOf (f ∷ es) v
 ends_more f es v (e, h, i) = (e, inr h, i)
 
-chain_starts : (p : Point) (qs : List Point) (v : Point) → 0 < length qs → v ≡ p → EndsOf (chain_edges p qs) v
+chain_starts : (p : Point) (qs : List Point) (v : Point) → 0 < length qs → v ≡ p
+    → EndsOf (chain_edges p qs) v
 chain_starts p [] v l e = absurd (omega (arith, l))
 chain_starts p (q ∷ qs) v l e = (edge_from p q, inl refl, (ends_of_one p q v).1 (inl (sym e)))
 
@@ -234,13 +259,15 @@ last_has to [] l h = absurd (omega (arith, l))
 last_has to (v ∷ []) l h = inl (sym h)
 last_has to (v ∷ (w ∷ vs)) l h = inr (last_has to (w ∷ vs) (omega arith) h)
 
-pub some_after : (level : ℕ) (c : Curve) (t : Tube) (m : IsMade (arc c) level t) → 0 < length m.after
+pub some_after : (level : ℕ) (c : Curve) (t : Tube) (m : IsMade (arc c) level t)
+    → 0 < length m.after
 some_after level c t m = subst (λ (n : ℕ). 0 < n) (sym (inner_are (arc c) (level + 1) m.after m.tube.inner_made).size) (power_positive (level + 1))
 
 pub to_is_inner : (level : ℕ) (c : Curve) (t : Tube) (m : IsMade (arc c) level t) → Has c.to m.after
 to_is_inner level c t m = last_has c.to m.after (some_after level c t m) (inner_are (arc c) (level + 1) m.after m.tube.inner_made).end
 
-pub ends_are : (level : ℕ) (c : Curve) (t : Option Tube) (v : Point) → IsTubed level c t → EndsOf (edges_with c t) v ↔ Has v (corners c t)
+pub ends_are : (level : ℕ) (c : Curve) (t : Option Tube) (v : Point) → IsTubed level c t
+    → EndsOf (edges_with c t) v ↔ Has v (corners c t)
 ends_are level c None v k = (
   (λ s. chain_ends c.from (c.to ∷ []) v s),
   (λ h. elim h [ inl e ↦ chain_starts c.from (c.to ∷ []) v (omega arith) e | inr m ↦ chain_reaches c.from (c.to ∷ []) v m ]),

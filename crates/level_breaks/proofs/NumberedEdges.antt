@@ -1,5 +1,6 @@
 -- The edges of a drawing at a level by number, and those of each of its curves.
-use Rattle.std.proofs.Common.{◌≡◌, inl, inr, ℕ, zero, suc, ◌+◌, ◌<◌, Bool, true, false, cond, List, [], ◌∷◌, ◌++◌, length, get_or, map, refl, arith, ap, sym, ◌∙◌, subst}
+use Rattle.std.proofs.Common.{◌≡◌, inl, inr, ℕ, zero, suc, ◌+◌, ◌<◌, Bool, true, false, cond, List}
+use Rattle.std.proofs.Common.{[], ◌∷◌, ◌++◌, length, get_or, map, refl, arith, ap, sym, ◌∙◌, subst}
 use Rattle.std.proofs.lemmas.List.{length-map}
 use Rattle.plane.specs.CurveRuns.TubedRuns as runs
 use Rattle.plane.specs.Lists.{Has}
@@ -24,13 +25,15 @@ joins p q = by_test (comes_first p q)
     by_test true = inl (refl, refl)
     by_test false = inr (refl, refl)
 
-mapped_at : (os : List runs.Owned) (e : ℕ) → e < length os → edge_of (map edge_as os) e ≡ edge_as (get_or os e runs.no_edge)
+mapped_at : (os : List runs.Owned) (e : ℕ) → e < length os
+    → edge_of (map edge_as os) e ≡ edge_as (get_or os e runs.no_edge)
 mapped_at [] e l = absurd (omega (arith, l))
 mapped_at (o ∷ os) zero l = refl
 mapped_at (o ∷ os) (suc e) l = mapped_at os e (omega (arith, l))
 
 -- the edges of chains are of their part
-chain_part : (i : ℕ) (part : runs.Part) (p : Point) (qs : List Point) (o : runs.Owned) → Has o (runs.chain i part p qs) → o.part ≡ part
+chain_part : (i : ℕ) (part : runs.Part) (p : Point) (qs : List Point) (o : runs.Owned)
+    → Has o (runs.chain i part p qs) → o.part ≡ part
 chain_part i part p [] o h = absurd h
 chain_part i part p (q ∷ qs) o (inl e) = ap (λ (x : runs.Owned). x.part) e
 chain_part i part p (q ∷ qs) o (inr h) = chain_part i part q qs o h
@@ -51,10 +54,12 @@ module _ (d : Plan) (level : ℕ) where
   pub counted : (e : ℕ) → e < length owned_list → e < length (edges_at d level)
   counted e l = subst (λ (n : ℕ). e < n) (sym edge_count) l
 
-  pub edge_is : (e : ℕ) → e < length (edges_at d level) → edge_at d level e ≡ edge_as (owned_at d level e)
+  pub edge_is : (e : ℕ) → e < length (edges_at d level)
+      → edge_at d level e ≡ edge_as (owned_at d level e)
   edge_is e l = mapped_at owned_list e (listed e l)
 
-  pub connects : (e : ℕ) → e < length (edges_at d level) → runs.Connects (edge_at d level e) (owned_at d level e).from (owned_at d level e).to
+  pub connects : (e : ℕ) → e < length (edges_at d level)
+      → runs.Connects (edge_at d level e) (owned_at d level e).from (owned_at d level e).to
   connects e l = subst (λ x. runs.Connects x (owned_at d level e).from (owned_at d level e).to) (sym (edge_is e l)) (joins (owned_at d level e).from (owned_at d level e).to)
 
   -- edge e belongs to the curve of that number and is one of its edges
@@ -84,7 +89,8 @@ module _ (d : Plan) (level : ℕ) where
       })
 
   -- each edge of a curve has a number
-  pub number_of : (i : ℕ) (o : runs.Owned) → i < length d.curves → Has o (group d level i) → (e : ℕ) × (e < length (edges_at d level)) × (owned_at d level e ≡ o)
+  pub number_of : (i : ℕ) (o : runs.Owned) → i < length d.curves → Has o (group d level i)
+      → (e : ℕ) × (e < length (edges_at d level)) × (owned_at d level e ≡ o)
   number_of i o l h =
       let (k, lk, e) = has_at o runs.no_edge (group d level i) h in
       let f = group_fits B no_curve 0 d.curves i i l (omega arith) in (
@@ -99,14 +105,16 @@ module _ (d : Plan) (level : ℕ) where
       ap (λ (y : runs.Owned). y.curve) (sym e) ∙ edge_curve (curve d i).kind (curve d i) (B i) i k l
 
   -- edges of half arcs are of tubes
-  pub arc_part : (i : ℕ) (o : runs.Owned) → (curve d i).kind ≡ kind.HalfArc → Has o (group d level i) → runs.IsOfTube o.part
+  pub arc_part : (i : ℕ) (o : runs.Owned) → (curve d i).kind ≡ kind.HalfArc
+      → Has o (group d level i) → runs.IsOfTube o.part
   arc_part i o e h = elim (has_either o (runs.chain i runs.inner (curve d i).from (runs.inner_corners (B i))) (runs.chain i runs.outer (curve d i).from (runs.outer_corners (B i) ++ (curve d i).to ∷ [])) (subst (λ (k : CurveKind). Has o (runs.edges_of i k (curve d i) (B i))) e h)) [
     | inl a ↦ subst runs.IsOfTube (sym (chain_part i runs.inner _ _ o a)) tt
     | inr b ↦ subst runs.IsOfTube (sym (chain_part i runs.outer _ _ o b)) tt
   ]
 
   -- and those of straights are not
-  pub tube_kind : (i : ℕ) (o : runs.Owned) → runs.IsOfTube o.part → Has o (group d level i) → (curve d i).kind ≡ kind.HalfArc
+  pub tube_kind : (i : ℕ) (o : runs.Owned) → runs.IsOfTube o.part → Has o (group d level i)
+      → (curve d i).kind ≡ kind.HalfArc
   tube_kind i o t h = by_kind (curve d i).kind refl
     where
       by_kind : (k : CurveKind) → (curve d i).kind ≡ k → k ≡ kind.HalfArc

@@ -1,5 +1,6 @@
 -- What a test of two curves of a drawing says of a level.
-use Rattle.std.proofs.Common.{◌≡◌, ◌↔◌, ℕ, ◌<◌, ◌≤◌, Bool, IsTrue, Option, List, length, get_or, arith, sym, ◌∙◌, subst, All}
+use Rattle.std.proofs.Common.{◌≡◌, ◌↔◌, ℕ, ◌<◌, ◌≤◌, Bool, IsTrue, Option, List, length, get_or}
+use Rattle.std.proofs.Common.{arith, sym, ◌∙◌, subst, All}
 use Rattle.plane.specs.CurveRuns.TubedRuns as runs
 use Rattle.plane.specs.Forms.Meets.{IsEnd}
 use Rattle.plane.specs.Forms.Vectors.{point}
@@ -35,7 +36,9 @@ pub record IsCurveAt (d : Plan) (level i : ℕ) (g : Group) : Type 0 where
   pub holds : HoldsAll (box_of g.reach) (groups.corners g.curve.now g.tube.now)
 
 -- what is taken from lists of tubes and boxes
-pub listed_at : (d : Plan) (level i : ℕ) (tubes : List (Option Tube)) (boxes : List Reach) (g : Group) → i < length d.curves → AreTubesAt d level tubes → AreBoxesTo d.curves tubes (length d.curves) boxes
+pub listed_at : (d : Plan) (level i : ℕ) (tubes : List (Option Tube)) (boxes : List Reach) (g : Group)
+    → i < length d.curves → AreTubesAt d level tubes
+    → AreBoxesTo d.curves tubes (length d.curves) boxes
     → g.curve.now ≡ curve d i → g.tube.now ≡ tube_of tubes i → g.reach ≡ reach_of boxes i → IsCurveAt d level i g
 listed_at d level i tubes boxes g l ht hb curve_is tube_is reach_is = record {
   curve_is = curve_is;
@@ -45,14 +48,19 @@ listed_at d level i tubes boxes g l ht hb curve_is tube_is reach_is = record {
 }
 
 -- ---- curves by number
-pub indexed_at : (d : Plan) (i : ℕ) (c x : Curve) → i < length d.curves → c ≡ get_or d.curves i x → c ≡ curve d i
+pub indexed_at : (d : Plan) (i : ℕ) (c x : Curve) → i < length d.curves → c ≡ get_or d.curves i x
+    → c ≡ curve d i
 indexed_at d i c x l e = e ∙ one_default d.curves i x _ l
 
-pub fit_at : (d : Plan) (i : ℕ) (c x : Curve) → i < length d.curves → All (λ (c : Curve). IsDrawn d.window.low d.window.high c) d.curves → c ≡ get_or d.curves i x → IsFit c
+pub fit_at : (d : Plan) (i : ℕ) (c x : Curve) → i < length d.curves
+    → All (λ (c : Curve). IsDrawn d.window.low d.window.high c) d.curves → c ≡ get_or d.curves i x
+    → IsFit c
 fit_at d i c x l drawn e = subst IsFit (sym (indexed_at d i c x l e)) (fit d.window (curve d i) (drawn i _ l))
 
 -- what is made for one curve
-pub made_at : (d : Plan) (level i : ℕ) (c : Curve) (t : Option Tube) (g : Group) → c ≡ curve d i → IsTubeFor c level t → g.curve.now ≡ c → g.tube.now ≡ t → HoldsAll (box_of g.reach) (groups.corners c t) → IsCurveAt d level i g
+pub made_at : (d : Plan) (level i : ℕ) (c : Curve) (t : Option Tube) (g : Group) → c ≡ curve d i
+    → IsTubeFor c level t → g.curve.now ≡ c → g.tube.now ≡ t
+    → HoldsAll (box_of g.reach) (groups.corners c t) → IsCurveAt d level i g
 made_at d level i c t g e told curve_is tube_is holds = record {
   curve_is = curve_is ∙ e;
   tube = subst (IsTubeFor (curve d i) level) (sym tube_is) (subst (λ x. IsTubeFor x level t) e told);
@@ -63,17 +71,21 @@ module _ (d : Plan) (level i j : ℕ) (order : i < j) (there : j < length d.curv
   first_there : i < length d.curves
   first_there = omega (arith, order, there)
 
-  tubed_by : (k : ℕ) (x : Group) → IsCurveAt d level k x → HasEdges x.curve.now x.tube.now → IsTubed level (curve d k) x.tube.now
+  tubed_by : (k : ℕ) (x : Group) → IsCurveAt d level k x → HasEdges x.curve.now x.tube.now
+      → IsTubed level (curve d k) x.tube.now
   tubed_by k x n e = tubed_of level (curve d k) x.tube.now n.tube (subst (λ c. HasEdges c x.tube.now) n.curve_is e)
 
-  group_by : (k : ℕ) (x : Group) → k < length d.curves → All (λ (c : Curve). IsDrawn d.window.low d.window.high c) d.curves → IsCurveAt d level k x → HasEdges x.curve.now x.tube.now → IsGroup d.window.low d.window.high level x
+  group_by : (k : ℕ) (x : Group) → k < length d.curves
+      → All (λ (c : Curve). IsDrawn d.window.low d.window.high c) d.curves → IsCurveAt d level k x
+      → HasEdges x.curve.now x.tube.now → IsGroup d.window.low d.window.high level x
   group_by k x l drawn n e = record {
     drawn = subst (IsDrawn d.window.low d.window.high) (sym n.curve_is) (drawn k _ l);
     tubed = subst (λ c. IsTubed level c x.tube.now) (sym n.curve_is) (tubed_by k x n e);
     holds = n.holds;
   }
 
-  pub placed : level ≤ 5 → All (λ (c : Curve). IsDrawn d.window.low d.window.high c) d.curves → HasEdges g.curve.now g.tube.now → HasEdges h.curve.now h.tube.now → AreGroups g h
+  pub placed : level ≤ 5 → All (λ (c : Curve). IsDrawn d.window.low d.window.high c) d.curves
+      → HasEdges g.curve.now g.tube.now → HasEdges h.curve.now h.tube.now → AreGroups g h
   placed few drawn eg eh = record {
     low = d.window.low;
     high = d.window.high;
@@ -89,20 +101,24 @@ module _ (d : Plan) (level i j : ℕ) (order : i < j) (there : j < length d.curv
 
   module _ (own_enter : (i e : ℕ) (a : Edge) (p : Point) (t : Tile) → (curve d i).kind ≡ kind.HalfArc → IsTube (arc (curve d i)) (drawn_bays d level i) → e < length (runs.edge_list (drawn_bays d level) 0 d.curves)
       → (owned_at d level e).curve ≡ i → runs.Connects a (owned_at d level e).from (owned_at d level e).to → IsEnd a p → Has t (tiles (curve d i).from (drawn_bays d level i)) → InTile t (point p) → IsCornerOf t p) where
-    broken_by : HasEdges g.curve.now g.tube.now → HasEdges h.curve.now h.tube.now → AreBroken g.curve.now g.tube.now h.curve.now h.tube.now ↔ Breaks d level i j
+    broken_by : HasEdges g.curve.now g.tube.now → HasEdges h.curve.now h.tube.now
+        → AreBroken g.curve.now g.tube.now h.curve.now h.tube.now ↔ Breaks d level i j
     broken_by eg eh =
         subst (λ c. AreBroken c g.tube.now h.curve.now h.tube.now ↔ Breaks d level i j) (sym gi.curve_is)
         (subst (λ c. AreBroken (curve d i) g.tube.now c h.tube.now ↔ Breaks d level i j) (sym hj.curve_is)
         (broken_is d level own_enter i j g.tube.now h.tube.now differ first_there there (tubed_by i g gi eg) (tubed_by j h hj eh)))
 
-    have_edges : Breaks d level i j → HasEdges g.curve.now g.tube.now × HasEdges h.curve.now h.tube.now
+    have_edges : Breaks d level i j
+        → HasEdges g.curve.now g.tube.now × HasEdges h.curve.now h.tube.now
     have_edges s =
         let a = groups_of d level i j differ s in (
           subst (λ c. HasEdges c g.tube.now) (sym gi.curve_is) (group_has_edges d level i g.tube.now gi.tube a.0),
           subst (λ c. HasEdges c h.tube.now) (sym hj.curve_is) (group_has_edges d level j h.tube.now hj.tube a.1),
         )
 
-    pub breaks_is : (b : Bool) → (IsTrue b ↔ AreBreaking g.curve.now g.tube.now h.curve.now h.tube.now) → IsTrue b ↔ Breaks d level i j
+    pub breaks_is : (b : Bool)
+        → (IsTrue b ↔ AreBreaking g.curve.now g.tube.now h.curve.now h.tube.now)
+        → IsTrue b ↔ Breaks d level i j
     breaks_is b k = (
       (λ t. let p = k.0 t in (broken_by p.0.0 p.0.1).0 p.1),
       (λ s. let e = have_edges s in k.1 (e, (broken_by e.0 e.1).1 s)),

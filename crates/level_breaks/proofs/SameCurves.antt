@@ -1,5 +1,6 @@
 -- Whether two curves break a level does not depend on their numbers, nor on what else is drawn.
-use Rattle.std.proofs.Common.{◌≡◌, inl, inr, ℕ, ◌<◌, List, [], ◌∷◌, ◌++◌, length, refl, ap, sym, subst, pos, ◌≤ℤ◌}
+use Rattle.std.proofs.Common.{◌≡◌, inl, inr, ℕ, ◌<◌, List, [], ◌∷◌, ◌++◌, length, refl, ap, sym}
+use Rattle.std.proofs.Common.{subst, pos, ◌≤ℤ◌}
 use Rattle.plane.specs.CurveRuns.TubedRuns as runs
 use Rattle.plane.specs.Forms.Meets.{Bad, IsEnd}
 use Rattle.plane.specs.Forms.Vectors.{point}
@@ -16,7 +17,8 @@ use Rattle.plane.specs.declared.kinds.CurveKind.TheVariants as kind
 use Rattle.plane.specs.declared.kinds.Edge.{Edge}
 use Rattle.plane.specs.declared.kinds.Point.{Point}
 use Rattle.plane.proofs.ListLemmas.Lists.{has_append, has_back, has_front}
-use Rattle.tubes.specs.Settled.{Breaks, BreaksOneWay, EdgesMeet, EndsAt, EntersTube, HasGroup, LiesUnderChord, SharesCorner, corners, edges, group, missing}
+use Rattle.tubes.specs.Settled.{Breaks, BreaksOneWay, EdgesMeet, EndsAt, EntersTube, HasGroup}
+use Rattle.tubes.specs.Settled.{LiesUnderChord, SharesCorner, corners, edges, group, missing}
 use Rattle.tubes.specs.TubedEdges.{HasTube, bays_at, drawn_bays, edge_as}
 
 -- ---- the edges of one curve under two numbers
@@ -24,12 +26,14 @@ use Rattle.tubes.specs.TubedEdges.{HasTube, bays_at, drawn_bays, edge_as}
 abbrev pub Copy : runs.Owned → List runs.Owned → Type 0
 Copy o os = (u : runs.Owned) × Has u os × (edge_as u ≡ edge_as o)
 
-chain_copy : (i a : ℕ) (p : runs.Part) (v : Point) (ps : List Point) (o : runs.Owned) → Has o (runs.chain i p v ps) → Copy o (runs.chain a p v ps)
+chain_copy : (i a : ℕ) (p : runs.Part) (v : Point) (ps : List Point) (o : runs.Owned)
+    → Has o (runs.chain i p v ps) → Copy o (runs.chain a p v ps)
 chain_copy i a p v [] o h = absurd h
 chain_copy i a p v (q ∷ ps) o (inl e) = (record { from = v; to = q; curve = a; part = p }, inl refl, sym (ap edge_as e))
 chain_copy i a p v (q ∷ ps) o (inr h) = let c = chain_copy i a p q ps o h in (c.0, inr c.1, c.2)
 
-kind_copy : (i a : ℕ) (k : CurveKind) (c : Curve) (bs : List Bay) (o : runs.Owned) → Has o (runs.edges_of i k c bs) → Copy o (runs.edges_of a k c bs)
+kind_copy : (i a : ℕ) (k : CurveKind) (c : Curve) (bs : List Bay) (o : runs.Owned)
+    → Has o (runs.edges_of i k c bs) → Copy o (runs.edges_of a k c bs)
 kind_copy i a kind.Straight c bs o h = chain_copy i a runs.whole c.from (c.to ∷ []) o h
 kind_copy i a kind.HalfArc c bs o h =
     elim (has_append o (runs.chain i runs.inner c.from (runs.inner_corners bs)) (runs.chain i runs.outer c.from (runs.outer_corners bs ++ c.to ∷ [])) h) [
@@ -104,7 +108,9 @@ module _ (d e : Plan) (level i j a b : ℕ) (ta : a < length e.curves) (tb : b <
   way_copy (inr (inl h)) = inr (inl (share_copy h))
   way_copy (inr (inr h)) = inr (inr (under_copy h))
 
-pub breaks_copy : (d e : Plan) (level i j a b : ℕ) → a < length e.curves → b < length e.curves → curve d i ≡ curve e a → curve d j ≡ curve e b → (i ≡ j → ⊥) → (a ≡ b → ⊥) → Breaks d level i j → Breaks e level a b
+pub breaks_copy : (d e : Plan) (level i j a b : ℕ) → a < length e.curves → b < length e.curves
+    → curve d i ≡ curve e a → curve d j ≡ curve e b → (i ≡ j → ⊥) → (a ≡ b → ⊥) → Breaks d level i j
+    → Breaks e level a b
 breaks_copy d e level i j a b ta tb ci cj n m (missing q h k) = absurd (n q)
 breaks_copy d e level i j a b ta tb ci cj n m (edges q g h k) = edges m (group_copy d e level i a ta ci g) (group_copy d e level j b tb cj h) (meet_copy d e level i j a b ta tb ci cj k)
 breaks_copy d e level i j a b ta tb ci cj n m (corners q g h (inl w)) = corners m (group_copy d e level i a ta ci g) (group_copy d e level j b tb cj h) (inl (way_copy d e level i j a b ta tb ci cj w))

@@ -1,5 +1,6 @@
 -- What a program tests of two curves is that they break the level.
-use Rattle.std.proofs.Common.{◌≡◌, ◌↔◌, ◌⊎◌, inl, inr, ℕ, ◌<◌, Option, Some, None, List, [], ◌∷◌, length, map, refl, arith, ap, sym, ◌∙◌, subst, pos, ◌≤ℤ◌}
+use Rattle.std.proofs.Common.{◌≡◌, ◌↔◌, ◌⊎◌, inl, inr, ℕ, ◌<◌, Option, Some, None, List, [], ◌∷◌}
+use Rattle.std.proofs.Common.{length, map, refl, arith, ap, sym, ◌∙◌, subst, pos, ◌≤ℤ◌}
 use Rattle.plane.specs.CurveRuns.TubedRuns as runs
 use Rattle.plane.specs.Forms.Meets.{Bad, IsEnd}
 use Rattle.plane.specs.Forms.Vectors.{point}
@@ -18,20 +19,26 @@ use Rattle.plane.specs.declared.kinds.Point.{Point}
 use Rattle.straight_predicates.specs.EdgeLists.{edge_of, no_edge, no_point}
 use Rattle.tubes.specs.Holding.{InTubeOf}
 use Rattle.tubes.specs.Making.{IsMade}
-use Rattle.tubes.specs.Settled.{Breaks, BreaksOneWay, EdgesMeet, EndsAt, EntersTube, HasGroup, IsTubeFor, LiesUnderChord, SharesCorner, corners, edge_at, edges, group, missing, owned_at}
+use Rattle.tubes.specs.Settled.{Breaks, BreaksOneWay, EdgesMeet, EndsAt, EntersTube, HasGroup}
+use Rattle.tubes.specs.Settled.{IsTubeFor, LiesUnderChord, SharesCorner, corners, edge_at, edges}
+use Rattle.tubes.specs.Settled.{group, missing, owned_at}
 use Rattle.tubes.specs.TubedEdges.{HasTube, bays_at, drawn_bays, edge_as}
 use Rattle.tubes.specs.declared.kinds.Tube.{Tube}
 use Rattle.tubes.proofs.TubePoints.{tube_is}
-use Rattle.level_breaks.specs.GroupBreaks.{AreBroken, BreakOneWay, HasEdges, IsInTube, IsUnderChord, SomeInTube, SomeMeet}
+use Rattle.level_breaks.specs.GroupBreaks.{AreBroken, BreakOneWay, HasEdges, IsInTube, IsUnderChord}
+use Rattle.level_breaks.specs.GroupBreaks.{SomeInTube, SomeMeet}
 use Rattle.level_breaks.specs.Groups as groups
 use Rattle.level_breaks.specs.Groups.{IsTubed, edges_with, nth}
-use Rattle.level_breaks.proofs.GroupEdges.{at_has, edges_map, ends_are, has_at, has_left, has_mapped, mapped_has, some_after, to_is_inner}
-use Rattle.level_breaks.proofs.TubePlaces.{corner_is_corner, corner_is_held, held_is_in_tile, made_bays, made_sizes}
+use Rattle.level_breaks.proofs.GroupEdges.{at_has, edges_map, ends_are, has_at, has_left}
+use Rattle.level_breaks.proofs.GroupEdges.{has_mapped, mapped_has, some_after, to_is_inner}
+use Rattle.level_breaks.proofs.TubePlaces.{corner_is_corner, corner_is_held, held_is_in_tile}
+use Rattle.level_breaks.proofs.TubePlaces.{made_bays, made_sizes}
 use Rattle.level_breaks.proofs.NumberedEdges.{connects, edge_is, group_curve, listed, number_of}
 use Rattle.level_breaks.proofs.Unbroken.{decide_corner}
 
 -- ---- lists of edges
-bad_of_lists : (es fs : List Edge) → SomeMeet es fs ↔ ((a : Edge) × (b : Edge) × Has a es × Has b fs × Bad a b)
+bad_of_lists : (es fs : List Edge)
+    → SomeMeet es fs ↔ ((a : Edge) × (b : Edge) × Has a es × Has b fs × Bad a b)
 bad_of_lists es fs = (
   (λ (k, lk, (m, lm, h)). (edge_of es k, edge_of fs m, at_has no_edge es k lk, at_has no_edge fs m lm, h)),
   (λ (a, b, ha, hb, h).
@@ -45,10 +52,12 @@ module _ (d : Plan) (level i : ℕ) (t : Option Tube) (tubed : IsTubed level (cu
   same_edges : map edge_as (group d level i) ≡ edges_with (curve d i) t
   same_edges = edges_map i level (curve d i) t tubed
 
-  pub edge_has : (o : runs.Owned) → Has o (group d level i) → Has (edge_as o) (edges_with (curve d i) t)
+  pub edge_has : (o : runs.Owned) → Has o (group d level i)
+      → Has (edge_as o) (edges_with (curve d i) t)
   edge_has o h = subst (Has (edge_as o)) same_edges (has_mapped edge_as o (group d level i) h)
 
-  pub has_edge : (e : Edge) → Has e (edges_with (curve d i) t) → (o : runs.Owned) × Has o (group d level i) × (e ≡ edge_as o)
+  pub has_edge : (e : Edge) → Has e (edges_with (curve d i) t)
+      → (o : runs.Owned) × Has o (group d level i) × (e ≡ edge_as o)
   has_edge e h = mapped_has edge_as e (group d level i) (subst (Has e) (sym same_edges) h)
 
   pub ends_have : (p : Point) → EndsAt d level i p ↔ Has p (groups.corners (curve d i) t)
@@ -61,7 +70,9 @@ tubed_kind : (level : ℕ) (c : Curve) (t : Tube) → IsTubed level c (Some t) �
 tubed_kind level c t h = h.0
 
 -- ---- edges that meet
-pub meet_is : (d : Plan) (level i j : ℕ) (t u : Option Tube) → IsTubed level (curve d i) t → IsTubed level (curve d j) u → SomeMeet (edges_with (curve d i) t) (edges_with (curve d j) u) ↔ EdgesMeet d level i j
+pub meet_is : (d : Plan) (level i j : ℕ) (t u : Option Tube) → IsTubed level (curve d i) t
+    → IsTubed level (curve d j) u
+    → SomeMeet (edges_with (curve d i) t) (edges_with (curve d j) u) ↔ EdgesMeet d level i j
 meet_is d level i j t u ht hu = (
   (λ s.
       let (a, b, ha, hb, h) = (bad_of_lists (edges_with (curve d i) t) (edges_with (curve d j) u)).0 s in
@@ -89,7 +100,8 @@ module _ (d : Plan) (level : ℕ)
     half_arc = record { there = there; kind = tubed.0 }
 
     -- an end of the half arc in a triangle of its tube is a corner of the triangle
-    end_is_corner : (tile : Tile) (p : Point) → Has tile (tiles c.from (drawn_bays d level i)) → InTile tile (point p) → IsEndOf c p → IsCornerOf tile p
+    end_is_corner : (tile : Tile) (p : Point) → Has tile (tiles c.from (drawn_bays d level i))
+        → InTile tile (point p) → IsEndOf c p → IsCornerOf tile p
     end_is_corner tile p h there_in e =
         let (o, ho, end) = (ends_have d level i (Some t) tubed p).1 (is_own e) in
         let (x, lx, ex) = number_of d level i o there ho in
@@ -101,19 +113,23 @@ module _ (d : Plan) (level : ℕ)
         is_own (inr q) = has_left p t.inner.items t.outer.items (subst (Has p) (sym made.inner) (inr (subst (λ v. Has v made.after) q (to_is_inner level c t made))))
 
     module _ (j : ℕ) (u : Option Tube) (tubed_too : IsTubed level (curve d j) u) where
-      pub entered : (i ≡ j → ⊥) → SomeInTube c t (groups.corners (curve d j) u) → EntersTube d level i j ⊎ SharesCorner d level i j
+      pub entered : (i ≡ j → ⊥) → SomeInTube c t (groups.corners (curve d j) u)
+          → EntersTube d level i j ⊎ SharesCorner d level i j
       entered n (k, lk, h) =
           let p = nth (groups.corners (curve d j) u) k in
           let ends = (ends_have d level j u tubed_too p).1 (at_has no_point (groups.corners (curve d j) u) k lk) in
           by_tile p ends h ((held_is_in_tile level c t made (point p)).0 h.there)
         where
-          by_tile : (p : Point) → EndsAt d level j p → IsInTube c t p → (tile : Tile) × Has tile (tiles c.from (bays_at (arc c) level)) × InTile tile (point p) → EntersTube d level i j ⊎ SharesCorner d level i j
+          by_tile : (p : Point) → EndsAt d level j p → IsInTube c t p
+              → (tile : Tile) × Has tile (tiles c.from (bays_at (arc c) level)) × InTile tile (point p)
+              → EntersTube d level i j ⊎ SharesCorner d level i j
           by_tile p ends h (tile, has, holds) = elim (decide_corner tile p) [
             | inl q ↦ inr (record { half_arc = half_arc; p = p; corner = (ends_have d level i (Some t) tubed p).1 (corner_is_corner level c t made tile p has q); no_end = h.no_end; ends = ends })
             | inr q ↦ inl (record { half_arc = half_arc; p = p; ends = ends; triangle = tile; of_tube = has; holds = holds; no_corner = q })
           ]
 
-      found : (p : Point) → EndsAt d level j p → (IsEndOf c p → ⊥) → InTubeOf t (point p) → SomeInTube c t (groups.corners (curve d j) u)
+      found : (p : Point) → EndsAt d level j p → (IsEndOf c p → ⊥) → InTubeOf t (point p)
+          → SomeInTube c t (groups.corners (curve d j) u)
       found p ends n holds =
           let (k, lk, e) = has_at p no_point (groups.corners (curve d j) u) ((ends_have d level j u tubed_too p).0 ends) in
           (k, lk, subst (IsInTube c t) (sym e) (record { no_end = n; there = holds }))
@@ -125,7 +141,8 @@ module _ (d : Plan) (level : ℕ)
       shares h = found h.p h.ends h.no_end (corner_is_held level c t made h.p (some_after level c t made) ((ends_have d level i (Some t) tubed h.p).0 h.corner))
 
 -- ---- straights under tubes
-bay_over : (v : Point) (vs os : List Point) → length os ≡ length vs → Has v vs → (b : Bay) × Has b (bays vs os) × (b.inner ≡ v)
+bay_over : (v : Point) (vs os : List Point) → length os ≡ length vs → Has v vs
+    → (b : Bay) × Has b (bays vs os) × (b.inner ≡ v)
 bay_over v [] os e h = absurd h
 bay_over v (w ∷ vs) [] e h = absurd (omega (arith, e))
 bay_over v (w ∷ vs) (o ∷ os) e (inl q) = (record { outer = o; inner = w }, inl refl, sym q)
@@ -176,7 +193,9 @@ two_kinds e = cc
 module _ (d : Plan) (level : ℕ)
     (own_enter : (i e : ℕ) (a : Edge) (p : Point) (t : Tile) → (curve d i).kind ≡ kind.HalfArc → IsTube (arc (curve d i)) (drawn_bays d level i) → e < length (runs.edge_list (drawn_bays d level) 0 d.curves)
     → (owned_at d level e).curve ≡ i → runs.Connects a (owned_at d level e).from (owned_at d level e).to → IsEnd a p → Has t (tiles (curve d i).from (drawn_bays d level i)) → InTile t (point p) → IsCornerOf t p) where
-  pub one_way : (i j : ℕ) (t u : Option Tube) → (i ≡ j → ⊥) → i < length d.curves → j < length d.curves → IsTubed level (curve d i) t → IsTubed level (curve d j) u → BreakOneWay (curve d i) t (curve d j) u ↔ BreaksOneWay d level i j
+  pub one_way : (i j : ℕ) (t u : Option Tube) → (i ≡ j → ⊥) → i < length d.curves
+      → j < length d.curves → IsTubed level (curve d i) t → IsTubed level (curve d j) u
+      → BreakOneWay (curve d i) t (curve d j) u ↔ BreaksOneWay d level i j
   one_way i j None None n li lj ht hu = ((λ h. elim h [ inl a ↦ absurd a | inr a ↦ absurd a ]), (λ h. by h))
     where
       by : BreaksOneWay d level i j → BreakOneWay (curve d i) None (curve d j) None
@@ -200,14 +219,18 @@ module _ (d : Plan) (level : ℕ)
       by (inr (inl h)) = inl (shares d level own_enter i t li ht j u hu h)
       by (inr (inr h)) = two_kinds (sym h.straight.kind ∙ ht.0)
 
-  has_group : (i : ℕ) (t : Option Tube) → i < length d.curves → IsTubed level (curve d i) t → HasGroup d level i
+  has_group : (i : ℕ) (t : Option Tube) → i < length d.curves → IsTubed level (curve d i) t
+      → HasGroup d level i
   has_group i t l h = record { there = l; tube = λ a. by t h a.kind }
     where
-      by : (t : Option Tube) → IsTubed level (curve d i) t → (curve d i).kind ≡ kind.HalfArc → HasTube (arc (curve d i)) level
+      by : (t : Option Tube) → IsTubed level (curve d i) t → (curve d i).kind ≡ kind.HalfArc
+          → HasTube (arc (curve d i)) level
       by None s e = two_kinds (sym s ∙ e)
       by (Some t) s e = (s.1.after, t.outer.items, s.1.tube)
 
-  pub broken_is : (i j : ℕ) (t u : Option Tube) → (i ≡ j → ⊥) → i < length d.curves → j < length d.curves → IsTubed level (curve d i) t → IsTubed level (curve d j) u → AreBroken (curve d i) t (curve d j) u ↔ Breaks d level i j
+  pub broken_is : (i j : ℕ) (t u : Option Tube) → (i ≡ j → ⊥) → i < length d.curves
+      → j < length d.curves → IsTubed level (curve d i) t → IsTubed level (curve d j) u
+      → AreBroken (curve d i) t (curve d j) u ↔ Breaks d level i j
   broken_is i j t u n li lj ht hu = ((λ h. by_test h), (λ h. by h))
     where
       by_test : AreBroken (curve d i) t (curve d j) u → Breaks d level i j
@@ -222,7 +245,8 @@ module _ (d : Plan) (level : ℕ)
       by (corners m g h (inr a)) = inr (inr ((one_way j i u t (λ e. n (sym e)) lj li hu ht).1 a))
 
 -- ---- the tubes of a drawing's curves
-pub tubed_of : (level : ℕ) (c : Curve) (t : Option Tube) → IsTubeFor c level t → HasEdges c t → IsTubed level c t
+pub tubed_of : (level : ℕ) (c : Curve) (t : Option Tube) → IsTubeFor c level t → HasEdges c t
+    → IsTubed level c t
 tubed_of level c None h e = e
 tubed_of level c (Some t) h e = by c.kind refl
   where
@@ -233,7 +257,8 @@ tubed_of level c (Some t) h e = by c.kind refl
         none : {P : Type 0} → Some t ≡ None → P
         none e = cc
 
-pub group_has_edges : (d : Plan) (level i : ℕ) (t : Option Tube) → IsTubeFor (curve d i) level t → HasGroup d level i → HasEdges (curve d i) t
+pub group_has_edges : (d : Plan) (level i : ℕ) (t : Option Tube) → IsTubeFor (curve d i) level t
+    → HasGroup d level i → HasEdges (curve d i) t
 group_has_edges d level i (Some t) h g = tt
 group_has_edges d level i None h g = by (curve d i).kind refl
   where
@@ -241,7 +266,8 @@ group_has_edges d level i None h g = by (curve d i).kind refl
     by kind.Straight q = q
     by kind.HalfArc q = let (vs, os, m) = g.tube (record { there = g.there; kind = q }) in absurd (h.0 q vs os m)
 
-pub groups_of : (d : Plan) (level i j : ℕ) → (i ≡ j → ⊥) → Breaks d level i j → HasGroup d level i × HasGroup d level j
+pub groups_of : (d : Plan) (level i j : ℕ) → (i ≡ j → ⊥) → Breaks d level i j
+    → HasGroup d level i × HasGroup d level j
 groups_of d level i j n (missing e h k) = absurd (n e)
 groups_of d level i j n (edges m g h a) = (g, h)
 groups_of d level i j n (corners m g h a) = (g, h)

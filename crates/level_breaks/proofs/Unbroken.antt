@@ -1,5 +1,6 @@
 -- A level settles a drawing exactly where no two curves break it.
-use Rattle.std.proofs.Common.{◌≡◌, ◌⊎◌, inl, inr, ℕ, ◌<◌, ◌≤◌, length, refl, arith, ap, sym, ◌∙◌, subst, pos, ◌<ℤ◌, ◌≤ℤ◌}
+use Rattle.std.proofs.Common.{◌≡◌, ◌⊎◌, inl, inr, ℕ, ◌<◌, ◌≤◌, length, refl, arith, ap, sym, ◌∙◌}
+use Rattle.std.proofs.Common.{subst, pos, ◌<ℤ◌, ◌≤ℤ◌}
 use Rattle.std.proofs.lemmas.Int.{ints, by_lt_z}
 use Rattle.plane.specs.CurveRuns.TubedRuns as runs
 use Rattle.plane.specs.Forms.Meets.{Bad, Disjoint, IsEnd, Touch}
@@ -19,10 +20,13 @@ use Rattle.plane.proofs.Windings.Enters.{Decided, decide_point}
 use Rattle.straight_predicates.proofs.Orders.{by_lt}
 use Rattle.tubes.specs.DrawnEdges.{edge_from}
 use Rattle.tubes.specs.HalfArcTubes.{HasNoTube}
-use Rattle.tubes.specs.Settled.{Breaks, BreaksOneWay, EndsAt, EntersTube, HasGroup, HaveTubes, IsOwnCorner, IsSettledAt, LiesUnderChord, SharesCorner, corners, edge_at, edges, edges_at, group, missing, owned_at}
+use Rattle.tubes.specs.Settled.{Breaks, BreaksOneWay, EndsAt, EntersTube, HasGroup, HaveTubes}
+use Rattle.tubes.specs.Settled.{IsOwnCorner, IsSettledAt, LiesUnderChord, SharesCorner, corners}
+use Rattle.tubes.specs.Settled.{edge_at, edges, edges_at, group, missing, owned_at}
 use Rattle.tubes.specs.TubedEdges.{HasTube, drawn_bays, edge_as}
 use Rattle.level_breaks.proofs.AnyEdges.{bad_back}
-use Rattle.level_breaks.proofs.NumberedEdges.{IsOf, arc_part, connects, edge_is, group_curve, listed, number_of, one_edge, owner_of, tube_kind}
+use Rattle.level_breaks.proofs.NumberedEdges.{IsOf, arc_part, connects, edge_is, group_curve}
+use Rattle.level_breaks.proofs.NumberedEdges.{listed, number_of, one_edge, owner_of, tube_kind}
 
 -- ---- the other way round
 other_way : {A B : Type 0} → A ⊎ B → B ⊎ A
@@ -77,7 +81,8 @@ module _ (d : Plan) (level : ℕ) (s : IsSettledAt d level)
       let cj = group_curve d level j (owned_at d level f) hasf in
       by_corner ci cj (s.corners h.p e f le lf (arc_part d level i (owned_at d level e) h.half_arc.kind has) end endf)
     where
-      by_corner : {x y : ℕ} → x ≡ i → y ≡ j → (h.p ≡ (curve d x).from) ⊎ ((h.p ≡ (curve d x).to) ⊎ (y ≡ x)) → ⊥
+      by_corner : {x y : ℕ} → x ≡ i → y ≡ j
+          → (h.p ≡ (curve d x).from) ⊎ ((h.p ≡ (curve d x).to) ⊎ (y ≡ x)) → ⊥
       by_corner ci cj (inl a) = h.no_end (inl (sym (a ∙ ap (λ (k : ℕ). (curve d k).from) ci)))
       by_corner ci cj (inr (inl a)) = h.no_end (inr (sym (a ∙ ap (λ (k : ℕ). (curve d k).to) ci)))
       by_corner ci cj (inr (inr a)) = n (sym ci ∙ sym a ∙ cj)
@@ -128,7 +133,8 @@ module _ (d : Plan) (level : ℕ) (tubes : HaveTubes d level) (none : (i j : ℕ
   abbrev curve_no : ℕ → ℕ
   curve_no e = (owned_at d level e).curve
 
-  meets : (e f : ℕ) → e < length (edges_at d level) → f < length (edges_at d level) → (e ≡ f → ⊥) → Disjoint (edge_at d level e) (edge_at d level f) ⊎ Touch (edge_at d level e) (edge_at d level f)
+  meets : (e f : ℕ) → e < length (edges_at d level) → f < length (edges_at d level) → (e ≡ f → ⊥)
+      → Disjoint (edge_at d level e) (edge_at d level f) ⊎ Touch (edge_at d level e) (edge_at d level f)
   meets e f le lf n = elim (decide_number (curve_no e) (curve_no f)) [ inl q ↦ one_curve q (curve d (curve_no e)).kind refl | inr m ↦ two_curves m ]
     where
       a : IsOf d level e (curve_no e)
@@ -137,18 +143,21 @@ module _ (d : Plan) (level : ℕ) (tubes : HaveTubes d level) (none : (i j : ℕ
       b : IsOf d level f (curve_no f)
       b = owner_of d level f lf
 
-      one_curve : curve_no e ≡ curve_no f → (k : CurveKind) → (curve d (curve_no e)).kind ≡ k → Disjoint (edge_at d level e) (edge_at d level f) ⊎ Touch (edge_at d level e) (edge_at d level f)
+      one_curve : curve_no e ≡ curve_no f → (k : CurveKind) → (curve d (curve_no e)).kind ≡ k
+          → Disjoint (edge_at d level e) (edge_at d level f) ⊎ Touch (edge_at d level e) (edge_at d level f)
       one_curve q kind.Straight s = absurd (n (one_edge d level e f (curve_no e) s a (subst (IsOf d level f) (sym q) b)))
       one_curve q kind.HalfArc s =
           own_meet (curve_no e) e f (edge_at d level e) (edge_at d level f) s (tube_is (curve_no e) (tubes (curve_no e) (record { there = a.there; kind = s }))) (listed d level e le) (listed d level f lf) refl (sym q) n (connects d level e le) (connects d level f lf)
 
-      two_curves : (curve_no e ≡ curve_no f → ⊥) → Disjoint (edge_at d level e) (edge_at d level f) ⊎ Touch (edge_at d level e) (edge_at d level f)
+      two_curves : (curve_no e ≡ curve_no f → ⊥)
+          → Disjoint (edge_at d level e) (edge_at d level f) ⊎ Touch (edge_at d level e) (edge_at d level f)
       two_curves m = elim (any_meet (owned_at d level e).from (owned_at d level e).to (owned_at d level f).from (owned_at d level f).to) [
         | inl h ↦ subst (λ x. Disjoint x (edge_at d level f) ⊎ Touch x (edge_at d level f)) (sym (edge_is d level e le)) (subst (λ y. Disjoint (edge_as (owned_at d level e)) y ⊎ Touch (edge_as (owned_at d level e)) y) (sym (edge_is d level f lf)) h)
         | inr h ↦ absurd (no_pair (curve_no e) (curve_no f) m (edges m (has_group (curve_no e) a.there) (has_group (curve_no f) b.there) (owned_at d level e, owned_at d level f, a.has, b.has, h)))
       ]
 
-  ends_at : (e : ℕ) (p : Point) → e < length (edges_at d level) → IsEnd (edge_at d level e) p → EndsAt d level (curve_no e) p
+  ends_at : (e : ℕ) (p : Point) → e < length (edges_at d level) → IsEnd (edge_at d level e) p
+      → EndsAt d level (curve_no e) p
   ends_at e p l h = (owned_at d level e, (owner_of d level e l).has, subst (λ x. IsEnd x p) (edge_is d level e l) h)
 
   own_corner : (p : Point) → IsOwnCorner d level p
@@ -170,7 +179,9 @@ module _ (d : Plan) (level : ℕ) (tubes : HaveTubes d level) (none : (i j : ℕ
     ]
   ]
 
-  enters : (e : ℕ) → e < length (edges_at d level) → (p : Point) → IsEnd (edge_at d level e) p → (i : ℕ) → i < length d.curves → (curve d i).kind ≡ kind.HalfArc → (t : Tile) → Has t (tiles (curve d i).from (drawn_bays d level i)) → InTile t (point p) → IsCornerOf t p
+  enters : (e : ℕ) → e < length (edges_at d level) → (p : Point) → IsEnd (edge_at d level e) p
+      → (i : ℕ) → i < length d.curves → (curve d i).kind ≡ kind.HalfArc → (t : Tile)
+      → Has t (tiles (curve d i).from (drawn_bays d level i)) → InTile t (point p) → IsCornerOf t p
   enters e le p end i li s t has there = elim (decide_corner t p) [
     | inl c ↦ c
     | inr nc ↦ elim (decide_number (curve_no e) i) [
@@ -189,7 +200,9 @@ module _ (d : Plan) (level : ℕ) (tubes : HaveTubes d level) (none : (i j : ℕ
   two_kinds : kind.Straight ≡ kind.HalfArc → ⊥
   two_kinds e = cc
 
-  chord : (i j : ℕ) → i < length d.curves → j < length d.curves → (curve d i).kind ≡ kind.Straight → (curve d j).kind ≡ kind.HalfArc → HaveSameEnds (curve d i) (curve d j) → (b : Bay) → Has b (drawn_bays d level j)
+  chord : (i j : ℕ) → i < length d.curves → j < length d.curves → (curve d i).kind ≡ kind.Straight
+      → (curve d j).kind ≡ kind.HalfArc → HaveSameEnds (curve d i) (curve d j) → (b : Bay)
+      → Has b (drawn_bays d level j)
       → IsEndOf (curve d j) b.inner ⊎ (pos 0 <ℤ bow (arc (curve d j)) (point b.inner))
   chord i j li lj s k e b has = elim (decide_end j b.inner) [
     | inl a ↦ inl a

@@ -1,5 +1,6 @@
 -- The edges at an event of a timetable.
-use Rattle.std.proofs.Common.{◌≡◌, ℕ, zero, suc, ◌<◌, ◌==◌, Bool, true, false, refl, sym, ◌∙◌, inl, inr, List, [], ◌∷◌, length, get_or, arith, ap, subst}
+use Rattle.std.proofs.Common.{◌≡◌, ℕ, zero, suc, ◌<◌, ◌==◌, Bool, true, false, refl, sym, ◌∙◌, inl}
+use Rattle.std.proofs.Common.{inr, List, [], ◌∷◌, length, get_or, arith, ap, subst}
 use Rattle.std.proofs.lemmas.Bool.Decides.{Decides-eqb}
 use Rattle.plane.specs.declared.kinds.Edge.{Edge}
 use Rattle.plane.specs.Lists.{Has}
@@ -45,18 +46,23 @@ module _ (edges : List Edge) (table : List Timed) (k : ℕ) (t : IsTimetable (le
         point = λ e i. near d e (close e d i m) end;
       }
     where
-      near : (d e : ℕ) → EdgesAreClose (edge_of edges e) (edge_of edges d) → IsEnd (edge_of edges d) (get_or table k no_event).at → AreClose (edge_of edges e).low (get_or table k no_event).at
+      near : (d e : ℕ) → EdgesAreClose (edge_of edges e) (edge_of edges d)
+          → IsEnd (edge_of edges d) (get_or table k no_event).at
+          → AreClose (edge_of edges e).low (get_or table k no_event).at
       near d e c (inl q) = subst (λ p. AreClose (edge_of edges e).low p) q c.low_low
       near d e c (inr q) = subst (λ p. AreClose (edge_of edges e).low p) q c.low_high
 
-  pub start_end : 0 < length (get_or table k no_event).starting → (get_or (get_or table k no_event).starting 0 0 < length edges) × IsEnd (edge_of edges (get_or (get_or table k no_event).starting 0 0)) (get_or table k no_event).at
+  pub start_end : 0 < length (get_or table k no_event).starting
+      → (get_or (get_or table k no_event).starting 0 0 < length edges) × IsEnd (edge_of edges (get_or (get_or table k no_event).starting 0 0)) (get_or table k no_event).at
   start_end n = let h = (event_timed.starting (get_or (get_or table k no_event).starting 0 0)).0 (has_at (get_or table k no_event).starting 0 0 n) in (h.0, inl h.1)
 
-  pub starting_below : (starting : List ℕ) → starting ≡ (get_or table k no_event).starting → (e : ℕ) → Has e starting → e < length edges
+  pub starting_below : (starting : List ℕ) → starting ≡ (get_or table k no_event).starting → (e : ℕ)
+      → Has e starting → e < length edges
   starting_below starting q e h = ((event_timed.starting e).0 (subst (Has e) q h)).0
 
   -- where nothing starts, something ends
-  pub some_end : length (get_or table k no_event).starting ≡ 0 → 0 < length (get_or table k no_event).ending
+  pub some_end : length (get_or table k no_event).starting ≡ 0
+      → 0 < length (get_or table k no_event).ending
   some_end n =
       let (e, m, end) = event_end in
       elim end [
@@ -64,5 +70,6 @@ module _ (edges : List Edge) (table : List Timed) (k : ℕ) (t : IsTimetable (le
         | inr q ↦ none_left (get_or table k no_event).ending e ((event_timed.ending e).1 (m, q))
       ]
 
-  pub end_end : 0 < length (get_or table k no_event).ending → (get_or (get_or table k no_event).ending 0 0 < length edges) × IsEnd (edge_of edges (get_or (get_or table k no_event).ending 0 0)) (get_or table k no_event).at
+  pub end_end : 0 < length (get_or table k no_event).ending
+      → (get_or (get_or table k no_event).ending 0 0 < length edges) × IsEnd (edge_of edges (get_or (get_or table k no_event).ending 0 0)) (get_or table k no_event).at
   end_end n = let h = (event_timed.ending (get_or (get_or table k no_event).ending 0 0)).0 (has_at (get_or table k no_event).ending 0 0 n) in (h.0, inr h.1)

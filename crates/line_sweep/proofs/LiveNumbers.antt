@@ -1,5 +1,6 @@
 -- Live lists of numbers that are below a bound.
-use Rattle.std.proofs.Common.{◌≡◌, ◌⊎◌, ℕ, zero, suc, ◌+◌, ◌<◌, ◌≤◌, List, [], ◌∷◌, ◌++◌, length, take, drop, get_or, inl, inr, arith, ap, sym, subst}
+use Rattle.std.proofs.Common.{◌≡◌, ◌⊎◌, ℕ, zero, suc, ◌+◌, ◌<◌, ◌≤◌, List, [], ◌∷◌, ◌++◌, length}
+use Rattle.std.proofs.Common.{take, drop, get_or, inl, inr, arith, ap, sym, subst}
 use Rattle.std.proofs.lemmas.List.{length-append, length-take-le}
 use Rattle.plane.specs.Lists.{Has}
 use Rattle.straight_predicates.specs.EdgeLists.{AreBelow}
@@ -24,7 +25,9 @@ all_below m (x ∷ xs) b e (inr h) = all_below m xs (λ i l. b (suc i) (omega (a
 pub below_all : (m : ℕ) (xs : List ℕ) → ((e : ℕ) → Has e xs → e < m) → AreBelow m xs
 below_all m xs f i l = f (get_or xs i 0) (has_at xs i 0 l)
 
-pub replaced : (m : ℕ) (old new more : List ℕ) (from upto : ℕ) → new ≡ take from old ++ (more ++ drop upto old) → AreBelow m old → ((e : ℕ) → Has e more → e < m) → AreBelow m new
+pub replaced : (m : ℕ) (old new more : List ℕ) (from upto : ℕ)
+    → new ≡ take from old ++ (more ++ drop upto old) → AreBelow m old
+    → ((e : ℕ) → Has e more → e < m) → AreBelow m new
 replaced m old new more from upto q b f = below_all m new (λ e h. by e (subst (Has e) q h))
   where
     by : (e : ℕ) → Has e (take from old ++ (more ++ drop upto old)) → e < m
@@ -34,7 +37,8 @@ replaced m old new more from upto q b f = below_all m new (λ e h. by e (subst (
     ]
 
 -- one number more of a list
-pub one_more : (xs old new : List ℕ) (k d : ℕ) → k < length xs → new ≡ old ++ get_or xs k d ∷ [] → ((e : ℕ) → Has e old → Has e xs) → (e : ℕ) → Has e new → Has e xs
+pub one_more : (xs old new : List ℕ) (k d : ℕ) → k < length xs → new ≡ old ++ get_or xs k d ∷ []
+    → ((e : ℕ) → Has e old → Has e xs) → (e : ℕ) → Has e new → Has e xs
 one_more xs old new k d l q f e h = by (has_append e old (get_or xs k d ∷ []) (subst (Has e) q h))
   where
     by : Has e old ⊎ Has e (get_or xs k d ∷ []) → Has e xs
@@ -43,7 +47,8 @@ one_more xs old new k d l q f e h = by (has_append e old (get_or xs k d ∷ []) 
     by (inr (inr b)) = absurd b
 
 -- what is put in at a place ends within the list
-pub put_within : (old new lent room rest : List ℕ) (from : ℕ) → lent ≡ room → new ≡ take from old ++ (lent ++ rest) → from ≤ length old → from + length room ≤ length new
+pub put_within : (old new lent room rest : List ℕ) (from : ℕ) → lent ≡ room
+    → new ≡ take from old ++ (lent ++ rest) → from ≤ length old → from + length room ≤ length new
 put_within old new lent room rest from e q l =
     let a = ap length q in
     let b = length-append (take from old) (lent ++ rest) in

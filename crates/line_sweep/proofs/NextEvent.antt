@@ -1,11 +1,15 @@
 -- One event of a sweep: the step that its block makes, what the fault of a block shows, and what is so after the event.
-use Rattle.std.proofs.Common.{◌≡◌, ℕ, zero, suc, ◌+◌, ◌^◌, ◌<◌, ◌≤◌, ℤ, pos, ◌<ℤ◌, ◌≤ℤ◌, inl, inr, Option, None, List, [], ◌∷◌, ◌++◌, length, take, drop, filter, replicate, get_or, refl, arith, ap, sym, ◌∙◌, subst}
+use Rattle.std.proofs.Common.{◌≡◌, ℕ, zero, suc, ◌+◌, ◌^◌, ◌<◌, ◌≤◌, ℤ, pos, ◌<ℤ◌, ◌≤ℤ◌, inl, inr}
+use Rattle.std.proofs.Common.{Option, None, List, [], ◌∷◌, ◌++◌, length, take, drop, filter}
+use Rattle.std.proofs.Common.{replicate, get_or, refl, arith, ap, sym, ◌∙◌, subst}
 use Rattle.std.proofs.lemmas.Int.{ints, by_lt_z}
-use Rattle.std.proofs.lemmas.List.{get_or-take, length-append, length-drop, length-map, length-take-le}
+use Rattle.std.proofs.lemmas.List.{get_or-take, length-append, length-drop, length-map}
+use Rattle.std.proofs.lemmas.List.{length-take-le}
 use Rattle.plane.specs.declared.kinds.Point.{Point}
 use Rattle.plane.specs.declared.kinds.Edge.{Edge}
 use Rattle.plane.specs.Lists.{Has}
-use Rattle.plane.specs.Runs.Gaps.{Gap, closed_gaps, edge_at, edge_before, first_or, gaps_between, is_real, last_or, open_gaps, opened}
+use Rattle.plane.specs.Runs.Gaps.{Gap, closed_gaps, edge_at, edge_before, first_or, gaps_between}
+use Rattle.plane.specs.Runs.Gaps.{is_real, last_or, open_gaps, opened}
 use Rattle.plane.specs.Forms.Meets.{IsEnd}
 use Rattle.plane.specs.Runs.Moves.{Move, live_from, made, step_of, steps_from}
 use Rattle.plane.specs.Runs.Positions.{turn_at}
@@ -19,11 +23,17 @@ use Rattle.line_sweep.specs.Kinds.{AreBad, ended_at, move_at_block}
 use Rattle.line_sweep.specs.OpenGaps.{AreFine, AreNeighbours, events_of, gaps_by}
 use Rattle.line_sweep.specs.Sweeping.{IsSweptTo, points_of}
 use Rattle.line_sweep.proofs.EventEdges.{event_timed}
-use Rattle.line_sweep.proofs.OpenGaps.{ended_more, events_next, gap_neighbour, neighbour_gap, open_are}
+use Rattle.line_sweep.proofs.OpenGaps.{ended_more, events_next, gap_neighbour, neighbour_gap}
+use Rattle.line_sweep.proofs.OpenGaps.{open_are}
 use Rattle.line_sweep.proofs.Parts.{drop_twice, first_after, last_before}
-use Rattle.line_sweep.proofs.PlaneLaws.{has_at, live_made, made_more, live_more, fit_more, open_more, all_closed_more, open_size, opened_go_on, opened_differ, block_ends, on_live_is_bad, on_live_line, false_after_event, known_live, room_live, made_by_turns, starting_once, slopes_rise}
+use Rattle.line_sweep.proofs.PlaneLaws.{has_at, live_made, made_more, live_more, fit_more}
+use Rattle.line_sweep.proofs.PlaneLaws.{open_more, all_closed_more, open_size, opened_go_on}
+use Rattle.line_sweep.proofs.PlaneLaws.{opened_differ, block_ends, on_live_is_bad, on_live_line}
+use Rattle.line_sweep.proofs.PlaneLaws.{false_after_event, known_live, room_live, made_by_turns}
+use Rattle.line_sweep.proofs.PlaneLaws.{starting_once, slopes_rise}
 
-drop_points : (table : List Timed) (k : ℕ) → k < length table → drop k (points_of table) ≡ (get_or table k no_event).at ∷ drop (suc k) (points_of table)
+drop_points : (table : List Timed) (k : ℕ) → k < length table
+    → drop k (points_of table) ≡ (get_or table k no_event).at ∷ drop (suc k) (points_of table)
 drop_points [] k l = absurd (omega (arith, l))
 drop_points (t ∷ table) zero l = refl
 drop_points (t ∷ table) (suc k) l = drop_points table k (omega (arith, l))
@@ -53,20 +63,23 @@ index x (y ∷ ys) (inl e) = (0, omega arith, sym e)
 index x (y ∷ ys) (inr h) = let (k, l, e) = index x ys h in (suc k, omega (arith, l), e)
 
 -- each edge of a part of the list is at a place of the list
-in_block : (now : List ℕ) (p n e : ℕ) → p + n ≤ length now → Has e (take n (drop p now)) → (i : ℕ) × (p ≤ i) × (i < p + n) × (get_or now i 0 ≡ e)
+in_block : (now : List ℕ) (p n e : ℕ) → p + n ≤ length now → Has e (take n (drop p now))
+    → (i : ℕ) × (p ≤ i) × (i < p + n) × (get_or now i 0 ≡ e)
 in_block now p n e w h =
     let (k, l, q) = index e (take n (drop p now)) h in
     let s : length (take n (drop p now)) ≡ n = length-take-le n (drop p now) (let d = length-drop p now in omega (arith, d, w)) in
     let j : k < n = omega (arith, l, s) in
     (p + k, omega arith, omega (arith, j), sym (at_drop now p k 0) ∙ sym (get_or-take n (drop p now) k 0 j) ∙ q)
 
-pub opened_is : (k : ℕ) (live : List ℕ) (t : Timed) (p n : ℕ) → p ≤ length live → gaps_between k (edge_before live p) t.starting (edge_at live (p + n)) ≡ opened k (step_of live (move_at_block t p n))
+pub opened_is : (k : ℕ) (live : List ℕ) (t : Timed) (p n : ℕ) → p ≤ length live
+    → gaps_between k (edge_before live p) t.starting (edge_at live (p + n)) ≡ opened k (step_of live (move_at_block t p n))
 opened_is k live t p n l =
     ap (λ (o : Option ℕ). gaps_between k o t.starting (edge_at live (p + n))) (sym (last_before live p l))
     ∙ ap (λ (o : Option ℕ). gaps_between k (last_or None (take p live)) t.starting o) (sym (first_after live (p + n)) ∙ ap (λ (ns : List ℕ). first_or None ns) (sym (drop_twice p n live)))
 
 -- the same from the edges beside the block
-pub opened_as : (k : ℕ) (lower upper : Option ℕ) (live : List ℕ) (t : Timed) (p n : ℕ) → AreBeside live p n lower upper → p + n ≤ length live
+pub opened_as : (k : ℕ) (lower upper : Option ℕ) (live : List ℕ) (t : Timed) (p n : ℕ)
+    → AreBeside live p n lower upper → p + n ≤ length live
     → gaps_between k lower t.starting upper ≡ opened k (step_of live (move_at_block t p n))
 opened_as k lower upper live t p n b l =
     ap (λ (o : Option ℕ). gaps_between k o t.starting upper) b.lower
@@ -105,7 +118,8 @@ module _ (edges : List Edge) (table : List Timed) (k : ℕ) (live since ended : 
   since_size = ap length s.opened ∙ length-map (open_gaps moves) _ ∙ open_size moves s.fit ∙ ap (λ (ns : List ℕ). suc (length ns)) (sym s.lives)
 
   -- ---- a live edge through the event
-  pub through_is_bad : (e d : ℕ) → IsThrough (edge_of edges) live timed.at e → d < length edges → IsEnd (edge_of edges d) timed.at → AreBad edges e d
+  pub through_is_bad : (e d : ℕ) → IsThrough (edge_of edges) live timed.at e → d < length edges
+      → IsEnd (edge_of edges d) timed.at → AreBad edges e d
   through_is_bad e d b m end =
       let has : Has e (lives (made [] moves)) = subst (λ (ns : List ℕ). Has e ns) is_live (subst (λ (i : ℕ). Has i live) (sym b.is) (has_at live b.place 0 b.within)) in
       let on : OnLive (edge_of edges) (lives (made [] moves)) timed.at = record {
@@ -156,7 +170,8 @@ module _ (edges : List Edge) (table : List Timed) (k : ℕ) (live since ended : 
       opened_here : gaps_between k lower timed.starting upper ≡ opened k (step_of live move)
       opened_here = opened_as k lower upper live timed p n beside b.within
 
-      pub neighbours_known : (d e : ℕ) → AreNeighbours lower timed.starting upper d e → (d < length edges) × (e < length edges) × (d ≡ e → ⊥)
+      pub neighbours_known : (d e : ℕ) → AreNeighbours lower timed.starting upper d e
+          → (d < length edges) × (e < length edges) × (d ≡ e → ⊥)
       neighbours_known d e h =
           let (g, i, q, r) = neighbour_gap k lower timed.starting upper d e h in
           opened_differ (length edges) (edge_of edges) (points_of table) (made [] moves) the_step (drop (suc k) (points_of table)) way made_step k g d e (starting_once (length edges) (edge_of edges) sorted timed timed_is)
@@ -183,7 +198,9 @@ module _ (edges : List Edge) (table : List Timed) (k : ℕ) (live since ended : 
             ∙ ap (λ (j : ℕ). take p (events_of (open_gaps moves)) ++ (replicate (length timed.starting + 1) j ++ drop (suc (p + n)) (events_of (open_gaps moves)))) (sym s.size)
             ∙ sym (events_next (length moves) (live_from [] moves) (open_gaps moves) move) ∙ ap events_of (sym (open_more moves move))
 
-        pub swept_next : (ended' : List ℕ) (told' : List Gap) → ended' ≡ ended ++ take n (drop p live) → told' ≡ told ++ filter is_real (take (suc n) (drop p (gaps_by since None live None)))
+        pub swept_next : (ended' : List ℕ) (told' : List Gap)
+            → ended' ≡ ended ++ take n (drop p live)
+            → told' ≡ told ++ filter is_real (take (suc n) (drop p (gaps_by since None live None)))
             → IsSweptTo edges table (suc k) next_live (take p since ++ (replicate (length timed.starting + 1) k ++ drop (suc (p + n)) since)) ended' (moves ++ move ∷ []) told'
         swept_next ended' told' a c = record {
           size = (let a = length-append moves (move ∷ []) in let z = s.size in omega (arith, a, z));

@@ -1,16 +1,19 @@
 -- Parts of lists, and the edges beside a place.
-use Rattle.std.proofs.Common.{◌≡◌, ℕ, zero, suc, ◌+◌, ◌<◌, ◌≤◌, Option, Some, None, List, [], ◌∷◌, length, take, drop, refl, arith, ap, sym, ◌∙◌}
+use Rattle.std.proofs.Common.{◌≡◌, ℕ, zero, suc, ◌+◌, ◌<◌, ◌≤◌, Option, Some, None, List, [], ◌∷◌}
+use Rattle.std.proofs.Common.{length, take, drop, refl, arith, ap, sym, ◌∙◌}
 use Rattle.std.proofs.Math.Seq.{drop-nil}
 use Rattle.plane.specs.Runs.Gaps.{edge_at, edge_before, first_or, last_or}
 
 -- ---- the ends of the parts of a list
-last_is : (es : List ℕ) (p : ℕ) (l : Option ℕ) → 0 < p → p ≤ length es → last_or l (take p es) ≡ edge_before es p
+last_is : (es : List ℕ) (p : ℕ) (l : Option ℕ) → 0 < p → p ≤ length es
+    → last_or l (take p es) ≡ edge_before es p
 last_is [] p l a b = absurd (omega (arith, a, b))
 last_is (e ∷ es) zero l a b = absurd (omega (arith, a))
 last_is (e ∷ es) (suc zero) l a b = refl
 last_is (e ∷ es) (suc (suc p)) l a b = last_is es (suc p) (Some e) (omega arith) (omega (arith, b))
 
-pub last_before : (es : List ℕ) (p : ℕ) → p ≤ length es → last_or None (take p es) ≡ edge_before es p
+pub last_before : (es : List ℕ) (p : ℕ) → p ≤ length es
+    → last_or None (take p es) ≡ edge_before es p
 last_before es zero l = refl
 last_before es (suc p) l = last_is es (suc p) None (omega arith) l
 

@@ -1,5 +1,7 @@
 -- From one event of a sweep to the next, and its beginning and end.
-use Rattle.std.proofs.Common.{◌≡◌, ℕ, suc, ◌+◌, ◌<◌, Option, None, List, [], ◌∷◌, ◌++◌, length, map, take, drop, filter, replicate, get_or, refl, arith, ap, sym, ◌∙◌, subst, add-one, drop_of_length-le}
+use Rattle.std.proofs.Common.{◌≡◌, ℕ, suc, ◌+◌, ◌<◌, Option, None, List, [], ◌∷◌, ◌++◌, length, map}
+use Rattle.std.proofs.Common.{take, drop, filter, replicate, get_or, refl, arith, ap, sym, ◌∙◌}
+use Rattle.std.proofs.Common.{subst, add-one, drop_of_length-le}
 use Rattle.std.proofs.lemmas.List.{append-nil, length-map}
 use Rattle.plane.specs.declared.kinds.Edge.{Edge}
 use Rattle.plane.specs.Runs.Gaps.{Gap, is_real}
@@ -17,7 +19,8 @@ use Rattle.line_sweep.proofs.NextEvent.{swept_next}
 use Rattle.line_sweep.proofs.TimedMoves.{run_is_timed, trail_made}
 use Rattle.line_sweep.proofs.PlaneLaws.{all_made, begins, ends_as_run, ends_fine}
 
-pub begun : (edges : List Edge) (table : List Timed) (live since ended : List ℕ) (moves : List Move) (told : List Gap) → IsTimetable (length edges) (edge_of edges) table
+pub begun : (edges : List Edge) (table : List Timed) (live since ended : List ℕ) (moves : List Move) (told : List Gap)
+    → IsTimetable (length edges) (edge_of edges) table
     → live ≡ [] → since ≡ 0 ∷ [] → ended ≡ [] → moves ≡ [] → told ≡ [] → IsSweptTo edges table 0 live since ended moves told
 begun edges table live since ended moves told t e h i f g =
     subst (λ (ns : List ℕ). IsSweptTo edges table 0 ns since ended moves told) (sym e)
@@ -33,18 +36,21 @@ begun edges table live since ended moves told t e h i f g =
     })))
 
 -- at the end nothing is to come
-way_at_end : (edges : List Edge) (table : List Timed) (live since ended : List ℕ) (moves : List Move) (told : List Gap) → IsSweptTo edges table (length table) live since ended moves told
+way_at_end : (edges : List Edge) (table : List Timed) (live since ended : List ℕ) (moves : List Move) (told : List Gap)
+    → IsSweptTo edges table (length table) live since ended moves told
     → IsUnderWay (length edges) (edge_of edges) (points_of table) (made [] moves) []
 way_at_end edges table live since ended moves told s =
     subst (λ ps. IsUnderWay (length edges) (edge_of edges) (points_of table) (made [] moves) ps)
     (drop_of_length-le (points_of table) (let e = length-map table (λ (t : Timed). t.at) in omega (arith, e))) s.way
 
-pub run_at_end : (edges : List Edge) (table : List Timed) (live since ended : List ℕ) (moves : List Move) (told : List Gap) → IsSweptTo edges table (length table) live since ended moves told
+pub run_at_end : (edges : List Edge) (table : List Timed) (live since ended : List ℕ) (moves : List Move) (told : List Gap)
+    → IsSweptTo edges table (length table) live since ended moves told
     → Run (length edges) (edge_of edges) (steps_from [] moves)
 run_at_end edges table live since ended moves told s =
     subst (Run (length edges) (edge_of edges)) (all_made moves) (ends_as_run (length edges) (edge_of edges) (points_of table) (made [] moves) (way_at_end edges table live since ended moves told s))
 
-pub timed_at_end : (edges : List Edge) (table : List Timed) (live since ended : List ℕ) (moves : List Move) (told : List Gap) → IsTimetable (length edges) (edge_of edges) table
+pub timed_at_end : (edges : List Edge) (table : List Timed) (live since ended : List ℕ) (moves : List Move) (told : List Gap)
+    → IsTimetable (length edges) (edge_of edges) table
     → IsSweptTo edges table (length table) live since ended moves told → HasTimetable edges moves
 timed_at_end edges table live since ended moves told t s =
     let points = sym (trail_made [] moves []) ∙ (way_at_end edges table live since ended moves told s).front.is in
@@ -55,7 +61,8 @@ timed_at_end edges table live since ended moves told t s =
       is = run_is_timed (length edges) (edge_of edges) moves table t (run_at_end edges table live since ended moves told s) s.fit (sym (append-nil (map (λ (v : Move). v.at) moves)) ∙ points);
     }
 
-pub clear_at_end : (edges : List Edge) (table : List Timed) (live since ended : List ℕ) (moves : List Move) (told : List Gap) → IsSweptTo edges table (length table) live since ended moves told
+pub clear_at_end : (edges : List Edge) (table : List Timed) (live since ended : List ℕ) (moves : List Move) (told : List Gap)
+    → IsSweptTo edges table (length table) live since ended moves told
     → (a b : ℕ) → a < length edges → b < length edges → (a ≡ b → ⊥) → Bad (edge_of edges a) (edge_of edges b) → ⊥
 clear_at_end edges table live since ended moves told s a b l m n bad =
     bad.no_end (ends_fine (length edges) (edge_of edges) (points_of table) (made [] moves) a b (way_at_end edges table live since ended moves told s) l m n bad.at bad.place bad.of_first bad.of_second)
@@ -64,7 +71,8 @@ module _ (edges : List Edge) (table : List Timed) (k : ℕ) (live since ended : 
     (t : IsTimetable (length edges) (edge_of edges) table) (l : k < length table) (s : IsSweptTo edges table k live since ended moves told) (p n : ℕ)
     (b : IsBlock (edge_of edges) live (get_or table k no_event).at p n) (lower upper : Option ℕ) (beside : AreBeside live p n lower upper)
     (fine : AreFine edges lower (get_or table k no_event).starting upper) where
-  pub step_next : (live' since' ended' : List ℕ) (starting : List ℕ) (moves' : List Move) (told' : List Gap) → starting ≡ (get_or table k no_event).starting
+  pub step_next : (live' since' ended' : List ℕ) (starting : List ℕ) (moves' : List Move) (told' : List Gap)
+      → starting ≡ (get_or table k no_event).starting
       → live' ≡ take p live ++ (starting ++ drop (p + n) live)
       → since' ≡ take p since ++ (replicate (length starting + 1) k ++ drop (suc (p + n)) since)
       → ended' ≡ ended ++ take n (drop p live)

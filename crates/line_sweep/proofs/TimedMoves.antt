@@ -1,5 +1,6 @@
 -- The moves of a complete run are those of the timetable of its edges.
-use Rattle.std.proofs.Common.{◌≡◌, ℕ, ◌+◌, ◌≤◌, inl, List, [], ◌∷◌, ◌++◌, map, length, take, drop, get_or, refl, arith, ap, sym, ◌∙◌, subst}
+use Rattle.std.proofs.Common.{◌≡◌, ℕ, ◌+◌, ◌≤◌, inl, List, [], ◌∷◌, ◌++◌, map, length, take, drop}
+use Rattle.std.proofs.Common.{get_or, refl, arith, ap, sym, ◌∙◌, subst}
 use Rattle.std.proofs.lemmas.Int.{ints}
 use Rattle.std.proofs.lemmas.List.{length-take, length-drop}
 use Rattle.plane.specs.declared.kinds.Edge.{Edge}
@@ -18,7 +19,8 @@ positions_of vs = map (λ (v : Move). v.position) vs
 abbrev at_of : Move → Point
 at_of v = v.at
 
-pub trail_made : (done : List Step) (vs : List Move) (ps : List Point) → trail (made done vs) ps ≡ trail done (map at_of vs ++ ps)
+pub trail_made : (done : List Step) (vs : List Move) (ps : List Point)
+    → trail (made done vs) ps ≡ trail done (map at_of vs ++ ps)
 trail_made done [] ps = refl
 trail_made done (v ∷ vs) ps = trail_made (step_of _ v ∷ done) vs ps
 
@@ -42,13 +44,16 @@ module _ (m : ℕ) (E : ℕ → Edge) where
     by_number = h.by_number;
   }
 
-  all_timed : (now : List ℕ) (vs : List Move) (table : List Timed) → IsReplay m E now (steps_from now vs) → Each (IsTimed m E) table → map at_of vs ≡ points_of table → Each (IsTimed m E) (timed vs table)
+  all_timed : (now : List ℕ) (vs : List Move) (table : List Timed)
+      → IsReplay m E now (steps_from now vs) → Each (IsTimed m E) table
+      → map at_of vs ≡ points_of table → Each (IsTimed m E) (timed vs table)
   all_timed now [] table r h e = tt
   all_timed now (v ∷ vs) [] r h e = absurd (omega (arith, ap length e))
   all_timed now (v ∷ vs) (t ∷ table) r h e =
       (event_timed now v t r.1 h.0 (ap (λ (ps : List Point). get_or ps 0 v.at) e), all_timed (after (step_of now v)) vs table r.2 h.1 (ap (λ (ps : List Point). drop 1 ps) e))
 
-  points_timed : (vs : List Move) (table : List Timed) → map at_of vs ≡ points_of table → points_of (timed vs table) ≡ points_of table
+  points_timed : (vs : List Move) (table : List Timed) → map at_of vs ≡ points_of table
+      → points_of (timed vs table) ≡ points_of table
   points_timed [] table e = e
   points_timed (v ∷ vs) [] e = refl
   points_timed (v ∷ vs) (t ∷ table) e =
@@ -56,7 +61,8 @@ module _ (m : ℕ) (E : ℕ → Edge) where
       ap (λ (ps : List Point). v.at ∷ ps) tail ∙ ap (λ (p : Point). p ∷ points_of table) (ap (λ (ps : List Point). get_or ps 0 v.at) e)
 
   -- a step takes as many edges out as the timetable has ending ones
-  ending_size : (now : List ℕ) (v : Move) (t : Timed) → GoodStep m E (step_of now v) → IsTimed m E t → v.at ≡ t.at → (v.position + v.ending) ≤ length now → v.ending ≡ length t.ending
+  ending_size : (now : List ℕ) (v : Move) (t : Timed) → GoodStep m E (step_of now v) → IsTimed m E t
+      → v.at ≡ t.at → (v.position + v.ending) ≤ length now → v.ending ≡ length t.ending
   ending_size now v t g h e l =
       let es = take v.ending (drop v.position now) in
       let size : length es ≡ v.ending = (let a = length-take v.ending (drop v.position now) in let b = length-drop v.position now in omega (arith, a, b, l)) in
@@ -64,7 +70,9 @@ module _ (m : ℕ) (E : ℕ → Edge) where
       let above = at_most t.ending es (ending_once m E t h) (λ f k. let p = (h.ending f).0 k in g.ending_all f p.0 (p.1 ∙ sym e)) in
       omega (arith, size, below, above)
 
-  same_moves : (now : List ℕ) (vs : List Move) (table : List Timed) → IsReplay m E now (steps_from now vs) → Fit now vs → Each (IsTimed m E) table → map at_of vs ≡ points_of table → table ≡ timed vs table
+  same_moves : (now : List ℕ) (vs : List Move) (table : List Timed)
+      → IsReplay m E now (steps_from now vs) → Fit now vs → Each (IsTimed m E) table
+      → map at_of vs ≡ points_of table → table ≡ timed vs table
       → vs ≡ moves_at table (positions_of vs)
   same_moves now [] [] r f h e q = refl
   same_moves now [] (t ∷ table) r f h e q = absurd (omega (arith, ap length e))
@@ -80,7 +88,9 @@ module _ (m : ℕ) (E : ℕ → Edge) where
       let tail = same_moves (after (step_of now v)) vs table r.2 f.1 h.1 (ap (λ (ps : List Point). drop 1 ps) e) (ap (λ (ts : List Timed). drop 1 ts) q) in
       ap (λ (w : Move). w ∷ vs) head ∙ ap (λ (ws : List Move). move_at t v.position ∷ ws) tail
 
-  pub run_is_timed : (vs : List Move) (table : List Timed) → IsTimetable m E table → Run m E (steps_from [] vs) → Fit [] vs → map at_of vs ≡ points_of table → vs ≡ moves_at table (positions_of vs)
+  pub run_is_timed : (vs : List Move) (table : List Timed) → IsTimetable m E table
+      → Run m E (steps_from [] vs) → Fit [] vs → map at_of vs ≡ points_of table
+      → vs ≡ moves_at table (positions_of vs)
   run_is_timed vs table t r f e =
       let own : IsTimetable m E (timed vs table) = record {
         events = subst (IsEventList m E) (sym (points_timed vs table e)) t.events;

@@ -1,11 +1,13 @@
 -- Two curves, one of them a half arc, that are bad.
-use Rattle.std.proofs.Common.{◌≡◌, ◌↔◌, ◌⊎◌, inl, inr, Bool, true, false, not, IsTrue, Option, None, Some, ℤ, pos, ◌*ℤ◌, ◌<ℤ◌, ◌≤ℤ◌, refl, sym, ◌∙◌, ap, subst, arith}
+use Rattle.std.proofs.Common.{◌≡◌, ◌↔◌, ◌⊎◌, inl, inr, Bool, true, false, not, IsTrue, Option, None}
+use Rattle.std.proofs.Common.{Some, ℤ, pos, ◌*ℤ◌, ◌<ℤ◌, ◌≤ℤ◌, refl, sym, ◌∙◌, ap, subst, arith}
 use Rattle.std.specs.Option.{is_some}
 use Rattle.std.proofs.lemmas.Int.{ints, by_lt_z}
 use Rattle.plane.specs.declared.kinds.Point.{Point}
 use Rattle.plane.specs.declared.kinds.Curve.{Curve}
 use Rattle.plane.specs.declared.kinds.CurveKind.TheVariants as kind
-use Rattle.plane.specs.Rule.BadPairs.{AreBad, straights_meet, end_meets, crossed, one_arc, AreOneArc, EndsOn, HaveNoCommonEnd, IsCrossedOnTrial, IsEndOf}
+use Rattle.plane.specs.Rule.BadPairs.{AreBad, straights_meet, end_meets, crossed, one_arc}
+use Rattle.plane.specs.Rule.BadPairs.{AreOneArc, EndsOn, HaveNoCommonEnd, IsCrossedOnTrial, IsEndOf}
 use Rattle.plane.specs.Rule.Curves.{arc, IsControl}
 use Rattle.plane.specs.Rule.HalfArcs.{HalfArc, bow}
 use Rattle.plane.specs.Rule.Places.{Vector, Same, point}
@@ -40,22 +42,26 @@ end_is_control : (c : Curve) (p : Point) → IsEndOf c p → IsControl c (point 
 end_is_control c p (inl e) = inl (same_itself p c.from e)
 end_is_control c p (inr e) = inr (same_itself p c.to e)
 
-pub beside_ends : (c : Curve) (p : Point) (q r : Bool) → (IsTrue q ↔ IsEndOf c p) → q ≡ false → (IsTrue r ↔ IsJudgedOn c p) → IsTrue r ↔ IsBesideEnds c p
+pub beside_ends : (c : Curve) (p : Point) (q r : Bool) → (IsTrue q ↔ IsEndOf c p) → q ≡ false
+    → (IsTrue r ↔ IsJudgedOn c p) → IsTrue r ↔ IsBesideEnds c p
 beside_ends c p q r h f k = (
   λ t. record { judged = k.0 t; no_control = λ s. clash (sym f ∙ h.1 (control_is_end c p s)) },
   λ s. k.1 s.judged,
 )
 
-pub at_end : (c : Curve) (p : Point) (q : Bool) → (IsTrue q ↔ IsEndOf c p) → q ≡ true → IsTrue (not q) ↔ IsBesideEnds c p
+pub at_end : (c : Curve) (p : Point) (q : Bool) → (IsTrue q ↔ IsEndOf c p) → q ≡ true
+    → IsTrue (not q) ↔ IsBesideEnds c p
 at_end c p q h t = (λ n. clash (sym (ap not t) ∙ n), λ s. absurd (s.no_control (end_is_control c p (h.0 t))))
 
 -- ---- a straight and a half arc
-no_common : (c d : Curve) (q : Bool) → (IsTrue q ↔ (IsEndOf c d.from ⊎ IsEndOf c d.to)) → q ≡ false → HaveNoCommonEnd c d
+no_common : (c d : Curve) (q : Bool) → (IsTrue q ↔ (IsEndOf c d.from ⊎ IsEndOf c d.to)) → q ≡ false
+    → HaveNoCommonEnd c d
 no_common c d q h f p e (inl g) = clash (sym f ∙ h.1 (inl (subst (IsEndOf c) (sym g) e)))
 no_common c d q h f p e (inr g) = clash (sym f ∙ h.1 (inr (subst (IsEndOf c) (sym g) e)))
 
 module _ (c d : Curve) (straight : c.kind ≡ kind.Straight) (half_arc : d.kind ≡ kind.HalfArc) (q : Bool) (h : IsTrue q ↔ (IsEndOf c d.from ⊎ IsEndOf c d.to)) where
-  pub crossed_is : (t : Option Trial) (r : Bool) → r ≡ is_some t → q ≡ false → IsFirstTrial t c (arc d) → IsTrue r ↔ IsCrossedOnTrial c d
+  pub crossed_is : (t : Option Trial) (r : Bool) → r ≡ is_some t → q ≡ false
+      → IsFirstTrial t c (arc d) → IsTrue r ↔ IsCrossedOnTrial c d
   crossed_is None r e f k = (λ t. clash (sym e ∙ t), λ s. absurd (k s.k s.within s.crossing))
   crossed_is (Some t) r e f k = (
     λ y. record { straight = straight; half_arc = half_arc; no_common = no_common c d q h f; k = t.sixteenth; within = k.0; crossing = k.1 },
@@ -79,10 +85,13 @@ placed_close c d a = record {
 }
 
 -- ---- two half arcs
-pub on_other_side : (c h : HalfArc) (z : Vector) (w : Bool) → h ≡ c → (IsTrue w ↔ (pos 0 ≤ℤ bow h z)) → IsOnCircle h z → IsTrue (not w) ↔ (IsOnCircle c z × (bow c z <ℤ pos 0))
+pub on_other_side : (c h : HalfArc) (z : Vector) (w : Bool) → h ≡ c
+    → (IsTrue w ↔ (pos 0 ≤ℤ bow h z)) → IsOnCircle h z
+    → IsTrue (not w) ↔ (IsOnCircle c z × (bow c z <ℤ pos 0))
 on_other_side c h z w e k o = subst (λ (g : HalfArc). IsTrue (not w) ↔ (IsOnCircle g z × (bow g z <ℤ pos 0))) e (by w k)
   where
-    by : (t : Bool) → (IsTrue t ↔ (pos 0 ≤ℤ bow h z)) → IsTrue (not t) ↔ (IsOnCircle h z × (bow h z <ℤ pos 0))
+    by : (t : Bool) → (IsTrue t ↔ (pos 0 ≤ℤ bow h z))
+        → IsTrue (not t) ↔ (IsOnCircle h z × (bow h z <ℤ pos 0))
     by true j = (λ n. clash n, λ s. let l = s.1 in let g = j.0 refl in absurd (omega (arith, ints, l, g)))
     by false j = (λ n. (o, below j), λ s. refl)
       where
@@ -93,7 +102,8 @@ on_other_side c h z w e k o = subst (λ (g : HalfArc). IsTrue (not w) ↔ (IsOnC
             by_sign f = by_lt_z (bow h z) (pos 0) (λ (l : bow h z <ℤ pos 0). l) (λ (g : pos 0 ≤ℤ bow h z). f g)
 
 -- ---- the four ways
-not_straights : (c d : Curve) → c.kind ≡ kind.Straight → d.kind ≡ kind.Straight → HaveHalfArc c d → ⊥
+not_straights : (c d : Curve) → c.kind ≡ kind.Straight → d.kind ≡ kind.Straight → HaveHalfArc c d
+    → ⊥
 not_straights c d s t (inl h) = cc
 not_straights c d s t (inr h) = cc
 
@@ -104,7 +114,9 @@ module _ (c d : Curve) (half : HaveHalfArc c d) where
   pub bad_by_crossing : IsCrossedOnTrial c d ⊎ IsCrossedOnTrial d c → IsTrue true ↔ AreBad c d
   bad_by_crossing e = (λ t. crossed e, λ b. refl)
 
-  pub bad_by_one_arc : (p q r : Bool) → (IsTrue p ↔ (EndsOn c d ⊎ EndsOn d c)) → p ≡ false → (IsTrue q ↔ (IsCrossedOnTrial c d ⊎ IsCrossedOnTrial d c)) → q ≡ false → (IsTrue r ↔ AreOneArc c d) → IsTrue r ↔ AreBad c d
+  pub bad_by_one_arc : (p q r : Bool) → (IsTrue p ↔ (EndsOn c d ⊎ EndsOn d c)) → p ≡ false
+      → (IsTrue q ↔ (IsCrossedOnTrial c d ⊎ IsCrossedOnTrial d c)) → q ≡ false
+      → (IsTrue r ↔ AreOneArc c d) → IsTrue r ↔ AreBad c d
   bad_by_one_arc p q r h f k g l = (λ t. one_arc (l.0 t), by)
     where
       by : AreBad c d → IsTrue r

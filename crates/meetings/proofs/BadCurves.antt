@@ -3,7 +3,8 @@ use Rattle.std.proofs.Common.{◌≡◌, ℕ, ◌<◌, inl, inr, List, length, a
 use Rattle.plane.specs.declared.kinds.Curve.{Curve}
 use Rattle.plane.specs.declared.kinds.CurveKind.TheVariants as kind
 use Rattle.plane.specs.declared.kinds.Edge.{Edge}
-use Rattle.plane.specs.Rule.BadPairs.{AreBad as CurvesAreBad, straights_meet, end_meets, crossed, one_arc, IsBadPair}
+use Rattle.plane.specs.Rule.BadPairs.{AreBad as CurvesAreBad, straights_meet, end_meets, crossed}
+use Rattle.plane.specs.Rule.BadPairs.{one_arc, IsBadPair}
 use Rattle.plane.specs.Forms.Meets.{Bad}
 use Rattle.plane.specs.Rule.Plans.{Plan, curve}
 use Rattle.plane.proofs.Covers.CurveEdges.{bad_edges_is}
@@ -37,7 +38,8 @@ module _ (d : Plan) (edges : List Edge) (straights : AreStraights d.curves) (e :
     bad = straights_meet ((bad_edges_is (edge_of edges a) (edge_of edges b) (curve d a) (curve d b) (e.ends a (known a h.first)) (e.ends b (known b h.second)) (straights a (known a h.first)) (straights b (known b h.second))).0 h.bad);
   }
 
-  pub none_is_bad : ((a b : ℕ) → a < length edges → b < length edges → (a ≡ b → ⊥) → Bad (edge_of edges a) (edge_of edges b) → ⊥) → (i j : ℕ) → IsBadPair d i j → ⊥
+  pub none_is_bad : ((a b : ℕ) → a < length edges → b < length edges → (a ≡ b → ⊥) → Bad (edge_of edges a) (edge_of edges b) → ⊥)
+      → (i j : ℕ) → IsBadPair d i j → ⊥
   none_is_bad clear i j p = by_cases p.bad
     where
       first : i < length d.curves

@@ -1,6 +1,7 @@
 -- What tests say, one after the other and in a loop.
 use Rattle.std.specs.Int.Signed.{le_z}
-use Rattle.std.proofs.Common.{◌≡◌, ◌↔◌, ◌⊎◌, inl, inr, Bool, true, false, IsTrue, T, ℤ, ◌≤ℤ◌, sym, ◌∙◌, ℕ, ◌+◌, ◌<◌, ◌≤◌, arith}
+use Rattle.std.proofs.Common.{◌≡◌, ◌↔◌, ◌⊎◌, inl, inr, Bool, true, false, IsTrue, T, ℤ, ◌≤ℤ◌, sym}
+use Rattle.std.proofs.Common.{◌∙◌, ℕ, ◌+◌, ◌<◌, ◌≤◌, arith}
 
 pub clash : {P : Type 0} → false ≡ true → P
 clash e = cc
@@ -16,7 +17,8 @@ true_le a b t = record { le = by (le_z a b) t }
 pub first_of : (A B : Type 0) (r : Bool) → (IsTrue r ↔ A) → r ≡ true → IsTrue r ↔ (A ⊎ B)
 first_of A B r h t = (λ s. inl (h.0 s), λ p. t)
 
-pub second_of : (A B : Type 0) (q r : Bool) → (IsTrue q ↔ A) → q ≡ false → (IsTrue r ↔ B) → IsTrue r ↔ (A ⊎ B)
+pub second_of : (A B : Type 0) (q r : Bool) → (IsTrue q ↔ A) → q ≡ false → (IsTrue r ↔ B)
+    → IsTrue r ↔ (A ⊎ B)
 second_of A B q r h f k = (λ t. inr (k.0 t), λ p. by p)
   where
     by : A ⊎ B → IsTrue r

@@ -1,5 +1,6 @@
 -- Boxes that hold a curve, from what their sides go beyond.
-use Rattle.std.proofs.Common.{◌≡◌, ◌^◌, [], ◌∷◌, ℤ, pos, ◌+ℤ◌, ◌-ℤ◌, ◌*ℤ◌, ◌≤ℤ◌, FitsSigned, refl, ap, sym, ◌∙◌, subst, arith}
+use Rattle.std.proofs.Common.{◌≡◌, ◌^◌, [], ◌∷◌, ℤ, pos, ◌+ℤ◌, ◌-ℤ◌, ◌*ℤ◌, ◌≤ℤ◌, FitsSigned, refl}
+use Rattle.std.proofs.Common.{ap, sym, ◌∙◌, subst, arith}
 use Rattle.std.proofs.lemmas.Int.{ints}
 use Rattle.std.specs.Int.{w128}
 use borrow.Author.Differences.{fits_in}
@@ -17,7 +18,8 @@ use Rattle.plane.proofs.Algebra.Ring.{at, plus, minus, times, vars, ring}
 pub same_products : (a b x y : ℤ) → a ≡ x → b ≡ y → (a *ℤ b) ≡ (x *ℤ y)
 same_products a b x y e f = ap (λ (z : ℤ). z *ℤ b) e ∙ ap (λ (z : ℤ). x *ℤ z) f
 
-pub facing_is : (c : Curve) (x y : ℤ) → x ≡ (c.third.x -ℤ c.from.x) *ℤ (c.third.x -ℤ c.to.x) → y ≡ (c.third.y -ℤ c.from.y) *ℤ (c.third.y -ℤ c.to.y) → facing (arc c) ≡ x +ℤ y
+pub facing_is : (c : Curve) (x y : ℤ) → x ≡ (c.third.x -ℤ c.from.x) *ℤ (c.third.x -ℤ c.to.x)
+    → y ≡ (c.third.y -ℤ c.from.y) *ℤ (c.third.y -ℤ c.to.y) → facing (arc c) ≡ x +ℤ y
 unfolding facing
 facing_is c x y e f =
     let FX = at 0 in let FY = at 1 in let TX = at 2 in let TY = at 3 in let X = at 4 in let Y = at 5 in
@@ -42,13 +44,16 @@ beyond_holds b p g = record {
   over = above b.high.y (pos 0) p.y (omega (arith, ints)) g.over;
 }
 
-between : (a b z : ℤ) → IsWithin (10 ^ 18) a → IsWithin (10 ^ 18) b → a ≤ℤ z → z ≤ℤ b → IsWithin (10 ^ 18) z
+between : (a b z : ℤ) → IsWithin (10 ^ 18) a → IsWithin (10 ^ 18) b → a ≤ℤ z → z ≤ℤ b
+    → IsWithin (10 ^ 18) z
 between a b z h k l m = omega (arith, ints, h, k, l, m)
 
-pub inside_short : (low high p : Point) → IsShort low → IsShort high → IsInside low high p → IsShort p
+pub inside_short : (low high p : Point) → IsShort low → IsShort high → IsInside low high p
+    → IsShort p
 inside_short low high p a b i = record { x = between low.x high.x p.x a.x b.x i.left i.right; y = between low.y high.y p.y a.y b.y i.bottom i.top }
 
-pub beyond : (p : Point) (x y left right under over : ℤ) → (left +ℤ x) ≤ℤ p.x → (p.x +ℤ x) ≤ℤ right → (under +ℤ y) ≤ℤ p.y → (p.y +ℤ y) ≤ℤ over
+pub beyond : (p : Point) (x y left right under over : ℤ) → (left +ℤ x) ≤ℤ p.x → (p.x +ℤ x) ≤ℤ right
+    → (under +ℤ y) ≤ℤ p.y → (p.y +ℤ y) ≤ℤ over
     → GoesBeyond p x y (record { low = record { x = left; y = under }; high = record { x = right; y = over } })
 beyond p x y left right under over h k l m = record { left = h; right = k; under = l; over = m }
 

@@ -1,5 +1,6 @@
 -- The edges of a drawing's straights, and which pairs of them are bad.
-use Rattle.std.proofs.Common.{◌≡◌, ◌↔◌, Bool, false, IsTrue, ℕ, ◌+◌, ◌<◌, ◌≤◌, inl, inr, List, [], ◌∷◌, ◌++◌, length, get_or, refl, arith, ap, sym, ◌∙◌, subst, All}
+use Rattle.std.proofs.Common.{◌≡◌, ◌↔◌, Bool, false, IsTrue, ℕ, ◌+◌, ◌<◌, ◌≤◌, inl, inr, List, []}
+use Rattle.std.proofs.Common.{◌∷◌, ◌++◌, length, get_or, refl, arith, ap, sym, ◌∙◌, subst, All}
 use Rattle.std.proofs.lemmas.List.{length-append, get_or_append_left}
 use Rattle.std.proofs.Math.Seq.{get_or-append_seam}
 use Rattle.plane.specs.declared.kinds.Point.{Point}
@@ -7,7 +8,8 @@ use Rattle.plane.specs.declared.kinds.Curve.{Curve}
 use Rattle.plane.specs.declared.kinds.CurveKind.{CurveKind}
 use Rattle.plane.specs.declared.kinds.CurveKind.TheVariants as kind
 use Rattle.plane.specs.declared.kinds.Edge.{Edge}
-use Rattle.plane.specs.Rule.BadPairs.{AreBad as CurvesAreBad, straights_meet, end_meets, crossed, one_arc, IsBadPair}
+use Rattle.plane.specs.Rule.BadPairs.{AreBad as CurvesAreBad, straights_meet, end_meets, crossed}
+use Rattle.plane.specs.Rule.BadPairs.{one_arc, IsBadPair}
 use Rattle.plane.specs.Forms.Meets.{Bad}
 use Rattle.plane.specs.Rule.Plans.{Plan, curve}
 use Rattle.plane.specs.Forms.Segments.{IsEdgeOf}
@@ -27,7 +29,8 @@ abbrev number_of : List ℕ → ℕ → ℕ
 number_of numbers m = get_or numbers m 0
 
 -- ---- one curve more
-pub none_yet : (curves : List Curve) (edges : List Edge) (numbers : List ℕ) → edges ≡ [] → numbers ≡ [] → AreStraightsTo curves 0 edges numbers
+pub none_yet : (curves : List Curve) (edges : List Edge) (numbers : List ℕ) → edges ≡ []
+    → numbers ≡ [] → AreStraightsTo curves 0 edges numbers
 none_yet curves edges numbers e f =
     let s = ap length e in
     let t = ap length f in
@@ -39,11 +42,13 @@ none_yet curves edges numbers e f =
       whole = λ i l. absurd (omega (arith, l));
     }
 
-kept : (curves : List Curve) (k : ℕ) (e : Edge) (n : ℕ) → IsStraightEdge curves k e n → IsStraightEdge curves (k + 1) e n
+kept : (curves : List Curve) (k : ℕ) (e : Edge) (n : ℕ) → IsStraightEdge curves k e n
+    → IsStraightEdge curves (k + 1) e n
 kept curves k e n s = record { known = (let l = s.known in omega (arith, l)); kind = s.kind; sorted = s.sorted; ends = s.ends }
 
 module _ (curves : List Curve) (k : ℕ) (edges : List Edge) (numbers : List ℕ) (a : AreStraightsTo curves k edges numbers) where
-  pub passed_over : ((curve_of curves k).kind ≡ kind.Straight → ⊥) → AreStraightsTo curves (k + 1) edges numbers
+  pub passed_over : ((curve_of curves k).kind ≡ kind.Straight → ⊥)
+      → AreStraightsTo curves (k + 1) edges numbers
   passed_over n = record {
     size = a.size;
     few = (let f = a.few in omega (arith, f));
@@ -71,7 +76,8 @@ module _ (curves : List Curve) (k : ℕ) (edges : List Edge) (numbers : List ℕ
     number_back : (m : ℕ) → m ≡ length edges → number_of more m ≡ k
     number_back m l = ap (λ ns. number_of ns m) r ∙ ap (λ (j : ℕ). number_of (numbers ++ k ∷ []) j) (l ∙ sym a.size) ∙ get_or-append_seam numbers k [] 0
 
-    pub one_more : (curve_of curves k).kind ≡ kind.Straight → Before e.low e.high → IsEdgeOf e (curve_of curves k) → AreStraightsTo curves (k + 1) new more
+    pub one_more : (curve_of curves k).kind ≡ kind.Straight → Before e.low e.high
+        → IsEdgeOf e (curve_of curves k) → AreStraightsTo curves (k + 1) new more
     one_more s b ends = record {
       size = (let z = a.size in let x = new_size in let y = more_size in omega (arith, x, y, z));
       few = (let f = a.few in let x = new_size in omega (arith, f, x));
@@ -98,19 +104,24 @@ module _ (curves : List Curve) (k : ℕ) (edges : List Edge) (numbers : List ℕ
         front_of m n l g = let x = more_size in let z = a.size in omega (arith, l, g, x, z)
 
 -- as the loop lends the curves
-pub more_lent : (lent curves : List Curve) (k : ℕ) (edges : List Edge) (numbers : List ℕ) (e : Edge) (new : List Edge) (more : List ℕ) → lent ≡ curves → AreStraightsTo curves k edges numbers → new ≡ edges ++ e ∷ [] → more ≡ numbers ++ k ∷ []
+pub more_lent : (lent curves : List Curve) (k : ℕ) (edges : List Edge) (numbers : List ℕ) (e : Edge) (new : List Edge) (more : List ℕ)
+    → lent ≡ curves → AreStraightsTo curves k edges numbers → new ≡ edges ++ e ∷ []
+    → more ≡ numbers ++ k ∷ []
     → (curve_of lent k).kind ≡ kind.Straight → Before e.low e.high → IsEdgeOf e (curve_of lent k) → AreStraightsTo curves (k + 1) new more
 more_lent lent curves k edges numbers e new more v a q r s b ends =
     one_more curves k edges numbers a e new more q r (subst (λ (cs : List Curve). (curve_of cs k).kind ≡ kind.Straight) v s) b (subst (λ (cs : List Curve). IsEdgeOf e (curve_of cs k)) v ends)
 
-pub over_lent : (lent curves : List Curve) (k : ℕ) (edges : List Edge) (numbers : List ℕ) (new : List Edge) (more : List ℕ) (t : Bool) → lent ≡ curves → AreStraightsTo curves k edges numbers → new ≡ edges → more ≡ numbers
+pub over_lent : (lent curves : List Curve) (k : ℕ) (edges : List Edge) (numbers : List ℕ) (new : List Edge) (more : List ℕ) (t : Bool)
+    → lent ≡ curves → AreStraightsTo curves k edges numbers → new ≡ edges → more ≡ numbers
     → (IsTrue t ↔ ((curve_of lent k).kind ≡ kind.Straight)) → t ≡ false → AreStraightsTo curves (k + 1) new more
 over_lent lent curves k edges numbers new more t v a q r h f =
     subst (λ (es : List Edge). AreStraightsTo curves (k + 1) es more) (sym q)
     (subst (λ (ns : List ℕ). AreStraightsTo curves (k + 1) edges ns) (sym r)
     (passed_over curves k edges numbers a (λ s. clash (sym f ∙ h.1 (subst (λ (cs : List Curve). (curve_of cs k).kind ≡ kind.Straight) (sym v) s)))))
 
-pub whole_list : (curves : List Curve) (k : ℕ) (edges : List Edge) (numbers : List ℕ) → length curves ≤ k → k ≤ length curves → AreStraightsTo curves k edges numbers → AreStraightsTo curves (length curves) edges numbers
+pub whole_list : (curves : List Curve) (k : ℕ) (edges : List Edge) (numbers : List ℕ)
+    → length curves ≤ k → k ≤ length curves → AreStraightsTo curves k edges numbers
+    → AreStraightsTo curves (length curves) edges numbers
 whole_list curves k edges numbers l m a = subst (λ (n : ℕ). AreStraightsTo curves n edges numbers) (omega (arith, l, m)) a
 
 -- ---- the edges of a window
@@ -118,11 +129,13 @@ module _ (low high : Point) (curves : List Curve) (edges : List Edge) (numbers :
   pub all_sorted : AreSorted edges
   all_sorted m l = (a.each m l).sorted
 
-  both_inside : (e : Edge) (c : Curve) → IsDrawn low high c → IsEdgeOf e c → IsInside low high e.low × IsInside low high e.high
+  both_inside : (e : Edge) (c : Curve) → IsDrawn low high c → IsEdgeOf e c
+      → IsInside low high e.low × IsInside low high e.high
   both_inside e c d (inl q) = (subst (IsInside low high) (sym q.0) d.from, subst (IsInside low high) (sym q.1) d.to)
   both_inside e c d (inr q) = (subst (IsInside low high) (sym q.0) d.to, subst (IsInside low high) (sym q.1) d.from)
 
-  pub inside : (m : ℕ) → m < length edges → IsInside low high (edge_of edges m).low × IsInside low high (edge_of edges m).high
+  pub inside : (m : ℕ) → m < length edges
+      → IsInside low high (edge_of edges m).low × IsInside low high (edge_of edges m).high
   inside m l = let s = a.each m l in both_inside (edge_of edges m) (curve_of curves (number_of numbers m)) (drawn (number_of numbers m) _ s.known) s.ends
 
   pub all_close : AreAllClose edges
@@ -130,7 +143,8 @@ module _ (low high : Point) (curves : List Curve) (edges : List Edge) (numbers :
 
 -- ---- pairs
 module _ (d : Plan) (edges : List Edge) (numbers : List ℕ) (e : AreStraightsTo d.curves (length d.curves) edges numbers) where
-  pub pair_is_bad : (first second a b : ℕ) → AreBad edges a b → first ≡ number_of numbers a → second ≡ number_of numbers b → first < second → IsBadPair d first second
+  pub pair_is_bad : (first second a b : ℕ) → AreBad edges a b → first ≡ number_of numbers a
+      → second ≡ number_of numbers b → first < second → IsBadPair d first second
   pair_is_bad first second a b h f g l =
       let p = e.each a h.first in
       let q = e.each b h.second in
@@ -142,7 +156,8 @@ module _ (d : Plan) (edges : List Edge) (numbers : List ℕ) (e : AreStraightsTo
         bad = subst (λ (i : ℕ). CurvesAreBad (curve d i) (curve d second)) (sym f) (subst (λ (j : ℕ). CurvesAreBad (curve d (number_of numbers a)) (curve d j)) (sym g) bad);
       }
 
-  pub none_is_bad : ((a b : ℕ) → a < length edges → b < length edges → (a ≡ b → ⊥) → Bad (edge_of edges a) (edge_of edges b) → ⊥) → (i j : ℕ) → AreBothStraight (curve d i) (curve d j) → IsBadPair d i j → ⊥
+  pub none_is_bad : ((a b : ℕ) → a < length edges → b < length edges → (a ≡ b → ⊥) → Bad (edge_of edges a) (edge_of edges b) → ⊥)
+      → (i j : ℕ) → AreBothStraight (curve d i) (curve d j) → IsBadPair d i j → ⊥
   none_is_bad clear i j s p = by_cases p.bad
     where
       first : i < length d.curves
@@ -161,7 +176,9 @@ module _ (d : Plan) (edges : List Edge) (numbers : List ℕ) (e : AreStraightsTo
       by_cases (crossed (inr h)) = not_half_arc (curve d i) s.0 h.half_arc
       by_cases (one_arc h) = not_half_arc (curve d i) s.0 h.first
 
-pub lesser_number : (numbers : List ℕ) (m n a b : ℕ) → IsRising numbers → (m ≡ n → ⊥) → m < length numbers → n < length numbers → a ≡ number_of numbers m → b ≡ number_of numbers n → b ≤ a → b < a
+pub lesser_number : (numbers : List ℕ) (m n a b : ℕ) → IsRising numbers → (m ≡ n → ⊥)
+    → m < length numbers → n < length numbers → a ≡ number_of numbers m → b ≡ number_of numbers n
+    → b ≤ a → b < a
 lesser_number numbers m n a b up differ l k e f h =
     by_lt m n
     (λ (q : m < n). let w = up m n q k in absurd (omega (arith, w, e, f, h)))
@@ -175,7 +192,9 @@ by_kind {P} c f g = by c.kind f g
     by kind.Straight f g = f refl
     by kind.HalfArc f g = g refl
 
-pub none_of_both : (d : Plan) → ((i j : ℕ) → AreBothStraight (curve d i) (curve d j) → IsBadPair d i j → ⊥) → ((i j : ℕ) → IsArcPair d i j → ⊥) → (i j : ℕ) → IsBadPair d i j → ⊥
+pub none_of_both : (d : Plan)
+    → ((i j : ℕ) → AreBothStraight (curve d i) (curve d j) → IsBadPair d i j → ⊥)
+    → ((i j : ℕ) → IsArcPair d i j → ⊥) → (i j : ℕ) → IsBadPair d i j → ⊥
 none_of_both d f g i j p =
     by_kind (curve d i)
     (λ (s : (curve d i).kind ≡ kind.Straight). by_kind (curve d j)

@@ -1,5 +1,6 @@
 -- Two curves of a drawing that are bad: two straights by the edges of their ends.
-use Rattle.std.proofs.Common.{◌≡◌, ◌↔◌, inl, inr, ℕ, zero, suc, ◌<◌, List, [], ◌∷◌, length, get_or, arith, Bool, IsTrue, false, refl, sym, ◌∙◌, subst}
+use Rattle.std.proofs.Common.{◌≡◌, ◌↔◌, inl, inr, ℕ, zero, suc, ◌<◌, List, [], ◌∷◌, length, get_or}
+use Rattle.std.proofs.Common.{arith, Bool, IsTrue, false, refl, sym, ◌∙◌, subst}
 use Rattle.plane.specs.declared.kinds.Curve.{Curve}
 use Rattle.plane.specs.declared.kinds.CurveKind.{CurveKind}
 use Rattle.plane.specs.declared.kinds.CurveKind.TheVariants as kind
@@ -7,7 +8,8 @@ use Rattle.plane.specs.declared.kinds.Edge.{Edge}
 use Rattle.plane.specs.declared.kinds.Point.{Point}
 use Rattle.plane.specs.Forms.Meets.{Bad}
 use Rattle.plane.specs.Forms.Segments.{IsEdgeOf}
-use Rattle.plane.specs.Rule.BadPairs.{AreBad, IsBadPair, StraightsMeet, straights_meet, end_meets, crossed, one_arc}
+use Rattle.plane.specs.Rule.BadPairs.{AreBad, IsBadPair, StraightsMeet, straights_meet, end_meets}
+use Rattle.plane.specs.Rule.BadPairs.{crossed, one_arc}
 use Rattle.plane.specs.Rule.Plans.{Plan, curve}
 use Rattle.plane.specs.Rule.Windows.{IsDrawn, IsInside}
 use Rattle.straight_predicates.specs.Meetings.{EdgesAreClose}
@@ -18,7 +20,8 @@ use Rattle.meetings.proofs.BadCurves.{not_half_arc}
 use Rattle.meetings.proofs.Choices.{clash}
 
 -- ---- kinds
-pub both_straight : (c d : Curve) (q : Bool) → (IsTrue q ↔ HaveHalfArc c d) → q ≡ false → AreBothStraight c d
+pub both_straight : (c d : Curve) (q : Bool) → (IsTrue q ↔ HaveHalfArc c d) → q ≡ false
+    → AreBothStraight c d
 both_straight c d q h f = (by c.kind (λ e. inl e), by d.kind (λ e. inr e))
   where
     by : (k : CurveKind) → (k ≡ kind.HalfArc → HaveHalfArc c d) → k ≡ kind.Straight
@@ -26,7 +29,8 @@ both_straight c d q h f = (by c.kind (λ e. inl e), by d.kind (λ e. inr e))
     by kind.HalfArc g = clash (sym f ∙ h.1 (g refl))
 
 -- ---- the edges
-both_inside : (low high : Point) (e : Edge) (c : Curve) → IsDrawn low high c → IsEdgeOf e c → IsInside low high e.low × IsInside low high e.high
+both_inside : (low high : Point) (e : Edge) (c : Curve) → IsDrawn low high c → IsEdgeOf e c
+    → IsInside low high e.low × IsInside low high e.high
 both_inside low high e c d (inl q) = (subst (IsInside low high) (sym q.0) d.from, subst (IsInside low high) (sym q.1) d.to)
 both_inside low high e c d (inr q) = (subst (IsInside low high) (sym q.0) d.to, subst (IsInside low high) (sym q.1) d.from)
 
@@ -37,7 +41,8 @@ module _ (c d : Curve) (s t : Edge) (of_first : IsEdgeOf s c) (of_second : IsEdg
       let q = both_inside a.low a.high t d a.second of_second in
       window_close a.low a.high s t a.narrow p.0 p.1 q.0 q.1
 
-  pub straights_bad : (r : Bool) → AreBothStraight c d → (Bad s t ↔ StraightsMeet c d) → (IsTrue r ↔ Bad s t) → IsTrue r ↔ AreBad c d
+  pub straights_bad : (r : Bool) → AreBothStraight c d → (Bad s t ↔ StraightsMeet c d)
+      → (IsTrue r ↔ Bad s t) → IsTrue r ↔ AreBad c d
   straights_bad r k e h = (λ y. straights_meet (e.0 (h.0 y)), λ b. h.1 (e.1 (by b)))
     where
       by : AreBad c d → StraightsMeet c d
@@ -48,7 +53,9 @@ module _ (c d : Curve) (s t : Edge) (of_first : IsEdgeOf s c) (of_second : IsEdg
       by (one_arc m) = absurd (not_half_arc c k.0 m.first)
 
 -- ---- by number
-pub pair_bad : (d : Plan) (i j : ℕ) (c e x y : Curve) (r : Bool) → i < j → j < length d.curves → c ≡ get_or d.curves i x → e ≡ get_or d.curves j y → (IsTrue r ↔ AreBad c e) → IsTrue r ↔ IsBadPair d i j
+pub pair_bad : (d : Plan) (i j : ℕ) (c e x y : Curve) (r : Bool) → i < j → j < length d.curves
+    → c ≡ get_or d.curves i x → e ≡ get_or d.curves j y → (IsTrue r ↔ AreBad c e)
+    → IsTrue r ↔ IsBadPair d i j
 pair_bad d i j c e x y r order there f g h =
     let p = f ∙ same d.curves i x _ (omega (arith, order, there)) in
     let q = g ∙ same d.curves j y _ there in

@@ -1,5 +1,7 @@
 -- The items that begin between two numbers stand side by side.
-use Rattle.std.proofs.Common.{◌≡◌, ◌⊎◌, inl, inr, ℕ, ◌+◌, ◌-◌, ◌<◌, ◌≤◌, Bool, true, false, not, ℤ, ◌<ℤ◌, ◌≤ℤ◌, int_lt, List, length, get_or, take, drop, arith, ap, sym, ◌∙◌, subst}
+use Rattle.std.proofs.Common.{◌≡◌, ◌⊎◌, inl, inr, ℕ, ◌+◌, ◌-◌, ◌<◌, ◌≤◌, Bool, true, false, not, ℤ}
+use Rattle.std.proofs.Common.{◌<ℤ◌, ◌≤ℤ◌, int_lt, List, length, get_or, take, drop, arith, ap, sym}
+use Rattle.std.proofs.Common.{◌∙◌, subst}
 use Rattle.std.proofs.lemmas.Int.{ints}
 use Rattle.std.proofs.lemmas.Bool.{cases_lt}
 use Rattle.std.proofs.lemmas.List.{get_or-take, get_or-drop, length-take-le, length-drop}
@@ -7,7 +9,8 @@ use Rattle.std.specs.List.{Contains}
 use Rattle.std.specs.List.Sorted.{IsPartitionedBy, IsPartitionPoint}
 use Rattle.near_pairs.specs.Columns.{IsRising}
 use Rattle.near_pairs.specs.declared.column.Item.{Item}
-use Rattle.near_pairs.proofs.Tests.{below_true, below_false, true_below, false_below, not_true, not_false}
+use Rattle.near_pairs.proofs.Tests.{below_true, below_false, true_below, false_below, not_true}
+use Rattle.near_pairs.proofs.Tests.{not_false}
 
 -- ---- the tests of the two searches
 abbrev pub begins_before : ℤ → Item → Bool
@@ -16,7 +19,8 @@ begins_before low item = int_lt item.low_x low
 abbrev pub begins_within : ℤ → Item → Bool
 begins_within high item = not (int_lt high item.low_x)
 
-not_after : (xs : List Item) (i j : ℕ) (d : Item) → IsRising xs → i ≤ j → j < length xs → (get_or xs i d).low_x ≤ℤ (get_or xs j d).low_x
+not_after : (xs : List Item) (i j : ℕ) (d : Item) → IsRising xs → i ≤ j → j < length xs
+    → (get_or xs i d).low_x ≤ℤ (get_or xs j d).low_x
 not_after xs i j d up l m = by (cases_lt i j)
   where
     same : i ≡ j → (get_or xs i d).low_x ≤ℤ (get_or xs j d).low_x
@@ -32,14 +36,16 @@ before_is_front xs low up i j d l m h =
     let b = true_below (get_or xs j d).low_x low h in
     below_true (get_or xs i d).low_x low (omega (arith, ints, a, b))
 
-within_is_front : (xs : List Item) (high : ℤ) → IsRising xs → IsPartitionedBy (begins_within high) xs
+within_is_front : (xs : List Item) (high : ℤ) → IsRising xs
+    → IsPartitionedBy (begins_within high) xs
 within_is_front xs high up i j d l m h =
     let a = not_after xs i j d up l m in
     let b = false_below high (get_or xs j d).low_x (not_true (int_lt high (get_or xs j d).low_x) h) in
     ap not (below_false high (get_or xs i d).low_x (omega (arith, ints, a, b)))
 
 -- ---- the rest of a list from a place on
-rest_at : (xs : List Item) (s j : ℕ) (d : Item) → j < length xs - s → get_or (take (length xs - s) (drop s xs)) j d ≡ get_or xs (s + j) d
+rest_at : (xs : List Item) (s j : ℕ) (d : Item) → j < length xs - s
+    → get_or (take (length xs - s) (drop s xs)) j d ≡ get_or xs (s + j) d
 rest_at xs s j d l = get_or-take (length xs - s) (drop s xs) j d l ∙ get_or-drop s xs j d
 
 rest_size : (xs : List Item) (s : ℕ) → length (take (length xs - s) (drop s xs)) ≡ length xs - s
@@ -58,7 +64,8 @@ module _ (xs : List Item) (low high : ℤ) (s e : ℕ) (up : IsRising xs)
   abbrev rest : List Item
   rest = take (length xs - s) (drop s xs)
 
-  pub block_whole : e ≤ length rest → (item : Item) → Contains xs item → low ≤ℤ item.low_x → item.low_x ≤ℤ high → Contains (take e rest) item
+  pub block_whole : e ≤ length rest → (item : Item) → Contains xs item → low ≤ℤ item.low_x
+      → item.low_x ≤ℤ high → Contains (take e rest) item
   block_whole fits item (k, l, at) a b =
       let x = get_or xs k item in
       let ax : low ≤ℤ x.low_x = subst (λ (y : Item). low ≤ℤ y.low_x) (sym at) a in
@@ -79,7 +86,8 @@ module _ (xs : List Item) (low high : ℤ) (s e : ℕ) (up : IsRising xs)
               absurd (omega (arith, ints, t, ax))
           by (inr h) = h
 
-      to_end : s ≤ k → k - s < length xs - s → get_or rest (k - s) item ≡ get_or xs k item → (get_or xs k item).low_x ≤ℤ high → k - s < e
+      to_end : s ≤ k → k - s < length xs - s → get_or rest (k - s) item ≡ get_or xs k item
+          → (get_or xs k item).low_x ≤ℤ high → k - s < e
       to_end from m is bx = by (cases_lt (k - s) e)
         where
           by : (k - s < e) ⊎ (e ≤ k - s) → k - s < e

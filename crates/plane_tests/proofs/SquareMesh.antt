@@ -45,8 +45,10 @@ begun mesh is =
 pub square_events : IsEventList 5 edge (points_of steps)
 square_events = run_events 5 edge steps square_runs
 
-pub square_event : (k : ℕ) → k < 4 → IsEvent 5 edge steps k (nth_step steps k).starting (nth_step steps k).ending
+pub square_event : (k : ℕ) → k < 4
+    → IsEvent 5 edge steps k (nth_step steps k).starting (nth_step steps k).ending
 square_event k l = record { within = l; good = run_good 5 edge steps k square_runs l; starting = refl; ending = refl }
 
-pub square_turns : (mesh : HalfEdges) (k : ℕ) → k < 4 → IsTurned 5 edge steps mesh k → CanTurn mesh (nth_step steps k).starting (nth_step steps k).ending
+pub square_turns : (mesh : HalfEdges) (k : ℕ) → k < 4 → IsTurned 5 edge steps mesh k
+    → CanTurn mesh (nth_step steps k).starting (nth_step steps k).ending
 square_turns mesh k l is = can_turn 5 edge steps square_events mesh k is (nth_step steps k).starting (nth_step steps k).ending (square_event k l) (omega arith)

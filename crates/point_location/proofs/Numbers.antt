@@ -1,5 +1,6 @@
 -- Points with their numbers, once they are sorted.
-use Rattle.std.proofs.Common.{◌≡◌, ℕ, zero, suc, ◌+◌, ◌<◌, inl, inr, ℤ, true, false, List, [], ◌∷◌, ◌++◌, length, take, get_or, arith, ap, sym, ◌∙◌, subst, add-one}
+use Rattle.std.proofs.Common.{◌≡◌, ℕ, zero, suc, ◌+◌, ◌<◌, inl, inr, ℤ, true, false, List, [], ◌∷◌}
+use Rattle.std.proofs.Common.{◌++◌, length, take, get_or, arith, ap, sym, ◌∙◌, subst, add-one}
 use Rattle.std.specs.Ordering.{is_lt, int_cmp, ordering_then}
 use Rattle.std.specs.declared.cmp.Ordering.{Ordering}
 use Rattle.std.specs.List.Sorted.{IsPermutation, IsSortedByKey}
@@ -30,7 +31,8 @@ numbers_more k (q ∷ ps) p = ap (λ (ns : List Numbered). record { at = q; numb
     shift : (k n : ℕ) → suc k + n ≡ k + suc n
     shift k n = omega arith
 
-pub numbers_step : (points : List Point) (i : ℕ) (d : Point) (order order' : List Numbered) (p : Point) → i < length points → order ≡ numbers_from 0 (take i points) → p ≡ get_or points i d
+pub numbers_step : (points : List Point) (i : ℕ) (d : Point) (order order' : List Numbered) (p : Point)
+    → i < length points → order ≡ numbers_from 0 (take i points) → p ≡ get_or points i d
     → order' ≡ order ++ record { at = p; number = i } ∷ [] → order' ≡ numbers_from 0 (take (i + 1) points)
 numbers_step points i d order order' p l e q f =
     f ∙ ap (λ (ns : List Numbered). ns ++ record { at = p; number = i } ∷ []) e
@@ -61,7 +63,8 @@ numbers_all k [] j n l q = absurd (omega (arith, l))
 numbers_all k (p ∷ ps) zero n l q = inl (ap (λ (i : ℕ). record { at = p; number = i }) (omega (arith, q)))
 numbers_all k (p ∷ ps) (suc j) n l q = inr (numbers_all (suc k) ps j n (omega (arith, l)) (omega (arith, q)))
 
-place_in : (xs : List Numbered) (z : Numbered) → Has z xs → (i : ℕ) × (i < length xs) × (get_or xs i nothing ≡ z)
+place_in : (xs : List Numbered) (z : Numbered) → Has z xs
+    → (i : ℕ) × (i < length xs) × (get_or xs i nothing ≡ z)
 place_in [] z h = absurd h
 place_in (x ∷ xs) z (inl e) = (0, omega arith, sym e)
 place_in (x ∷ xs) z (inr h) = let (i, l, e) = place_in xs z h in (suc i, omega (arith, l), e)
@@ -81,7 +84,9 @@ not_before y z h (inl l) = clash (sym (ap (λ o. is_lt (ordering_then o (int_cmp
 not_before y z h (inr p) =
     clash (sym (ap (λ o. is_lt (ordering_then o (int_cmp z.at.y y.at.y))) (int_equal z.at.x y.at.x p.0) ∙ ap is_lt (int_less z.at.y y.at.y p.1)) ∙ h)
 
-pub sorted_points : (points : List Point) (order : List Numbered) → IsPermutation (numbers_from 0 points) order → IsSortedByKey key_of key_cmp order → IsInOrder points order
+pub sorted_points : (points : List Point) (order : List Numbered)
+    → IsPermutation (numbers_from 0 points) order → IsSortedByKey key_of key_cmp order
+    → IsInOrder points order
 sorted_points points order perm sorted =
     let of : (i : ℕ) → i < length order → IsOf 0 points (get_or order i nothing) =
     λ i l. numbers_only 0 points (get_or order i nothing) (has_permutation order (numbers_from 0 points) (get_or order i nothing) (IsPermutation-sym (numbers_from 0 points) order perm) (has_at order i nothing l)) in
@@ -94,5 +99,6 @@ sorted_points points order perm sorted =
       rising = λ i l. not_before (get_or order i nothing) (get_or order (suc i) nothing) (next i l);
     }
   where
-    next : (i : ℕ) → suc i < length order → is_lt (key_cmp (key_of (get_or order (suc i) nothing)) (key_of (get_or order i nothing))) ≡ false
+    next : (i : ℕ) → suc i < length order
+        → is_lt (key_cmp (key_of (get_or order (suc i) nothing)) (key_of (get_or order i nothing))) ≡ false
     next i l = subst (λ (n : ℕ). is_lt (key_cmp (key_of (get_or order n nothing)) (key_of (get_or order i nothing))) ≡ false) (add-one i) (sorted i nothing (omega (arith, l)) (omega (arith, l)))

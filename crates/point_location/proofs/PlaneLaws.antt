@@ -4,7 +4,8 @@ pub use Rattle.plane.proofs.ListLemmas.SortedLists.{has_at, room}
 pub use Rattle.plane.proofs.ListLemmas.Points.{before_other, decides_equal}
 pub use Rattle.plane.proofs.Linear.EdgePlaces.{side-cross}
 pub use Rattle.plane.proofs.Linear.Vectors.{rise-is, side-low, side-high}
-pub use Rattle.plane.proofs.MoveLemmas.MadeSteps.{live_made, onto_made, list_is, step_is, steps_length}
+pub use Rattle.plane.proofs.MoveLemmas.MadeSteps.{live_made, onto_made, list_is, step_is}
+pub use Rattle.plane.proofs.MoveLemmas.MadeSteps.{steps_length}
 pub use Rattle.plane.proofs.MoveLemmas.OneTimetable.{before_trans}
 pub use Rattle.plane.proofs.MoveLemmas.RunMoves.{run_repeats_none, run_known}
 pub use Rattle.plane.proofs.Runs.LinesOfRuns.{live_line, one_line}

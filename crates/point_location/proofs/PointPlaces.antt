@@ -1,5 +1,7 @@
 -- What the place in the live list says of a point in a run.
-use Rattle.std.proofs.Common.{◌≡◌, ℕ, zero, suc, ◌+◌, ◌-◌, ◌^◌, ◌<◌, ◌≤◌, inl, inr, pos, ◌<ℤ◌, Option, List, [], ◌∷◌, length, take, drop, get_or, refl, arith, ap, sym, ◌∙◌, subst}
+use Rattle.std.proofs.Common.{◌≡◌, ℕ, zero, suc, ◌+◌, ◌-◌, ◌^◌, ◌<◌, ◌≤◌, inl, inr, pos, ◌<ℤ◌}
+use Rattle.std.proofs.Common.{Option, List, [], ◌∷◌, length, take, drop, get_or, refl, arith, ap}
+use Rattle.std.proofs.Common.{sym, ◌∙◌, subst}
 use Rattle.std.proofs.lemmas.Int.{ints}
 use Rattle.plane.specs.declared.kinds.Point.{Point}
 use Rattle.plane.specs.declared.kinds.Edge.{Edge}
@@ -18,10 +20,15 @@ use Rattle.point_location.specs.declared.places.Place.TheVariants as place
 use Rattle.point_location.specs.Between.{IsBetween, IsGapOf, IsOnLine}
 use Rattle.point_location.specs.Places.{IsCell, IsLeastOn, IsPlaceOf}
 use Rattle.point_location.specs.Replaying.{EndsOrStarts, IsMoment}
-use Rattle.point_location.proofs.PlaneLaws.{before_other, has_at, side-cross, live_made, list_is, step_is, steps_length, run_known, live_line, one_line, event_end, run_good}
-use Rattle.point_location.proofs.Moments.{live_room, fits_at, end_is_on, cut_run, later, done_before, todo_after}
+use Rattle.point_location.proofs.PlaneLaws.{before_other, has_at, side-cross, live_made, list_is}
+use Rattle.point_location.proofs.PlaneLaws.{step_is, steps_length, run_known, live_line, one_line}
+use Rattle.point_location.proofs.PlaneLaws.{event_end, run_good}
+use Rattle.point_location.proofs.Moments.{live_room, fits_at, end_is_on, cut_run, later}
+use Rattle.point_location.proofs.Moments.{done_before, todo_after}
 
-pub event_fits : (vs : List Move) (k : ℕ) (now : List ℕ) (v : Point) → IsMoment vs k now v → Fit [] vs → k < length vs → (get_or vs k no_move).position + (get_or vs k no_move).ending ≤ length now
+pub event_fits : (vs : List Move) (k : ℕ) (now : List ℕ) (v : Point) → IsMoment vs k now v
+    → Fit [] vs → k < length vs
+    → (get_or vs k no_move).position + (get_or vs k no_move).ending ≤ length now
 event_fits vs k now v at fit l = subst (λ (xs : List ℕ). (get_or vs k no_move).position + (get_or vs k no_move).ending ≤ length xs) (sym at.values) (fits_at [] vs k fit l)
 
 at_is : (xs : List ℕ) (i e : ℕ) → At xs i e → (i < length xs) × (e ≡ get_or xs i 0)
@@ -61,12 +68,15 @@ module _ (edges : List Edge) (vs : List Move) (run : Run (length edges) (edge_of
     ends_only e (inl h) = let r = s_good.ending_only e h in (r.0, inr r.1)
     ends_only e (inr h) = let r = s_good.starting_only e h in (r.0, inl r.1)
 
-    pub some_edge : length edges < 2 ^ 31 → (e : ℕ) × (e < 2 ^ 32 - 1) × EndsOrStarts (step_of now (get_or vs k no_move)) e
+    pub some_edge : length edges < 2 ^ 31
+        → (e : ℕ) × (e < 2 ^ 32 - 1) × EndsOrStarts (step_of now (get_or vs k no_move)) e
     some_edge few =
         let (e, m, end) = run.events s (has_at (steps_from [] vs) k no_step s_within) in
         (e, omega (arith, m, few), subst (λ (t : Step). EndsOrStarts t e) s_is (ends_all e m end))
 
-    pub least_at_event : (e : ℕ) → EndsOrStarts (step_of now (get_or vs k no_move)) e → ((d : ℕ) → EndsOrStarts (step_of now (get_or vs k no_move)) d → e ≤ d) → IsLeastOn edges v e
+    pub least_at_event : (e : ℕ) → EndsOrStarts (step_of now (get_or vs k no_move)) e
+        → ((d : ℕ) → EndsOrStarts (step_of now (get_or vs k no_move)) d → e ≤ d)
+        → IsLeastOn edges v e
     least_at_event e h f =
         let r = ends_only e (subst (λ (t : Step). EndsOrStarts t e) (sym s_is) h) in
         record {
@@ -99,7 +109,8 @@ module _ (edges : List Edge) (vs : List Move) (run : Run (length edges) (edge_of
           least = λ d b also. one_line (length edges) (edge_of edges) (made [] (take k vs)) todo v whole before after d e (omega (arith, b, m)) m (λ q. omega (arith, b, q)) also on;
         }
 
-    in_cell : (p : ℕ) (lower upper : Option ℕ) → IsGapOf (edge_of edges) now v p lower upper → IsCell edges vs v p lower upper
+    in_cell : (p : ℕ) (lower upper : Option ℕ) → IsGapOf (edge_of edges) now v p lower upper
+        → IsCell edges vs v p lower upper
     in_cell p lower upper g =
         let same : now ≡ list_after [] (steps_from [] vs) k = at.values ∙ sym (list_is [] vs k at.known) in
         record {
@@ -120,10 +131,13 @@ module _ (edges : List Edge) (vs : List Move) (run : Run (length edges) (edge_of
           upper_is = g.upper_is ∙ ap (λ (xs : List ℕ). edge_at xs p) at.values;
         }
       where
-        point_of : (j : ℕ) → j < length vs → (get_or (steps_from [] vs) j no_step).at ≡ (get_or vs j no_move).at
+        point_of : (j : ℕ) → j < length vs
+            → (get_or (steps_from [] vs) j no_step).at ≡ (get_or vs j no_move).at
         point_of j l = ap (λ (t : Step). t.at) (step_is [] vs j l)
 
-        over : (p e : ℕ) → ((i : ℕ) → p ≡ suc i → pos 0 <ℤ turn_at (edge_of edges) (get_or now i 0) v) → AtBefore now p e → pos 0 <ℤ side (edge_of edges e) (point v)
+        over : (p e : ℕ)
+            → ((i : ℕ) → p ≡ suc i → pos 0 <ℤ turn_at (edge_of edges) (get_or now i 0) v)
+            → AtBefore now p e → pos 0 <ℤ side (edge_of edges e) (point v)
         over zero e f h = absurd h
         over (suc i) e f h = let c = side-cross (edge_of edges e) v in let t = subst (λ (d : ℕ). pos 0 <ℤ turn_at (edge_of edges) d v) (sym (at_is now i e h).1) (f i refl) in omega (arith, ints, c, t)
 

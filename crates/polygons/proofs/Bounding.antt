@@ -1,5 +1,7 @@
 -- The rings of a face bound what is joined to a point in it.
-use Rattle.std.proofs.Common.{◌≡◌, ◌↔◌, ℕ, ◌<◌, arith, ap, sym, ◌∙◌, refl, inl, inr, ◌⊎◌, Bool, true, ℤ, List, [], ◌∷◌, length, map, slice_index, slice_index_or, subst}
+use Rattle.std.proofs.Common.{◌≡◌, ◌↔◌, ℕ, ◌<◌, arith, ap, sym, ◌∙◌, refl, inl, inr, ◌⊎◌, Bool}
+use Rattle.std.proofs.Common.{true, ℤ, List, [], ◌∷◌, length, map, slice_index, slice_index_or}
+use Rattle.std.proofs.Common.{subst}
 use Rattle.std.proofs.Math.ListN.{get_or-map}
 use Rattle.plane.specs.declared.kinds.Edge.{Edge}
 use Rattle.plane.specs.declared.kinds.Point.{Point}
@@ -27,29 +29,37 @@ use Rattle.event_mesh.proofs.TurnedEvents.{next_is}
 use Rattle.polygons.specs.Circles.{IsLeast}
 use Rattle.polygons.specs.Polygons.{IsOrder, IsPolygonOf, led, no_point, no_ring, place_of}
 use Rattle.polygons.specs.Regions.{AreHalvesOf, AreLines, AreRingsAbout, HasOnLeft}
-use Rattle.polygons.proofs.Circling.{halves_all, halves_on, halves_once, has_moved, has_unmoved, least_on, once_moved, rising_once}
-use Rattle.polygons.proofs.PlaneLaws.{above_joined, below_joined, by_test, each_from, enclosed, half_number, has_map, next_clockwise_is, number_below, number_half, number_is, number_self, one_face_cuts, other_number, some_inner_crossing}
+use Rattle.polygons.proofs.Circling.{halves_all, halves_on, halves_once, has_moved, has_unmoved}
+use Rattle.polygons.proofs.Circling.{least_on, once_moved, rising_once}
+use Rattle.polygons.proofs.PlaneLaws.{above_joined, below_joined, by_test, each_from, enclosed}
+use Rattle.polygons.proofs.PlaneLaws.{half_number, has_map, next_clockwise_is, number_below}
+use Rattle.polygons.proofs.PlaneLaws.{number_half, number_is, number_self, one_face_cuts}
+use Rattle.polygons.proofs.PlaneLaws.{other_number, some_inner_crossing}
 use Rattle.polygons.proofs.Rounds.{way_back, within}
 use Rattle.polygons.proofs.Sides.{along_rings, halves_of, line, line_below}
 
 -- ---- an order holds what it orders
-ordered_has : (m : HalfEdges) (at : List Point) (starts order : List ℕ) → IsOrder m at starts order → (g : ℕ) → Has g starts → Has g order
+ordered_has : (m : HalfEdges) (at : List Point) (starts order : List ℕ) → IsOrder m at starts order
+    → (g : ℕ) → Has g starts → Has g order
 ordered_has m at starts order (no_ring s o) g has = absurd (subst (λ (hs : List ℕ). Has g hs) s has)
 ordered_has m at starts order (led earlier first later s o l) g has =
     subst (λ (hs : List ℕ). Has g hs) (sym o) (has_moved earlier later first g (subst (λ (hs : List ℕ). Has g hs) s has))
 
-of_ordered : (m : HalfEdges) (at : List Point) (starts order : List ℕ) → IsOrder m at starts order → (g : ℕ) → Has g order → Has g starts
+of_ordered : (m : HalfEdges) (at : List Point) (starts order : List ℕ) → IsOrder m at starts order
+    → (g : ℕ) → Has g order → Has g starts
 of_ordered m at starts order (no_ring s o) g has = absurd (subst (λ (hs : List ℕ). Has g hs) o has)
 of_ordered m at starts order (led earlier first later s o l) g has =
     subst (λ (hs : List ℕ). Has g hs) (sym s) (has_unmoved earlier later first g (subst (λ (hs : List ℕ). Has g hs) o has))
 
-ordered_once : (m : HalfEdges) (at : List Point) (starts order : List ℕ) → IsOrder m at starts order → Once starts → Once order
+ordered_once : (m : HalfEdges) (at : List Point) (starts order : List ℕ) → IsOrder m at starts order
+    → Once starts → Once order
 ordered_once m at starts order (no_ring s o) once = subst Once (sym o) tt
 ordered_once m at starts order (led earlier first later s o l) once =
     subst Once (sym o) (once_moved earlier later first (subst Once s once))
 
 -- ---- lists
-once_map : (f : ℕ → ℕ) (xs : List ℕ) → Once xs → ((x y : ℕ) → Has x xs → Has y xs → f x ≡ f y → x ≡ y) → Once (map f xs)
+once_map : (f : ℕ → ℕ) (xs : List ℕ) → Once xs
+    → ((x y : ℕ) → Has x xs → Has y xs → f x ≡ f y → x ≡ y) → Once (map f xs)
 once_map f [] o one = tt
 once_map f (x ∷ xs) (new, o) one = (
   (λ has. let (y, i, e) = of_map f xs (f x) has in new (subst (λ (z : ℕ). Has z xs) (sym (one x y (inl refl) (inr i) e)) i)),
@@ -66,7 +76,8 @@ of_map f [] y has = absurd has
 of_map f (x ∷ xs) y (inl e) = (x, inl refl, e)
 of_map f (x ∷ xs) y (inr has) = let (z, i, e) = of_map f xs y has in (z, inr i, e)
 
-parity_mapped : (p : Edge → Bool) (E : ℕ → Edge) (xs : List ℕ) → parity p (map E xs) ≡ parity (λ e. p (E e)) xs
+parity_mapped : (p : Edge → Bool) (E : ℕ → Edge) (xs : List ℕ)
+    → parity p (map E xs) ≡ parity (λ e. p (E e)) xs
 parity_mapped p E [] = refl
 parity_mapped p E (x ∷ xs) = ap (differ (p (E x))) (parity_mapped p E xs)
 
@@ -104,7 +115,8 @@ module _ (w : ℤ) (d : Plan) (E : ℕ → Edge) (steps : List Step) (on : IsRun
   below_line : (g : ℕ) → g < size m → line g < n
   below_line g l = line_below E m at n mesh turned.count begins g l
 
-  next : (h : Half) → edge_of h < n → (edge_of (half_of (next_of m (number h))) < n) × IsClockwiseNext n E (twin h) (half_of (next_of m (number h)))
+  next : (h : Half) → edge_of h < n
+      → (edge_of (half_of (next_of m (number h))) < n) × IsClockwiseNext n E (twin h) (half_of (next_of m (number h)))
   next h l =
       let count = turned.count in
       let b = number_below h n l in (
@@ -193,7 +205,8 @@ module _ (w : ℤ) (d : Plan) (E : ℕ → Edge) (steps : List Step) (on : IsRun
     abbrev f_at : ℕ
     f_at = classes.face_of (drawn w d E steps) face (position k i)
 
-    half_side : (x : Half) → edge_of x < n → face x ≡ f → one_side (numbers face) f_at (edge_of x) ≡ true
+    half_side : (x : Half) → edge_of x < n → face x ≡ f
+        → one_side (numbers face) f_at (edge_of x) ≡ true
     half_side (under e) l q = one_true f_at (face (under e)) (face (over e)) (is ∙ sym q) (λ r. apart e l (sym r ∙ (is ∙ sym q)))
     half_side (over e) l q = other_true f_at (face (under e)) (face (over e)) (λ r. apart e l (q ∙ (sym is ∙ r))) (is ∙ sym q)
 
@@ -215,7 +228,8 @@ module _ (w : ℤ) (d : Plan) (E : ℕ → Edge) (steps : List Step) (on : IsRun
       | inr q ↦ has_half (over e) l (sym q ∙ is)
     ]
 
-    encloses : (z : Vector) → Place z → IsOff d z → (parity (crosses_vertical z) (map E lines) ≡ true) ↔ Joined d z (point a)
+    encloses : (z : Vector) → Place z → IsOff d z
+        → (parity (crosses_vertical z) (map E lines) ≡ true) ↔ Joined d z (point a)
     encloses z Z off =
         let law = enclosed w d E steps on face faces a k i lines z located (λ q. inner (sym is ∙ q)) once line_side side_line Z off in
         let e = parity_mapped (crosses_vertical z) E lines in

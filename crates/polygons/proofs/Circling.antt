@@ -1,5 +1,6 @@
 -- Each half-edge is on the circle of one least half-edge, once.
-use Rattle.std.proofs.Common.{◌≡◌, ◌≢◌, ℕ, zero, suc, ◌<◌, ◌≤◌, ◌+◌, arith, ap, sym, ◌∙◌, refl, inl, inr, List, [], ◌∷◌, ◌++◌, subst}
+use Rattle.std.proofs.Common.{◌≡◌, ◌≢◌, ℕ, zero, suc, ◌<◌, ◌≤◌, ◌+◌, arith, ap, sym, ◌∙◌, refl, inl}
+use Rattle.std.proofs.Common.{inr, List, [], ◌∷◌, ◌++◌, subst}
 use Rattle.std.proofs.lemmas.Bool.{cases_eq, cases_lt}
 use Rattle.plane.specs.declared.kinds.Point.{Point}
 use Rattle.plane.specs.Lists.{Has, Once}
@@ -13,7 +14,8 @@ use Rattle.polygons.proofs.Rounds.{in_round, parts_of, steps-add, steps_first, w
 use Rattle.polygons.proofs.Sides.{halves_of}
 
 -- a half-edge on the way from h, and how far
-pub of_way : (m : HalfEdges) (n h g : ℕ) → Has g (way m h n) → (k : ℕ) × (k < n) × (g ≡ steps (next_of m) k h)
+pub of_way : (m : HalfEdges) (n h g : ℕ) → Has g (way m h n)
+    → (k : ℕ) × (k < n) × (g ≡ steps (next_of m) k h)
 of_way m zero h g has = absurd has
 of_way m (suc n) h g (inl e) = (0, omega arith, e)
 of_way m (suc n) h g (inr has) =
@@ -61,7 +63,8 @@ lowest v (suc n) =
 
 module _ (m : HalfEdges) (mesh : IsMesh m) where
   -- where c + 1 steps lead back, all steps are among the first ones
-  soon : (c g : ℕ) → steps (next_of m) (suc c) g ≡ g → (k : ℕ) → (j : ℕ) × (j < suc c) × (steps (next_of m) j g ≡ steps (next_of m) k g)
+  soon : (c g : ℕ) → steps (next_of m) (suc c) g ≡ g → (k : ℕ)
+      → (j : ℕ) × (j < suc c) × (steps (next_of m) j g ≡ steps (next_of m) k g)
   soon c g back zero = (0, omega arith, refl)
   soon c g back (suc k) =
       let (j, l, e) = soon c g back k in
@@ -82,11 +85,13 @@ module _ (m : HalfEdges) (mesh : IsMesh m) where
       )
 
   -- ---- no half-edge stands twice
-  undo : (k h : ℕ) → h < size m → steps (next_of m) k (next_of m h) ≡ next_of m h → steps (next_of m) k h ≡ h
+  undo : (k h : ℕ) → h < size m → steps (next_of m) k (next_of m h) ≡ next_of m h
+      → steps (next_of m) k h ≡ h
   undo k h l e =
       sym (mesh.prev_next _ (within m mesh k h l)) ∙ (ap (prev_of m) (steps_first (next_of m) k h ∙ e) ∙ mesh.prev_next h l)
 
-  way_once : (n h : ℕ) → h < size m → ((k : ℕ) → 0 < k → k < n → steps (next_of m) k h ≢ h) → Once (way m h n)
+  way_once : (n h : ℕ) → h < size m → ((k : ℕ) → 0 < k → k < n → steps (next_of m) k h ≢ h)
+      → Once (way m h n)
   way_once zero h l apart = tt
   way_once (suc n) h l apart = (
     (λ has. let (k, s, e) = of_way m n (next_of m h) h has in apart (suc k) (omega arith) (omega (arith, s)) (steps_first (next_of m) k h ∙ sym e)),
@@ -94,7 +99,8 @@ module _ (m : HalfEdges) (mesh : IsMesh m) where
   )
 
   -- two least half-edges whose circles share one are one
-  one_least : (h i a b : ℕ) → h < size m → i < size m → IsLeast m h → IsLeast m i → steps (next_of m) a h ≡ steps (next_of m) b i → h ≡ i
+  one_least : (h i a b : ℕ) → h < size m → i < size m → IsLeast m h → IsLeast m i
+      → steps (next_of m) a h ≡ steps (next_of m) b i → h ≡ i
   one_least h i a b l k least low e =
       let f = next_of m in
       let to = way_back m mesh b i (steps f a h) k (sym e) in
@@ -104,7 +110,8 @@ module _ (m : HalfEdges) (mesh : IsMesh m) where
       omega (arith, p, q)
 
   module _ (at : List Point) where
-    pub halves_on : (hs : List ℕ) (rings : List (List Point)) (a : AreTraced m at hs rings) (g : ℕ) → Has g (halves_of m at hs rings a)
+    pub halves_on : (hs : List ℕ) (rings : List (List Point)) (a : AreTraced m at hs rings) (g : ℕ)
+        → Has g (halves_of m at hs rings a)
         → (h : ℕ) × Has h hs × (k : ℕ) × (g ≡ steps (next_of m) k h)
     halves_on [] rings a g has = absurd has
     halves_on (h ∷ hs) [] a g has = absurd has
@@ -113,7 +120,8 @@ module _ (m : HalfEdges) (mesh : IsMesh m) where
       | inr i ↦ (let (j, s, k, e) = halves_on hs rs a g i in (j, inr s, k, e))
     ]
 
-    pub halves_all : (hs : List ℕ) (rings : List (List Point)) (a : AreTraced m at hs rings) (h k : ℕ) → Has h hs → Has (steps (next_of m) k h) (halves_of m at hs rings a)
+    pub halves_all : (hs : List ℕ) (rings : List (List Point)) (a : AreTraced m at hs rings) (h k : ℕ)
+        → Has h hs → Has (steps (next_of m) k h) (halves_of m at hs rings a)
     halves_all [] rings a h k has = absurd has
     halves_all (i ∷ hs) [] a h k has = absurd a
     halves_all (i ∷ hs) (r ∷ rs) (t, a) h k (inl e) =
@@ -122,7 +130,8 @@ module _ (m : HalfEdges) (mesh : IsMesh m) where
         (subst (λ (g : ℕ). Has g (way m i t.count)) (s.there ∙ ap (steps (next_of m) k) (sym e)) (in_way m t.count s.count i s.soon))
     halves_all (i ∷ hs) (r ∷ rs) (t, a) h k (inr has) = has_back _ (way m i t.count) (halves_of m at hs rs a) (halves_all hs rs a h k has)
 
-    pub halves_once : (hs : List ℕ) (rings : List (List Point)) (a : AreTraced m at hs rings) → Once hs → ((h : ℕ) → Has h hs → (h < size m) × IsLeast m h)
+    pub halves_once : (hs : List ℕ) (rings : List (List Point)) (a : AreTraced m at hs rings)
+        → Once hs → ((h : ℕ) → Has h hs → (h < size m) × IsLeast m h)
         → Once (halves_of m at hs rings a)
     halves_once [] rings a once only = tt
     halves_once (h ∷ hs) [] a once only = absurd a
@@ -140,7 +149,8 @@ pub rising_once : (hs : List ℕ) → Rising hs → Once hs
 rising_once [] r = tt
 rising_once (h ∷ hs) (first, rest) = ((λ has. let l = each_has (λ g. h < g) hs h first has in absurd (omega (arith, l))), rising_once hs rest)
 
-pub has_moved : (earlier later : List ℕ) (first g : ℕ) → Has g (earlier ++ first ∷ later) → Has g (first ∷ (earlier ++ later))
+pub has_moved : (earlier later : List ℕ) (first g : ℕ) → Has g (earlier ++ first ∷ later)
+    → Has g (first ∷ (earlier ++ later))
 has_moved [] later first g has = has
 has_moved (h ∷ hs) later first g (inl e) = inr (inl e)
 has_moved (h ∷ hs) later first g (inr has) = elim (has_moved hs later first g has) [
@@ -148,13 +158,15 @@ has_moved (h ∷ hs) later first g (inr has) = elim (has_moved hs later first g 
   | inr i ↦ inr (inr i)
 ]
 
-pub has_unmoved : (earlier later : List ℕ) (first g : ℕ) → Has g (first ∷ (earlier ++ later)) → Has g (earlier ++ first ∷ later)
+pub has_unmoved : (earlier later : List ℕ) (first g : ℕ) → Has g (first ∷ (earlier ++ later))
+    → Has g (earlier ++ first ∷ later)
 has_unmoved [] later first g has = has
 has_unmoved (h ∷ hs) later first g (inl e) = inr (has_unmoved hs later first g (inl e))
 has_unmoved (h ∷ hs) later first g (inr (inl e)) = inl e
 has_unmoved (h ∷ hs) later first g (inr (inr i)) = inr (has_unmoved hs later first g (inr i))
 
-pub once_moved : (earlier later : List ℕ) (first : ℕ) → Once (earlier ++ first ∷ later) → Once (first ∷ (earlier ++ later))
+pub once_moved : (earlier later : List ℕ) (first : ℕ) → Once (earlier ++ first ∷ later)
+    → Once (first ∷ (earlier ++ later))
 once_moved [] later first o = o
 once_moved (h ∷ hs) later first (new, o) =
     let (apart, rest) = once_moved hs later first o in (

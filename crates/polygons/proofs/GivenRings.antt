@@ -1,5 +1,6 @@
 -- Rings about a point are given by the drawing: half-edges, circles and their order are.
-use Rattle.std.proofs.Common.{◌≡◌, ℕ, zero, suc, ◌<◌, ◌≤◌, ◌*◌, arith, ap, sym, ◌∙◌, refl, inl, inr, ◌⊎◌, pos, List, [], ◌∷◌, ◌++◌, length, map, subst}
+use Rattle.std.proofs.Common.{◌≡◌, ℕ, zero, suc, ◌<◌, ◌≤◌, ◌*◌, arith, ap, sym, ◌∙◌, refl, inl, inr}
+use Rattle.std.proofs.Common.{◌⊎◌, pos, List, [], ◌∷◌, ◌++◌, length, map, subst}
 use Rattle.std.proofs.lemmas.Bool.{cases_eq, cases_lt}
 use Rattle.plane.specs.declared.kinds.Edge.{Edge}
 use Rattle.plane.specs.declared.kinds.Point.{Point}
@@ -13,10 +14,12 @@ use Rattle.half_edges.specs.Cycles.{steps as along}
 use Rattle.half_edges.specs.HalfEdges.{HalfEdges, face_of, next_of}
 use Rattle.polygons.specs.Circles.{IsLeast, IsRound, Rising, way}
 use Rattle.polygons.specs.Leading.{AtMost}
-use Rattle.polygons.specs.Polygons.{AreTraced, IsCorner, IsOrder, IsPolygonOf, IsTraced, Leads, led, no_ring, place_of}
+use Rattle.polygons.specs.Polygons.{AreTraced, IsCorner, IsOrder, IsPolygonOf, IsTraced, Leads, led}
+use Rattle.polygons.specs.Polygons.{no_ring, place_of}
 use Rattle.polygons.specs.Regions.{AreHalvesOf}
 use Rattle.polygons.proofs.Circling.{has_unmoved}
-use Rattle.polygons.proofs.PlaneLaws.{before_trans, below_number, clockwise_is_next, each_has, has_back, never, next_one, number_below, number_half}
+use Rattle.polygons.proofs.PlaneLaws.{before_trans, below_number, clockwise_is_next, each_has}
+use Rattle.polygons.proofs.PlaneLaws.{has_back, never, next_one, number_below, number_half}
 
 -- ---- lists
 none_before : (h : ℕ) (hs : List ℕ) → Rising (h ∷ hs) → (g : ℕ) → Has g (h ∷ hs) → h ≤ g
@@ -24,7 +27,8 @@ none_before h hs (first, rest) g (inl e) = omega (arith, e)
 none_before h hs (first, rest) g (inr i) = let l = each_has (λ k. h < k) hs g first i in omega (arith, l)
 
 -- two rising lists with the same elements are one
-same_rising : (gs hs : List ℕ) → Rising gs → Rising hs → ((k : ℕ) → Has k gs → Has k hs) → ((k : ℕ) → Has k hs → Has k gs) → gs ≡ hs
+same_rising : (gs hs : List ℕ) → Rising gs → Rising hs → ((k : ℕ) → Has k gs → Has k hs)
+    → ((k : ℕ) → Has k hs → Has k gs) → gs ≡ hs
 same_rising [] [] r s to from = refl
 same_rising [] (h ∷ hs) r s to from = absurd (from h (inl refl))
 same_rising (g ∷ gs) [] r s to from = absurd (to g (inl refl))
@@ -35,7 +39,8 @@ same_rising (g ∷ gs) (h ∷ hs) r s to from =
     let rest = same_rising gs hs r.1 s.1 (λ k i. later gs k h hs g (each_has (λ j. g < j) gs k r.0 i) e (to k (inr i))) (λ k i. later hs k g gs h (each_has (λ j. h < j) hs k s.0 i) (sym e) (from k (inr i))) in
     ap (λ (k : ℕ). k ∷ gs) e ∙ ap (λ (ks : List ℕ). h ∷ ks) rest
   where
-    later : (xs : List ℕ) (k x : ℕ) (ys : List ℕ) (y : ℕ) → y < k → y ≡ x → Has k (x ∷ ys) → Has k ys
+    later : (xs : List ℕ) (k x : ℕ) (ys : List ℕ) (y : ℕ) → y < k → y ≡ x → Has k (x ∷ ys)
+        → Has k ys
     later xs k x ys y l e (inl q) = absurd (omega (arith, l, e, q))
     later xs k x ys y l e (inr i) = i
 
@@ -43,7 +48,8 @@ same_rising (g ∷ gs) (h ∷ hs) r s to from =
 abbrev Cuts : List ℕ → ℕ → List ℕ → List ℕ → ℕ → List ℕ → Type 0
 Cuts e f l d g k = ((e ≡ d) × (f ≡ g) × (l ≡ k)) ⊎ ((Has f d × Has g l) ⊎ (Has g e × Has f k))
 
-cut_more : (x : ℕ) (e : List ℕ) (f : ℕ) (l d : List ℕ) (g : ℕ) (k : List ℕ) → Cuts e f l d g k → Cuts (x ∷ e) f l (x ∷ d) g k
+cut_more : (x : ℕ) (e : List ℕ) (f : ℕ) (l d : List ℕ) (g : ℕ) (k : List ℕ) → Cuts e f l d g k
+    → Cuts (x ∷ e) f l (x ∷ d) g k
 cut_more x e f l d g k (inl (p, q, r)) = inl (ap (λ (xs : List ℕ). x ∷ xs) p, q, r)
 cut_more x e f l d g k (inr (inl (p, q))) = inr (inl (inr p, q))
 cut_more x e f l d g k (inr (inr (p, q))) = inr (inr (inr p, q))
@@ -56,7 +62,8 @@ abbrev tail_of : List ℕ → List ℕ
 tail_of [] = []
 tail_of (x ∷ xs) = xs
 
-cuts : (e : List ℕ) (f : ℕ) (l d : List ℕ) (g : ℕ) (k : List ℕ) → e ++ f ∷ l ≡ d ++ g ∷ k → Cuts e f l d g k
+cuts : (e : List ℕ) (f : ℕ) (l d : List ℕ) (g : ℕ) (k : List ℕ) → e ++ f ∷ l ≡ d ++ g ∷ k
+    → Cuts e f l d g k
 cuts [] f l [] g k q = inl (refl, ap head_of q, ap tail_of q)
 cuts [] f l (y ∷ d) g k q = inr (inl (inl (ap head_of q), subst (λ (xs : List ℕ). Has g xs) (sym (ap tail_of q)) (has_back g d (g ∷ k) (inl refl))))
 cuts (x ∷ e) f l [] g k q = inr (inr (inl (sym (ap head_of q)), subst (λ (xs : List ℕ). Has f xs) (ap tail_of q) (has_back f e (f ∷ l) (inl refl))))
@@ -76,7 +83,8 @@ module _ (d : Plan) (E : ℕ → Edge) (steps : List Step) (on : IsRunOf d E ste
   half_below h l = below_number (half_of h) n (let e = number_half h in omega (arith, l, e))
 
   -- ---- half-edges
-  next_half : (x : Half) → edge_of x < n → half_of (next_of m (number x)) ≡ half_of (next_of o (number x))
+  next_half : (x : Half) → edge_of x < n
+      → half_of (next_of m (number x)) ≡ half_of (next_of o (number x))
   next_half x l =
       let (u, p) = is.next x l in
       let (v, q) = also.next x l in
@@ -139,7 +147,8 @@ module _ (d : Plan) (E : ℕ → Edge) (steps : List Step) (on : IsRunOf d E ste
   one_ring h p q l t s =
       t.is ∙ (way_is t.count h l ∙ (ap (λ (i : ℕ). map (place_of o by) (way o h i)) (one_count h t.count s.count l t.round s.round) ∙ sym s.is))
 
-  one_rings : (hs : List ℕ) (ps qs : List (List Point)) → ((h : ℕ) → Has h hs → h < 2 * n) → AreTraced m at hs ps → AreTraced o by hs qs → ps ≡ qs
+  one_rings : (hs : List ℕ) (ps qs : List (List Point)) → ((h : ℕ) → Has h hs → h < 2 * n)
+      → AreTraced m at hs ps → AreTraced o by hs qs → ps ≡ qs
   one_rings [] [] [] inside t s = refl
   one_rings [] [] (q ∷ qs) inside t s = absurd s
   one_rings [] (p ∷ ps) qs inside t s = absurd t
@@ -175,7 +184,8 @@ module _ (d : Plan) (E : ℕ → Edge) (steps : List Step) (on : IsRunOf d E ste
       let b = is.count in
       p.of_face.all h (omega (arith, l, b)) (one_least d E steps on a o by g also m at f is h l s.1) (one_face d E steps on a o by g also m at f is h l s.2))
 
-  both_lead : (e : List ℕ) (x : ℕ) (l : List ℕ) (c : List ℕ) (y : ℕ) (k : List ℕ) → p.starts ≡ e ++ x ∷ l → q.starts ≡ c ++ y ∷ k → Leads m at e x l → Leads o by c y k
+  both_lead : (e : List ℕ) (x : ℕ) (l : List ℕ) (c : List ℕ) (y : ℕ) (k : List ℕ)
+      → p.starts ≡ e ++ x ∷ l → q.starts ≡ c ++ y ∷ k → Leads m at e x l → Leads o by c y k
       → (e ≡ c) × (x ≡ y) × (l ≡ k)
   both_lead e x l c y k u v s t =
       let same = sym u ∙ (starts_are ∙ v) in

@@ -1,5 +1,6 @@
 -- The sides of rings: each runs along the edge of its half-edge.
-use Rattle.std.proofs.Common.{◌≡◌, ℕ, zero, suc, ◌<◌, ◌*◌, arith, ap, sym, ◌∙◌, refl, inl, inr, List, [], ◌∷◌, ◌++◌, map, subst}
+use Rattle.std.proofs.Common.{◌≡◌, ℕ, zero, suc, ◌<◌, ◌*◌, arith, ap, sym, ◌∙◌, refl, inl, inr}
+use Rattle.std.proofs.Common.{List, [], ◌∷◌, ◌++◌, map, subst}
 use Rattle.std.proofs.lemmas.List.{map-append}
 use Rattle.std.proofs.Common.{slice_index_or}
 use Rattle.plane.specs.declared.kinds.Edge.{Edge}
@@ -27,7 +28,8 @@ halves_of m at [] rings a = []
 halves_of m at (h ∷ hs) [] a = []
 halves_of m at (h ∷ hs) (r ∷ rs) (t, a) = way m h t.count ++ halves_of m at hs rs a
 
-along_append : (E : ℕ → Edge) (ss ts : List Side) (is js : List ℕ) → AreAlong E ss is → AreAlong E ts js → AreAlong E (ss ++ ts) (is ++ js)
+along_append : (E : ℕ → Edge) (ss ts : List Side) (is js : List ℕ) → AreAlong E ss is
+    → AreAlong E ts js → AreAlong E (ss ++ ts) (is ++ js)
 along_append E [] ts [] js a b = b
 along_append E [] ts (i ∷ is) js a b = absurd a
 along_append E (s ∷ ss) ts [] js a b = absurd a
@@ -55,25 +57,29 @@ module _ (E : ℕ → Edge) (m : HalfEdges) (at : List Point) (n : ℕ) (mesh : 
       ∙ (ap (place_of m at) (ap twin_of (sym (number_half h)) ∙ sym (number_twin (half_of h)))
       ∙ begins (twin (half_of h)) (subst (λ (e : ℕ). e < n) (sym (twin_edge (half_of h))) (line_below h l)))
 
-  along_half : (h : ℕ) → h < size m → HasEnds (E (line h)) (place_of m at h) (place_of m at (next_of m h))
+  along_half : (h : ℕ) → h < size m
+      → HasEnds (E (line h)) (place_of m at h) (place_of m at (next_of m h))
   along_half h l =
       subst (λ (p : Point). HasEnds (E (line h)) p (place_of m at (next_of m h))) (sym (starts_at h l))
       (subst (λ (q : Point). HasEnds (E (line h)) (origin E (half_of h)) q) (sym (ends_at h l)) (half_ends E (half_of h)))
 
-  along_way : (k h : ℕ) (end : Point) → h < size m → place_of m at (steps (next_of m) (suc k) h) ≡ end
+  along_way : (k h : ℕ) (end : Point) → h < size m
+      → place_of m at (steps (next_of m) (suc k) h) ≡ end
       → AreAlong E (sides_to end (place_of m at h) (map (place_of m at) (way m (next_of m h) k))) (map line (way m h (suc k)))
   along_way zero h end l e = (subst (λ (q : Point). HasEnds (E (line h)) (place_of m at h) q) e (along_half h l), tt)
   along_way (suc k) h end l e =
       (along_half h l, along_way k (next_of m h) end (mesh.next_within h l) (ap (place_of m at) (sym (steps_first (next_of m) (suc k) h)) ∙ e))
 
-  along_count : (c h : ℕ) (corners : List Point) → h < size m → 0 < c → steps (next_of m) c h ≡ h → corners ≡ map (place_of m at) (way m h c)
+  along_count : (c h : ℕ) (corners : List Point) → h < size m → 0 < c → steps (next_of m) c h ≡ h
+      → corners ≡ map (place_of m at) (way m h c)
       → AreAlong E (sides_of corners) (map line (way m h c))
   along_count zero h corners l some back is = absurd (omega (arith, some))
   along_count (suc k) h corners l some back is =
       subst (λ (ps : List Point). AreAlong E (sides_of ps) (map line (way m h (suc k)))) (sym is)
       (along_way k h (place_of m at h) l (ap (place_of m at) back))
 
-  pub along_rings : (hs : List ℕ) (rings : List (List Point)) (a : AreTraced m at hs rings) → ((h : ℕ) → Has h hs → h < size m)
+  pub along_rings : (hs : List ℕ) (rings : List (List Point)) (a : AreTraced m at hs rings)
+      → ((h : ℕ) → Has h hs → h < size m)
       → AreAlong E (all_sides rings) (map line (halves_of m at hs rings a))
   along_rings [] [] a inside = tt
   along_rings [] (r ∷ rs) a inside = absurd a

@@ -1,5 +1,6 @@
 -- Polygons that are taken out of a list, one by one.
-use Rattle.std.proofs.Common.{◌≡◌, ℕ, ◌<◌, ◌≤◌, ◌+◌, arith, ap, sym, ◌∙◌, inl, inr, List, [], ◌∷◌, ◌++◌, length, get_or, set, slice_index, subst}
+use Rattle.std.proofs.Common.{◌≡◌, ℕ, ◌<◌, ◌≤◌, ◌+◌, arith, ap, sym, ◌∙◌, inl, inr, List, [], ◌∷◌}
+use Rattle.std.proofs.Common.{◌++◌, length, get_or, set, slice_index, subst}
 use Rattle.std.proofs.lemmas.Bool.{cases_eq}
 use Rattle.std.proofs.lemmas.List.{get_or_append_left, get_or_push, length-append, map-append}
 use Rattle.plane.specs.declared.kinds.Point.{Point}
@@ -18,15 +19,19 @@ AreApart ns = (i j : ℕ) → i < length ns → j < length ns → slice_index ns
 abbrev pub AreLeft : List Polygon → List Polygon → List ℕ → ℕ → Type 0
 AreLeft old now ns k = (j : ℕ) → k ≤ j → j < length ns → outline (outlines now) (slice_index ns j) ≡ outline (outlines old) (slice_index ns j)
 
-pub left_more : (old now : List Polygon) (ns : List ℕ) (k n : ℕ) (p : Polygon) → AreApart ns → k < length ns → n ≡ slice_index ns k → AreLeft old now ns k → AreLeft old (set now n p) ns (k + 1)
+pub left_more : (old now : List Polygon) (ns : List ℕ) (k n : ℕ) (p : Polygon) → AreApart ns
+    → k < length ns → n ≡ slice_index ns k → AreLeft old now ns k
+    → AreLeft old (set now n p) ns (k + 1)
 left_more old now ns k n p apart l is left j m under =
     outline_set_other now n (slice_index ns j) p (λ e. let q = apart j k under l (e ∙ is) in absurd (omega (arith, q, m)))
     ∙ left j (omega (arith, m)) under
 
-push_outlines : (ps : List Polygon) (p : Polygon) → outlines (ps ++ p ∷ []) ≡ outlines ps ++ shapes p.rings.items ∷ []
+push_outlines : (ps : List Polygon) (p : Polygon)
+    → outlines (ps ++ p ∷ []) ≡ outlines ps ++ shapes p.rings.items ∷ []
 push_outlines ps p = map-append (λ (q : Polygon). shapes q.rings.items) ps (p ∷ [])
 
-pub taken_more : (old now : List Polygon) (ns : List ℕ) (k n : ℕ) (d p : Polygon) (taken new : List Polygon) → k < length ns → n ≡ slice_index ns k → n < length now → AreLeft old now ns k
+pub taken_more : (old now : List Polygon) (ns : List ℕ) (k n : ℕ) (d p : Polygon) (taken new : List Polygon)
+    → k < length ns → n ≡ slice_index ns k → n < length now → AreLeft old now ns k
     → shapes p.rings.items ≡ shapes (get_or now n d).rings.items → new ≡ taken ++ p ∷ [] → AreTaken (outlines old) ns k (outlines taken) → AreTaken (outlines old) ns (k + 1) (outlines new)
 taken_more old now ns k n d p taken new l is there left same more a =
     let size = a.size in
@@ -47,7 +52,8 @@ taken_more old now ns k n d p taken new l is there left same more a =
       ];
     }
 
-pub chosen_of : (m : HalfEdges) (at : List Point) (count : ℕ) (old : List Polygon) (ns : List ℕ) (taken : List Polygon) → ArePolygons m at count (outlines old) → ((j : ℕ) → j < length ns → slice_index ns j < count)
+pub chosen_of : (m : HalfEdges) (at : List Point) (count : ℕ) (old : List Polygon) (ns : List ℕ) (taken : List Polygon)
+    → ArePolygons m at count (outlines old) → ((j : ℕ) → j < length ns → slice_index ns j < count)
     → AreTaken (outlines old) ns (length ns) (outlines taken) → AreChosen m at ns (outlines taken)
 chosen_of m at count old ns taken are known a = record {
   size = a.size;

@@ -11,10 +11,13 @@ use Rattle.polygons.specs.declared.areas.AreaPolygons.{AreaPolygons}
 use Rattle.polygons.specs.declared.areas.ObjectPolygon.{ObjectPolygon}
 use Rattle.polygons.specs.declared.kinds.Ring.{Ring}
 use Rattle.polygons.specs.Leading.{shapes}
-use Rattle.polygons.specs.Text.{area_text, corner_line, count_word, line, next_word, object_text, object_view, objects_of, objects_view, polygons_text, rest_text, ring_text, view, views}
+use Rattle.polygons.specs.Text.{area_text, corner_line, count_word, line, next_word, object_text}
+use Rattle.polygons.specs.Text.{object_view, objects_of, objects_view, polygons_text, rest_text}
+use Rattle.polygons.specs.Text.{ring_text, view, views}
 
 -- the texts of what a function makes of a list are those of its elements
-pub flat_mapped : {X Y : Type 0} (f : Y → List ℕ) (v : X → Y) (xs : List X) → flat_map f (map v xs) ≡ flat_map (λ x. f (v x)) xs
+pub flat_mapped : {X Y : Type 0} (f : Y → List ℕ) (v : X → Y) (xs : List X)
+    → flat_map f (map v xs) ≡ flat_map (λ x. f (v x)) xs
 flat_mapped f v [] = refl
 flat_mapped f v (x ∷ xs) = flat_map-cons f (v x) (map v xs) ∙ (ap (λ (s : List ℕ). f (v x) ++ s) (flat_mapped f v xs) ∙ sym (flat_map-cons (λ y. f (v y)) x xs))
 
@@ -22,17 +25,21 @@ flat_mapped f v (x ∷ xs) = flat_map-cons f (v x) (map v xs) ∙ (ap (λ (s : L
 line_one : (w rest : List ℕ) → line (w ∷ []) ++ rest ≡ w ++ (codes "\n" ++ rest)
 line_one w rest = append_assoc w (codes "\n") rest
 
-line_two : (v w rest : List ℕ) → line (v ∷ w ∷ []) ++ rest ≡ v ++ (next_word w ++ (codes "\n" ++ rest))
+line_two : (v w rest : List ℕ)
+    → line (v ∷ w ∷ []) ++ rest ≡ v ++ (next_word w ++ (codes "\n" ++ rest))
 line_two v w rest = append_assoc v (codes " " ++ line (w ∷ [])) rest ∙ ap (λ (s : List ℕ). v ++ (codes " " ++ s)) (line_one w rest)
 
-line_three : (u v w rest : List ℕ) → line (u ∷ v ∷ w ∷ []) ++ rest ≡ u ++ (next_word v ++ (next_word w ++ (codes "\n" ++ rest)))
+line_three : (u v w rest : List ℕ)
+    → line (u ∷ v ∷ w ∷ []) ++ rest ≡ u ++ (next_word v ++ (next_word w ++ (codes "\n" ++ rest)))
 line_three u v w rest = append_assoc u (codes " " ++ line (v ∷ w ∷ [])) rest ∙ ap (λ (s : List ℕ). u ++ (codes " " ++ s)) (line_two v w rest)
 
-line_four : (t u v w rest : List ℕ) → line (t ∷ u ∷ v ∷ w ∷ []) ++ rest ≡ t ++ (next_word u ++ (next_word v ++ (next_word w ++ (codes "\n" ++ rest))))
+line_four : (t u v w rest : List ℕ)
+    → line (t ∷ u ∷ v ∷ w ∷ []) ++ rest ≡ t ++ (next_word u ++ (next_word v ++ (next_word w ++ (codes "\n" ++ rest))))
 line_four t u v w rest = append_assoc t (codes " " ++ line (u ∷ v ∷ w ∷ [])) rest ∙ ap (λ (s : List ℕ). t ++ (codes " " ++ s)) (line_three u v w rest)
 
 -- three words, and a text behind them
-words_then : (a b c t : List ℕ) → (next_word a ++ (next_word b ++ next_word c)) ++ t ≡ next_word a ++ (next_word b ++ (next_word c ++ t))
+words_then : (a b c t : List ℕ)
+    → (next_word a ++ (next_word b ++ next_word c)) ++ t ≡ next_word a ++ (next_word b ++ (next_word c ++ t))
 words_then a b c t = append_assoc (next_word a) (next_word b ++ next_word c) t ∙ ap (λ (s : List ℕ). next_word a ++ s) (append_assoc (next_word b) (next_word c) t)
 
 -- ---- the parts
@@ -40,7 +47,8 @@ pub ring_words : (corners given : List Point) (n : ℕ) → n ≡ length corners
     → codes "RING" ++ (next_word (decimal n) ++ (codes "\n" ++ flat_map corner_line given)) ≡ ring_text corners
 ring_words corners given n e q = rw (e, q) (sym (line_two (codes "RING") (decimal (length corners)) (flat_map corner_line corners)))
 
-pub object_words : (o : ObjectPolygon) (l n : ℕ) (rings : List Ring) → l ≡ o.line → n ≡ length o.polygon.rings.items → rings ≡ o.polygon.rings.items
+pub object_words : (o : ObjectPolygon) (l n : ℕ) (rings : List Ring) → l ≡ o.line
+    → n ≡ length o.polygon.rings.items → rings ≡ o.polygon.rings.items
     → codes "POINT" ++ (next_word (decimal l) ++ (next_word (decimal n) ++ (codes "\n" ++ flat_map ring_text (shapes rings)))) ≡ object_text (object_view o)
 object_words o l n rings e q r =
     let rest = flat_map ring_text (shapes o.polygon.rings.items) in

@@ -1,5 +1,7 @@
 -- The first place of a key in a sorted column.
-use Rattle.std.proofs.Common.{◌≡◌, ◌<◌, ◌≤◌, ◌+◌, ◌⊎◌, inl, inr, ℕ, zero, suc, Bool, true, false, nat_eq, List, [], ◌∷◌, ◌++◌, length, get_or, map, Option, Some, None, refl, sym, ap, subst, ◌∙◌, arith}
+use Rattle.std.proofs.Common.{◌≡◌, ◌<◌, ◌≤◌, ◌+◌, ◌⊎◌, inl, inr, ℕ, zero, suc, Bool, true, false}
+use Rattle.std.proofs.Common.{nat_eq, List, [], ◌∷◌, ◌++◌, length, get_or, map, Option, Some, None}
+use Rattle.std.proofs.Common.{refl, sym, ap, subst, ◌∙◌, arith}
 use Rattle.std.specs.Cmp.{IsTotalOrder, IsStrictWeakOrder, then_total, on_total, nat_cmp_total}
 use Rattle.std.specs.Cmp.Lexicographic.{pointwise, slice_cmp}
 use Rattle.std.specs.List.{All, Contains, position_from}
@@ -13,10 +15,12 @@ use Rattle.std.proofs.Math.ListN.{get_or-eq_default}
 use Rattle.std.proofs.lemmas.Cmp.{nat_list_cmp_total, tied_itself}
 use Rattle.std.proofs.lemmas.List.{get_or-map}
 use Rattle.std.proofs.lemmas.List.Elements.{All-push, Contains-append_left, Contains-push}
-use Rattle.std.proofs.lemmas.List.Sorted.{sorted_far, ranks_by, All-permutation, Contains-permutation}
+use Rattle.std.proofs.lemmas.List.Sorted.{sorted_far, ranks_by, All-permutation}
+use Rattle.std.proofs.lemmas.List.Sorted.{Contains-permutation}
 use Rattle.std.proofs.lemmas.Map.Text.{is_eq-slice_cmp}
 use Rattle.std.proofs.lemmas.Slice.Eq.{bytes_eq-Decides}
-use Rattle.ports.specs.SortedKeys.{rank, is_key, bytes_of, key_at, key_cmp, key_of, ranked_cmp, is_before, is_below, IsListed}
+use Rattle.ports.specs.SortedKeys.{rank, is_key, bytes_of, key_at, key_cmp, key_of, ranked_cmp}
+use Rattle.ports.specs.SortedKeys.{is_before, is_below, IsListed}
 use Rattle.ports.specs.declared.sorted_keys.Ranked.{Ranked}
 
 -- ---- the keys as they stand in the column
@@ -39,7 +43,9 @@ none_some : {P : Type 0} (o : Option (List ℕ)) (k : List ℕ) → o ≡ None �
 none_some None k e f = cc
 none_some (Some a) k e f = cc
 
-pub listed_none : (keys : List (Option (List ℕ))) (skip n : ℕ) (ranked : List Ranked) → get_or keys n None ≡ None → IsListedTo keys skip n ranked → IsListedTo keys skip (n + 1) ranked
+pub listed_none : (keys : List (Option (List ℕ))) (skip n : ℕ) (ranked : List Ranked)
+    → get_or keys n None ≡ None → IsListedTo keys skip n ranked
+    → IsListedTo keys skip (n + 1) ranked
 listed_none keys skip n ranked e h = record {
   told = h.told;
   whole = λ place key l k. elim (next n place l) as (λ s. Contains ranked (record { rank = rank skip key; place = place })) [
@@ -66,12 +72,14 @@ listed_some keys skip n key ranked e h =
       ];
     }
 
-pub pushed : (keys : List (Option (List ℕ))) (skip n : ℕ) (key : List ℕ) (r : ℕ) (ranked new : List Ranked) → get_or keys n None ≡ Some key → r ≡ rank skip key
+pub pushed : (keys : List (Option (List ℕ))) (skip n : ℕ) (key : List ℕ) (r : ℕ) (ranked new : List Ranked)
+    → get_or keys n None ≡ Some key → r ≡ rank skip key
     → new ≡ ranked ++ record { rank = r; place = n } ∷ [] → IsListedTo keys skip n ranked → IsListedTo keys skip (n + 1) new
 pushed keys skip n key r ranked new e s p h =
     subst (λ (v : List Ranked). IsListedTo keys skip (n + 1) v) (ap (λ (q : ℕ). ranked ++ record { rank = q; place = n } ∷ []) (sym s) ∙ sym p) (listed_some keys skip n key ranked e h)
 
-pub listed_all : (keys : List (Option (List ℕ))) (skip n : ℕ) (ranked : List Ranked) → length keys ≤ n → IsListedTo keys skip n ranked → IsListed keys skip ranked
+pub listed_all : (keys : List (Option (List ℕ))) (skip n : ℕ) (ranked : List Ranked)
+    → length keys ≤ n → IsListedTo keys skip n ranked → IsListed keys skip ranked
 listed_all keys skip n ranked l h = record {
   told = h.told;
   whole = λ place key f. elim (cases_lt place n) as (λ s. Contains ranked (record { rank = rank skip key; place = place })) [
@@ -81,7 +89,8 @@ listed_all keys skip n ranked l h = record {
 }
 
 -- an element of the column
-pub key_there : {K : Type 0} (f : K → Option (List ℕ)) (xs : List K) (i : ℕ) (x : K) → i < length xs → x ≡ get_or xs i x → get_or (map f xs) i None ≡ f x
+pub key_there : {K : Type 0} (f : K → Option (List ℕ)) (xs : List K) (i : ℕ) (x : K) → i < length xs
+    → x ≡ get_or xs i x → get_or (map f xs) i None ≡ f x
 key_there f xs i x l at = get_or-map f xs i x None l ∙ ap f (sym at)
 
 -- ---- the order
@@ -103,7 +112,8 @@ ranked_cmp_total keys = then_total (on_total (key_of keys) key_cmp_total) (on_to
 pub is_before_ranks : (keys : List (Option (List ℕ))) → IsStrictWeakOrder (is_before keys)
 is_before_ranks keys = ranks_by (ranked_cmp_total keys) (λ (r : Ranked). r)
 
-pub IsListed-sorted : (keys : List (Option (List ℕ))) (skip : ℕ) (xs ys : List Ranked) → IsPermutation xs ys → IsListed keys skip xs → IsListed keys skip ys
+pub IsListed-sorted : (keys : List (Option (List ℕ))) (skip : ℕ) (xs ys : List Ranked)
+    → IsPermutation xs ys → IsListed keys skip xs → IsListed keys skip ys
 IsListed-sorted keys skip xs ys p h = record {
   told = All-permutation (IsTold keys skip) xs ys p h.told;
   whole = λ place key e. Contains-permutation xs ys (record { rank = rank skip key; place = place }) p (h.whole place key e);
@@ -118,16 +128,21 @@ not_both : {P : Type 0} (b : Bool) → b ≡ true → b ≡ false → P
 not_both true h k = cc
 not_both false h k = cc
 
-place_of_test : (p : Option (List ℕ) → Bool) (n i : ℕ) (xs : List (Option (List ℕ))) → i < length xs → p (get_or xs i None) ≡ true → ((k : ℕ) → k < i → p (get_or xs k None) ≡ false) → position_from p n xs ≡ Some (n + i)
+place_of_test : (p : Option (List ℕ) → Bool) (n i : ℕ) (xs : List (Option (List ℕ))) → i < length xs
+    → p (get_or xs i None) ≡ true → ((k : ℕ) → k < i → p (get_or xs k None) ≡ false)
+    → position_from p n xs ≡ Some (n + i)
 place_of_test p n i [] l t b = absurd (omega arith)
 place_of_test p n zero (x ∷ xs) l t b = rw t (ap (λ (m : ℕ). Some m) (omega arith))
 place_of_test p n (suc i) (x ∷ xs) l t b =
     rw (b 0 (omega arith)) (place_of_test p (n + 1) i xs (omega (arith, l)) t (λ k m. b (suc k) (omega (arith, m))) ∙ ap (λ (m : ℕ). Some m) (omega arith))
 
-place_at : (p : Option (List ℕ) → Bool) (i : ℕ) (xs : List (Option (List ℕ))) → i < length xs → p (get_or xs i None) ≡ true → ((k : ℕ) → k < i → p (get_or xs k None) ≡ false) → position_from p 0 xs ≡ Some i
+place_at : (p : Option (List ℕ) → Bool) (i : ℕ) (xs : List (Option (List ℕ))) → i < length xs
+    → p (get_or xs i None) ≡ true → ((k : ℕ) → k < i → p (get_or xs k None) ≡ false)
+    → position_from p 0 xs ≡ Some i
 place_at p i xs l t b = place_of_test p 0 i xs l t b ∙ ap (λ (m : ℕ). Some m) (omega arith)
 
-no_place_of_test : (p : Option (List ℕ) → Bool) (n : ℕ) (xs : List (Option (List ℕ))) → ((k : ℕ) → k < length xs → p (get_or xs k None) ≡ false) → position_from p n xs ≡ None
+no_place_of_test : (p : Option (List ℕ) → Bool) (n : ℕ) (xs : List (Option (List ℕ)))
+    → ((k : ℕ) → k < length xs → p (get_or xs k None) ≡ false) → position_from p n xs ≡ None
 no_place_of_test p n [] b = refl
 no_place_of_test p n (x ∷ xs) b = rw (b 0 (omega arith)) (no_place_of_test p (n + 1) xs (λ k m. b (suc k) (omega (arith, m))))
 
@@ -171,12 +186,14 @@ same_bytes a b h =
     let s : slice_cmp nat_cmp a.1 b.1 ≡ Equal = then_second (nat_cmp a.0 b.0) (slice_cmp nat_cmp a.1 b.1) h in
     (bytes_eq-Decides a.1 b.1).0 (sym (is_eq-slice_cmp a.1 b.1) ∙ ap is_eq s)
 
-one_default : (xs : List Ranked) (i : ℕ) (d e : Ranked) → i < length xs → get_or xs i d ≡ get_or xs i e
+one_default : (xs : List Ranked) (i : ℕ) (d e : Ranked) → i < length xs
+    → get_or xs i d ≡ get_or xs i e
 one_default [] i d e l = absurd (omega arith)
 one_default (x ∷ xs) zero d e l = refl
 one_default (x ∷ xs) (suc i) d e l = one_default xs i d e (omega (arith, l))
 
-there_is : (keys : List (Option (List ℕ))) (i : ℕ) (word : List ℕ) → get_or keys i None ≡ Some word → i < length keys
+there_is : (keys : List (Option (List ℕ))) (i : ℕ) (word : List ℕ) → get_or keys i None ≡ Some word
+    → i < length keys
 there_is keys i word e = elim (cases_lt i (length keys)) as (λ s. i < length keys) [
   | inl l ↦ l
   | inr g ↦ none_some (get_or keys i None) word (get_or-eq_default keys None g) e
@@ -187,7 +204,8 @@ nat_less m n l = rw (lt-ltb m n l) refl
 
 module _ (keys : List (Option (List ℕ))) (xs : List Ranked) (up : IsSortedBy (is_before keys) xs) where
   -- none is less than one before it
-  ascends : (i j : ℕ) (d : Ranked) → i ≤ j → j < length xs → is_before keys (get_or xs j d) (get_or xs i d) ≡ false
+  ascends : (i j : ℕ) (d : Ranked) → i ≤ j → j < length xs
+      → is_before keys (get_or xs j d) (get_or xs i d) ≡ false
   ascends i j d l m = sorted_far (is_before keys) (is_before_ranks keys) xs up i j d l m
 
   pub below_first : (r : ℕ) (word : List ℕ) → IsPartitionedBy (is_below keys r word) xs
@@ -202,7 +220,8 @@ module _ (keys : List (Option (List ℕ))) (xs : List Ranked) (up : IsSortedBy (
     here place = record { rank = rank skip word; place = place }
 
     -- where the word stands in the column, its place stands in the rest
-    stands : (place : ℕ) → is_key word (get_or keys place None) ≡ true → (k : ℕ) × (at ≤ k) × (k < length xs) × (get_or xs k (here place) ≡ here place)
+    stands : (place : ℕ) → is_key word (get_or keys place None) ≡ true
+        → (k : ℕ) × (at ≤ k) × (k < length xs) × (get_or xs k (here place) ≡ here place)
     stands place t =
         let e : get_or keys place None ≡ Some word = has_key word (get_or keys place None) t in
         let c = h.whole place word e in
@@ -215,7 +234,8 @@ module _ (keys : List (Option (List ℕ))) (xs : List Ranked) (up : IsSortedBy (
         ]
 
     -- the word stands at that place
-    pub found : (x : Ranked) → at < length xs → x ≡ get_or xs at x → key_at keys x.place ≡ word → position_from (is_key word) 0 keys ≡ Some x.place
+    pub found : (x : Ranked) → at < length xs → x ≡ get_or xs at x → key_at keys x.place ≡ word
+        → position_from (is_key word) 0 keys ≡ Some x.place
     found x l e k =
         let told = h.told at x l in
         let rank_is : x.rank ≡ rank skip word = ap (λ (r : Ranked). r.rank) e ∙ told.0 ∙ ap (λ (r : Ranked). rank skip (key_at keys r.place)) (sym e) ∙ ap (rank skip) k in
@@ -239,7 +259,8 @@ module _ (keys : List (Option (List ℕ))) (xs : List Ranked) (up : IsSortedBy (
         (λ n. n))
 
     -- it stands nowhere
-    pub nowhere : ((x : Ranked) → at < length xs → x ≡ get_or xs at x → key_at keys x.place ≡ word → ⊥) → position_from (is_key word) 0 keys ≡ None
+    pub nowhere : ((x : Ranked) → at < length xs → x ≡ get_or xs at x → key_at keys x.place ≡ word → ⊥)
+        → position_from (is_key word) 0 keys ≡ None
     nowhere none =
         no_place_of_test (is_key word) 0 keys
         (λ p m. by_test (is_key word (get_or keys p None))
@@ -257,7 +278,8 @@ module _ (keys : List (Option (List ℕ))) (xs : List Ranked) (up : IsSortedBy (
         (λ n. n))
 
 -- what the search answers, over the places as they were lent
-pub point : (keys : List (Option (List ℕ))) (xs lent : List Ranked) (skip r : ℕ) (word : List ℕ) (at : ℕ) → IsSortedBy (is_before keys) xs → lent ≡ xs → r ≡ rank skip word
+pub point : (keys : List (Option (List ℕ))) (xs lent : List Ranked) (skip r : ℕ) (word : List ℕ) (at : ℕ)
+    → IsSortedBy (is_before keys) xs → lent ≡ xs → r ≡ rank skip word
     → (IsPartitionedBy (is_below keys r word) lent → IsPartitionPoint (λ y. is_below keys r word y ≡ true) (λ y. is_below keys r word y ≡ false) lent at)
     → IsPartitionPoint (λ y. is_below keys (rank skip word) word y ≡ true) (λ y. is_below keys (rank skip word) word y ≡ false) xs at
 point keys xs lent skip r word at up e f h =
@@ -267,13 +289,15 @@ point keys xs lent skip r word at up e f h =
     subst (λ (q : ℕ). IsPartitionPoint (λ y. is_below keys q word y ≡ true) (λ y. is_below keys q word y ≡ false) xs at) f own
 
 -- the key at that place is the word, or is not
-pub found_there : (keys : List (Option (List ℕ))) (xs lent : List Ranked) (skip : ℕ) (word key : List ℕ) (at : ℕ) (x : Ranked) → IsSortedBy (is_before keys) xs → IsListed keys skip xs → lent ≡ xs
+pub found_there : (keys : List (Option (List ℕ))) (xs lent : List Ranked) (skip : ℕ) (word key : List ℕ) (at : ℕ) (x : Ranked)
+    → IsSortedBy (is_before keys) xs → IsListed keys skip xs → lent ≡ xs
     → IsPartitionPoint (λ y. is_below keys (rank skip word) word y ≡ true) (λ y. is_below keys (rank skip word) word y ≡ false) xs at
     → at < length lent → x ≡ get_or lent at x → key ≡ key_at keys x.place → pointwise nat_eq key word ≡ true → Some x.place ≡ position_from (is_key word) 0 keys
 found_there keys xs lent skip word key at x up h e part l is k t =
     sym (found keys xs up skip h word at part x (subst (λ (r : List Ranked). at < length r) e l) (is ∙ ap (λ (r : List Ranked). get_or r at x) e) (sym k ∙ (bytes_eq-Decides key word).0 t))
 
-pub other_there : (keys : List (Option (List ℕ))) (xs lent : List Ranked) (skip : ℕ) (word key : List ℕ) (at : ℕ) (x : Ranked) → IsSortedBy (is_before keys) xs → IsListed keys skip xs → lent ≡ xs
+pub other_there : (keys : List (Option (List ℕ))) (xs lent : List Ranked) (skip : ℕ) (word key : List ℕ) (at : ℕ) (x : Ranked)
+    → IsSortedBy (is_before keys) xs → IsListed keys skip xs → lent ≡ xs
     → IsPartitionPoint (λ y. is_below keys (rank skip word) word y ≡ true) (λ y. is_below keys (rank skip word) word y ≡ false) xs at
     → at < length lent → x ≡ get_or lent at x → key ≡ key_at keys x.place → pointwise nat_eq key word ≡ false → None ≡ position_from (is_key word) 0 keys
 other_there keys xs lent skip word key at x up h e part l is k t =
@@ -282,7 +306,8 @@ other_there keys xs lent skip word key at x up h e part l is k t =
     let y_is : y ≡ x = same ∙ one_default xs at y x m ∙ ap (λ (r : List Ranked). get_or r at x) (sym e) ∙ sym is in
     not_both (pointwise nat_eq key word) ((bytes_eq-Decides key word).1 (k ∙ ap (λ (r : Ranked). key_at keys r.place) (sym y_is) ∙ it)) t))
 
-pub none_there : (keys : List (Option (List ℕ))) (xs lent : List Ranked) (skip : ℕ) (word : List ℕ) (at : ℕ) → IsSortedBy (is_before keys) xs → IsListed keys skip xs → lent ≡ xs
+pub none_there : (keys : List (Option (List ℕ))) (xs lent : List Ranked) (skip : ℕ) (word : List ℕ) (at : ℕ)
+    → IsSortedBy (is_before keys) xs → IsListed keys skip xs → lent ≡ xs
     → IsPartitionPoint (λ y. is_below keys (rank skip word) word y ≡ true) (λ y. is_below keys (rank skip word) word y ≡ false) xs at
     → length lent ≤ at → None ≡ position_from (is_key word) 0 keys
 none_there keys xs lent skip word at up h e part l =

@@ -1,48 +1,80 @@
 -- Each rule that is broken is a fault of the list.
-use Rattle.std.proofs.Common.{◌≡◌, ℕ, ◌+◌, ◌⊎◌, inl, inr, Bool, true, false, cond, not, ◌&&◌, List, [], ◌++◌, map, Option, Some, refl, ap, sym, ◌∙◌, subst, arith}
+use Rattle.std.proofs.Common.{◌≡◌, ℕ, ◌+◌, ◌⊎◌, inl, inr, Bool, true, false, cond, not, ◌&&◌, List}
+use Rattle.std.proofs.Common.{[], ◌++◌, map, Option, Some, refl, ap, sym, ◌∙◌, subst, arith}
 use Rattle.std.specs.Prelude.{Contains}
 use Rattle.std.specs.List.{list_any, flat_map}
 use Rattle.std.specs.Option.{option_map_or}
-use Rattle.ili_grammar.specs.Syntax.{Ident, Decimal, Span, Element, an_element, Elements, no_elements, and_element, TypeSyntax, Named, Coord2, Coord3, Dim1, Dim2, Radians, Grads, Degrees, Range, Text, Date, HAlignment, VAlignment, Enumeration, Polyline, Surface, Area, LineHead, LineSyntax, a_line, Attributes, no_attributes, and_attribute, AttributeSyntax, an_attribute, Content, Value, Reference, TableSyntax, TopicSyntax, ModelSyntax}
+use Rattle.ili_grammar.specs.Syntax.{Ident, Decimal, Span, Element, an_element, Elements}
+use Rattle.ili_grammar.specs.Syntax.{no_elements, and_element, TypeSyntax, Named, Coord2, Coord3}
+use Rattle.ili_grammar.specs.Syntax.{Dim1, Dim2, Radians, Grads, Degrees, Range, Text, Date}
+use Rattle.ili_grammar.specs.Syntax.{HAlignment, VAlignment, Enumeration, Polyline, Surface, Area}
+use Rattle.ili_grammar.specs.Syntax.{LineHead, LineSyntax, a_line, Attributes, no_attributes}
+use Rattle.ili_grammar.specs.Syntax.{and_attribute, AttributeSyntax, an_attribute, Content, Value}
+use Rattle.ili_grammar.specs.Syntax.{Reference, TableSyntax, TopicSyntax, ModelSyntax}
 use Rattle.resolver.specs.declared.faults.ModelCode.{ModelCode}
 use Rattle.resolver.specs.declared.faults.ModelCode.TheVariants as code
 use Rattle.resolver.specs.declared.shape.Shape.{Shape}
 use Rattle.resolver.specs.declared.shape.Shape.TheVariants as shapes
 use Rattle.resolver.specs.Faults.{Fault, fault_if}
-use Rattle.resolver.specs.Numbers.{spans, scale_of, is_reversed, has_long_bound, is_wide, is_long, is_text_length}
+use Rattle.resolver.specs.Numbers.{spans, scale_of, is_reversed, has_long_bound, is_wide, is_long}
+use Rattle.resolver.specs.Numbers.{is_text_length}
 use Rattle.resolver.specs.Lines.{is_area, suits, is_coord, is_long_overlap, is_line, stands_for}
-use Rattle.resolver.specs.Rules.{Entry, entry, twice, twice_in, element_names, parts_faults, element_faults, spans_faults, numbers_faults, type_name_faults, reference_faults, kind_faults, meaning_faults, vertex_faults, attribute_names, list_faults, lists_faults, names_faults, line_attribute_fault, line_attribute_faults, type_faults, line_faults, attributes_faults, attribute_faults, content_faults, cycle_faults, domain_faults, domains_faults, table_entries, table_faults, tables_faults, topic_faults, faults}
+use Rattle.resolver.specs.Rules.{Entry, entry, twice, twice_in, element_names, parts_faults}
+use Rattle.resolver.specs.Rules.{element_faults, spans_faults, numbers_faults, type_name_faults}
+use Rattle.resolver.specs.Rules.{reference_faults, kind_faults, meaning_faults, vertex_faults}
+use Rattle.resolver.specs.Rules.{attribute_names, list_faults, lists_faults, names_faults}
+use Rattle.resolver.specs.Rules.{line_attribute_fault, line_attribute_faults, type_faults}
+use Rattle.resolver.specs.Rules.{line_faults, attributes_faults, attribute_faults, content_faults}
+use Rattle.resolver.specs.Rules.{cycle_faults, domain_faults, domains_faults, table_entries}
+use Rattle.resolver.specs.Rules.{table_faults, tables_faults, topic_faults, faults}
 use Rattle.resolver.specs.Rules as rules
-use Rattle.resolver.specs.Scopes.{Scope, Meaning, texts, is_among, is_visible, names_of, domain_names, leads, comes_to, longest, meaning, everywhere, outside, inside}
+use Rattle.resolver.specs.Scopes.{Scope, Meaning, texts, is_among, is_visible, names_of}
+use Rattle.resolver.specs.Scopes.{domain_names, leads, comes_to, longest, meaning, everywhere}
+use Rattle.resolver.specs.Scopes.{outside, inside}
 use Rattle.resolver.specs.Standing.{StandsFor}
-use Rattle.resolver.specs.Occurring.{IsScope, of_model, of_topic, HasType, of_domain, of_attribute, HasAttributes, of_table, of_line, HasAttribute, HasLine, HasReference, HasElement, HasElements, of_type, of_element, line_type}
-use Rattle.resolver.specs.Breaking.{Breaks, unknown_type, unknown_vertex, unknown_reference, not_table, domain_twice, topic_twice, table_twice, attribute_twice, element_twice, ident_twice, cycle, reversed, no_length, long_bound, long_overlap, unsuited, wide, line_attribute, no_attribute}
-use Rattle.resolver.proofs.Members.{In, in_contained, contains, in_before, in_after, in_each, in_any, not_among}
+use Rattle.resolver.specs.Occurring.{IsScope, of_model, of_topic, HasType, of_domain, of_attribute}
+use Rattle.resolver.specs.Occurring.{HasAttributes, of_table, of_line, HasAttribute, HasLine}
+use Rattle.resolver.specs.Occurring.{HasReference, HasElement, HasElements, of_type, of_element}
+use Rattle.resolver.specs.Occurring.{line_type}
+use Rattle.resolver.specs.Breaking.{Breaks, unknown_type, unknown_vertex, unknown_reference}
+use Rattle.resolver.specs.Breaking.{not_table, domain_twice, topic_twice, table_twice}
+use Rattle.resolver.specs.Breaking.{attribute_twice, element_twice, ident_twice, cycle, reversed}
+use Rattle.resolver.specs.Breaking.{no_length, long_bound, long_overlap, unsuited, wide}
+use Rattle.resolver.specs.Breaking.{line_attribute, no_attribute}
+use Rattle.resolver.proofs.Members.{In, in_contained, contains, in_before, in_after, in_each}
+use Rattle.resolver.proofs.Members.{in_any, not_among}
 use Rattle.resolver.proofs.Meant.{AreShort, stands_meant, means_test, back_comes, item_below}
-use Rattle.resolver.proofs.FaultParts.{at, in_if, not_is, is_seen, is_unseen, again_told, in_cycles, tables_one, is_long_number, are_long_bounds, are_reversed, is_no_length}
+use Rattle.resolver.proofs.FaultParts.{at, in_if, not_is, is_seen, is_unseen, again_told, in_cycles}
+use Rattle.resolver.proofs.FaultParts.{tables_one, is_long_number, are_long_bounds, are_reversed}
+use Rattle.resolver.proofs.FaultParts.{is_no_length}
 
 -- ---- the lists of parts are within the list of all
-topic_within : (m : ModelSyntax) (t : TopicSyntax) (f : Fault) → Contains m.topics t → In (topic_faults (everywhere m) t) f → In (faults m) f
+topic_within : (m : ModelSyntax) (t : TopicSyntax) (f : Fault) → Contains m.topics t
+    → In (topic_faults (everywhere m) t) f → In (faults m) f
 topic_within m t f c h =
     let names : List Fault = twice_in (map (λ t. t.name) m.topics) in
     let topics : List Fault = flat_map (topic_faults (everywhere m)) m.topics in
     in_after (domains_faults (outside (everywhere m))) (names ++ topics) f (in_after names topics f (in_each (topic_faults (everywhere m)) m.topics t f (in_contained m.topics t c) h))
 
-scope_within : (m : ModelSyntax) (s : Scope) (f : Fault) → IsScope m s → In (domains_faults s) f → In (faults m) f
+scope_within : (m : ModelSyntax) (s : Scope) (f : Fault) → IsScope m s → In (domains_faults s) f
+    → In (faults m) f
 scope_within m _ f (of_model s e) h =
     in_before (domains_faults (outside (everywhere m))) (twice_in (map (λ t. t.name) m.topics) ++ flat_map (topic_faults (everywhere m)) m.topics) f (subst (λ (x : Scope). In (domains_faults x) f) e h)
 scope_within m _ f (of_topic s t c e) h =
     topic_within m t f c (in_before (domains_faults (inside (everywhere m) t)) (tables_faults (inside (everywhere m) t) t.tables) f (subst (λ (x : Scope). In (domains_faults x) f) e h))
 
-tables_within : (m : ModelSyntax) (t : TopicSyntax) (f : Fault) → Contains m.topics t → In (tables_faults (inside (everywhere m) t) t.tables) f → In (faults m) f
+tables_within : (m : ModelSyntax) (t : TopicSyntax) (f : Fault) → Contains m.topics t
+    → In (tables_faults (inside (everywhere m) t) t.tables) f → In (faults m) f
 tables_within m t f c h = topic_within m t f c (in_after (domains_faults (inside (everywhere m) t)) (tables_faults (inside (everywhere m) t) t.tables) f h)
 
-attribute_within : (s : Scope) (as_ : Attributes) (a : AttributeSyntax) (f : Fault) → HasAttribute as_ a → In (attribute_faults s a) f → In (attributes_faults s as_) f
+attribute_within : (s : Scope) (as_ : Attributes) (a : AttributeSyntax) (f : Fault)
+    → HasAttribute as_ a → In (attribute_faults s a) f → In (attributes_faults s as_) f
 attribute_within s no_attributes a f k h = absurd k
 attribute_within s (and_attribute b as_) a f (inl e) h = in_before (attribute_faults s b) (attributes_faults s as_) f (subst (λ (x : AttributeSyntax). In (attribute_faults s x) f) (sym e) h)
 attribute_within s (and_attribute b as_) a f (inr k) h = in_after (attribute_faults s b) (attributes_faults s as_) f (attribute_within s as_ a f k h)
 
-line_in_type : (s : Scope) (owner : Ident) (shape : Shape) (l : LineSyntax) (f : Fault) → In (line_faults s owner shape l) f → In (type_faults s owner (line_type shape l)) f
+line_in_type : (s : Scope) (owner : Ident) (shape : Shape) (l : LineSyntax) (f : Fault)
+    → In (line_faults s owner shape l) f → In (type_faults s owner (line_type shape l)) f
 line_in_type s owner shapes.Polyline l f h = h
 line_in_type s owner shapes.Surface l f h = h
 line_in_type s owner shapes.Area l f h = h
@@ -54,16 +86,20 @@ in_line s owner shape head as_ lists f h =
     let lines : List Fault = line_attribute_faults s as_ in
     in_after (vertex_faults s owner shape head.vertex head.overlap) (names_faults as_ lists ++ (lines ++ attributes_faults s as_)) f (by_part h)
   where
-    by_part : In (names_faults as_ lists) f ⊎ In (attributes_faults s as_) f → In (names_faults as_ lists ++ (line_attribute_faults s as_ ++ attributes_faults s as_)) f
+    by_part : In (names_faults as_ lists) f ⊎ In (attributes_faults s as_) f
+        → In (names_faults as_ lists ++ (line_attribute_faults s as_ ++ attributes_faults s as_)) f
     by_part (inl a) = in_before (names_faults as_ lists) (line_attribute_faults s as_ ++ attributes_faults s as_) f a
     by_part (inr b) = in_after (names_faults as_ lists) (line_attribute_faults s as_ ++ attributes_faults s as_) f (in_after (line_attribute_faults s as_) (attributes_faults s as_) f b)
 
-in_table : (s : Scope) (x : TableSyntax) (f : Fault) → In (names_faults x.attributes x.idents) f ⊎ In (attributes_faults s x.attributes) f → In (table_faults s x) f
+in_table : (s : Scope) (x : TableSyntax) (f : Fault)
+    → In (names_faults x.attributes x.idents) f ⊎ In (attributes_faults s x.attributes) f
+    → In (table_faults s x) f
 in_table s x f (inl a) = in_before (names_faults x.attributes x.idents) (attributes_faults s x.attributes) f a
 in_table s x f (inr b) = in_after (names_faults x.attributes x.idents) (attributes_faults s x.attributes) f b
 
 mutual
-  type_within : (m : ModelSyntax) (s : Scope) (owner : Ident) (t : TypeSyntax) (f : Fault) → HasType m s owner t → In (type_faults s owner t) f → In (faults m) f
+  type_within : (m : ModelSyntax) (s : Scope) (owner : Ident) (t : TypeSyntax) (f : Fault)
+      → HasType m s owner t → In (type_faults s owner t) f → In (faults m) f
   type_within m _ _ _ f (of_domain s d is c) h =
       let types : List Fault = flat_map (domain_faults s) s.own in
       scope_within m s f is
@@ -71,7 +107,8 @@ mutual
       (in_after (cycle_faults (leads s) 0 s.own) types f (in_each (domain_faults s) s.own d f (in_contained s.own d c) h)))
   type_within m _ _ _ f (of_attribute s as_ lists n o t has k) h = attributes_within m s as_ lists f has (inr (attribute_within s as_ (an_attribute n o (Value t)) f k h))
 
-  attributes_within : (m : ModelSyntax) (s : Scope) (as_ : Attributes) (lists : List (List Ident)) (f : Fault) → HasAttributes m s as_ lists
+  attributes_within : (m : ModelSyntax) (s : Scope) (as_ : Attributes) (lists : List (List Ident)) (f : Fault)
+      → HasAttributes m s as_ lists
       → In (names_faults as_ lists) f ⊎ In (attributes_faults s as_) f → In (faults m) f
   attributes_within m _ _ _ f (of_table t x c k) h =
       let s : Scope = inside (everywhere m) t in
@@ -79,37 +116,45 @@ mutual
   attributes_within m _ _ _ f (of_line s owner shape head as_ lists has) h =
       type_within m s owner (line_type shape (a_line head as_ lists)) f has (line_in_type s owner shape (a_line head as_ lists) f (in_line s owner shape head as_ lists f h))
 
-line_within : (m : ModelSyntax) (s : Scope) (owner : Ident) (shape : Shape) (l : LineSyntax) (f : Fault) → HasType m s owner (line_type shape l) → In (line_faults s owner shape l) f → In (faults m) f
+line_within : (m : ModelSyntax) (s : Scope) (owner : Ident) (shape : Shape) (l : LineSyntax) (f : Fault)
+    → HasType m s owner (line_type shape l) → In (line_faults s owner shape l) f → In (faults m) f
 line_within m s owner shape l f has h = type_within m s owner (line_type shape l) f has (line_in_type s owner shape l f h)
 
-element_within : (es : Elements) (e : Element) (f : Fault) → HasElement es e → In (element_faults e) f → In (parts_faults es) f
+element_within : (es : Elements) (e : Element) (f : Fault) → HasElement es e
+    → In (element_faults e) f → In (parts_faults es) f
 element_within no_elements e f k h = absurd k
 element_within (and_element d es) e f (inl q) h = in_before (element_faults d) (parts_faults es) f (subst (λ (x : Element). In (element_faults x) f) (sym q) h)
 element_within (and_element d es) e f (inr k) h = in_after (element_faults d) (parts_faults es) f (element_within es e f k h)
 
-elements_within : (m : ModelSyntax) (es : Elements) (f : Fault) → HasElements m es → In (twice_in (element_names es) ++ parts_faults es) f → In (faults m) f
+elements_within : (m : ModelSyntax) (es : Elements) (f : Fault) → HasElements m es
+    → In (twice_in (element_names es) ++ parts_faults es) f → In (faults m) f
 elements_within m _ f (of_type s owner es has) h = type_within m s owner (Enumeration es) f has h
 elements_within m _ f (of_element n parts es has k) h =
     elements_within m es f has (in_after (twice_in (element_names es)) (parts_faults es) f (element_within es (an_element n parts) f k h))
 
 -- ---- the scope of what is written
 mutual
-  pub type_scope : (m : ModelSyntax) (s : Scope) (owner : Ident) (t : TypeSyntax) → HasType m s owner t → IsScope m s
+  pub type_scope : (m : ModelSyntax) (s : Scope) (owner : Ident) (t : TypeSyntax)
+      → HasType m s owner t → IsScope m s
   type_scope m _ _ _ (of_domain s d is c) = is
   type_scope m _ _ _ (of_attribute s as_ lists n o t has k) = attributes_scope m s as_ lists has
 
-  attributes_scope : (m : ModelSyntax) (s : Scope) (as_ : Attributes) (lists : List (List Ident)) → HasAttributes m s as_ lists → IsScope m s
+  attributes_scope : (m : ModelSyntax) (s : Scope) (as_ : Attributes) (lists : List (List Ident))
+      → HasAttributes m s as_ lists → IsScope m s
   attributes_scope m _ _ _ (of_table t x c k) = of_topic (inside (everywhere m) t) t c refl
   attributes_scope m _ _ _ (of_line s owner shape head as_ lists has) = type_scope m s owner (line_type shape (a_line head as_ lists)) has
 
 -- ---- vertices and attributes of lines
-vertex_within : (m : ModelSyntax) (s : Scope) (owner : Ident) (shape : Shape) (head : LineHead) (f : Fault) → HasLine m s owner shape head → In (vertex_faults s owner shape head.vertex head.overlap) f → In (faults m) f
+vertex_within : (m : ModelSyntax) (s : Scope) (owner : Ident) (shape : Shape) (head : LineHead) (f : Fault)
+    → HasLine m s owner shape head → In (vertex_faults s owner shape head.vertex head.overlap) f
+    → In (faults m) f
 vertex_within m s owner shape head f line h =
     let as_ : Attributes = line.attributes in
     line_within m s owner shape (a_line head as_ line.lists) f line.written
     (in_before (vertex_faults s owner shape head.vertex head.overlap) (names_faults as_ line.lists ++ (line_attribute_faults s as_ ++ attributes_faults s as_)) f h)
 
-line_scope : (m : ModelSyntax) (s : Scope) (owner : Ident) (shape : Shape) (head : LineHead) → HasLine m s owner shape head → IsScope m s
+line_scope : (m : ModelSyntax) (s : Scope) (owner : Ident) (shape : Shape) (head : LineHead)
+    → HasLine m s owner shape head → IsScope m s
 line_scope m s owner shape head line = type_scope m s owner (line_type shape (a_line head line.attributes line.lists)) line.written
 
 kind_within : (m : ModelSyntax) (s : Scope) (owner : Ident) (shape : Shape) (head : LineHead) (v : Meaning) (f : Fault)
@@ -129,17 +174,22 @@ in_kind owner shape vertex overlap kind f h =
     by_part (inl a) = in_before (fault_if (not (suits shape kind)) code.NotCoord vertex) (fault_if (is_area shape && is_wide kind) code.Wide vertex) f a
     by_part (inr b) = in_after (fault_if (not (suits shape kind)) code.NotCoord vertex) (fault_if (is_area shape && is_wide kind) code.Wide vertex) f b
 
-overlap_told : (overlap : Option Decimal) (kind : TypeSyntax) (d : Decimal) → overlap ≡ Some d → is_coord kind ≡ true → is_long (scale_of kind) d ≡ true → is_long_overlap overlap kind ≡ true
+overlap_told : (overlap : Option Decimal) (kind : TypeSyntax) (d : Decimal) → overlap ≡ Some d
+    → is_coord kind ≡ true → is_long (scale_of kind) d ≡ true → is_long_overlap overlap kind ≡ true
 overlap_told overlap kind d e c l = ap (λ (b : Bool). b && option_map_or (is_long (scale_of kind)) overlap false) c ∙ ap (λ (o : Option Decimal). option_map_or (is_long (scale_of kind)) o false) e ∙ l
 
-line_attribute_within : (s : Scope) (as_ : Attributes) (n : Ident) (o : Bool) (c : Content) → HasAttribute as_ (an_attribute n o c) → stands_for is_line s c ≡ true → In (line_attribute_faults s as_) (at code.LineAttr n)
+line_attribute_within : (s : Scope) (as_ : Attributes) (n : Ident) (o : Bool) (c : Content)
+    → HasAttribute as_ (an_attribute n o c) → stands_for is_line s c ≡ true
+    → In (line_attribute_faults s as_) (at code.LineAttr n)
 line_attribute_within s no_attributes n o c k e = absurd k
 line_attribute_within s (and_attribute b as_) n o c (inl q) e =
     in_before (line_attribute_fault s b) (line_attribute_faults s as_) (at code.LineAttr n) (subst (λ (x : AttributeSyntax). In (line_attribute_fault s x) (at code.LineAttr n)) (sym q) (in_if (stands_for is_line s c) code.LineAttr n e))
 line_attribute_within s (and_attribute b as_) n o c (inr k) e = in_after (line_attribute_fault s b) (line_attribute_faults s as_) (at code.LineAttr n) (line_attribute_within s as_ n o c k e)
 
 -- ---- references
-reference_within : (m : ModelSyntax) (s : Scope) (n : Ident) (v : Bool) → HasReference m s n → (Contains s.tables n.text → ⊥) → is_visible s n.text ≡ v → In (faults m) (at (cond v code.NotTable code.Unknown) n)
+reference_within : (m : ModelSyntax) (s : Scope) (n : Ident) (v : Bool) → HasReference m s n
+    → (Contains s.tables n.text → ⊥) → is_visible s n.text ≡ v
+    → In (faults m) (at (cond v code.NotTable code.Unknown) n)
 reference_within m s n v r out q =
     let f : Fault = at (cond v code.NotTable code.Unknown) n in
     let free : is_among n.text s.tables ≡ false = not_among n.text s.tables (λ h. out (contains s.tables n.text h)) in
@@ -147,13 +197,16 @@ reference_within m s n v r out q =
     attributes_within m s r.attributes r.lists f r.within (inr (attribute_within s r.attributes (an_attribute r.owner r.optional (Reference n)) f r.written told))
 
 -- ---- IDENT lists
-list_within : (m : ModelSyntax) (s : Scope) (as_ : Attributes) (lists : List (List Ident)) (l : List Ident) (f : Fault) → HasAttributes m s as_ lists → Contains lists l → In (list_faults (texts (attribute_names as_)) l) f → In (faults m) f
+list_within : (m : ModelSyntax) (s : Scope) (as_ : Attributes) (lists : List (List Ident)) (l : List Ident) (f : Fault)
+    → HasAttributes m s as_ lists → Contains lists l
+    → In (list_faults (texts (attribute_names as_)) l) f → In (faults m) f
 list_within m s as_ lists l f has c h =
     let names : List (List ℕ) = texts (attribute_names as_) in
     attributes_within m s as_ lists f has (inl (in_after (twice_in (attribute_names as_)) (lists_faults names lists) f (in_each (list_faults names) lists l f (in_contained lists l c) h)))
 
 -- ---- numbers
-numbers_in_type : (s : Scope) (owner : Ident) (t : TypeSyntax) (b : Span) (f : Fault) → In (spans t) b → In (numbers_faults owner t) f → In (type_faults s owner t) f
+numbers_in_type : (s : Scope) (owner : Ident) (t : TypeSyntax) (b : Span) (f : Fault)
+    → In (spans t) b → In (numbers_faults owner t) f → In (type_faults s owner t) f
 numbers_in_type s owner (Coord2 p) b f i h = h
 numbers_in_type s owner (Coord3 p) b f i h = h
 numbers_in_type s owner (Dim1 p) b f i h = h
@@ -172,16 +225,19 @@ numbers_in_type s owner (Polyline l) b f i h = absurd i
 numbers_in_type s owner (Surface l) b f i h = absurd i
 numbers_in_type s owner (Area l) b f i h = absurd i
 
-numbers_within : (m : ModelSyntax) (s : Scope) (owner : Ident) (t : TypeSyntax) (b : Span) (f : Fault) → HasType m s owner t → In (spans t) b
+numbers_within : (m : ModelSyntax) (s : Scope) (owner : Ident) (t : TypeSyntax) (b : Span) (f : Fault)
+    → HasType m s owner t → In (spans t) b
     → In (fault_if (list_any (is_reversed (scale_of t)) (spans t)) code.Bounds owner) f ⊎ In (fault_if (list_any (has_long_bound (scale_of t)) (spans t)) code.Decimals owner) f → In (faults m) f
 numbers_within m s owner t b f has i h = type_within m s owner t f has (numbers_in_type s owner t b f i (by_part h))
   where
-    by_part : In (fault_if (list_any (is_reversed (scale_of t)) (spans t)) code.Bounds owner) f ⊎ In (fault_if (list_any (has_long_bound (scale_of t)) (spans t)) code.Decimals owner) f → In (numbers_faults owner t) f
+    by_part : In (fault_if (list_any (is_reversed (scale_of t)) (spans t)) code.Bounds owner) f ⊎ In (fault_if (list_any (has_long_bound (scale_of t)) (spans t)) code.Decimals owner) f
+        → In (numbers_faults owner t) f
     by_part (inl x) = in_before (fault_if (list_any (is_reversed (scale_of t)) (spans t)) code.Bounds owner) (fault_if (list_any (has_long_bound (scale_of t)) (spans t)) code.Decimals owner) f x
     by_part (inr y) = in_after (fault_if (list_any (is_reversed (scale_of t)) (spans t)) code.Bounds owner) (fault_if (list_any (has_long_bound (scale_of t)) (spans t)) code.Decimals owner) f y
 
 -- ---- all rules
-pub broken_listed : (m : ModelSyntax) (c : ModelCode) (n : Ident) → ((s : Scope) → IsScope m s → AreShort s) → Breaks m c n → In (faults m) (at c n)
+pub broken_listed : (m : ModelSyntax) (c : ModelCode) (n : Ident)
+    → ((s : Scope) → IsScope m s → AreShort s) → Breaks m c n → In (faults m) (at c n)
 broken_listed m _ _ short (unknown_type s owner n has out) = type_within m s owner (Named n) (at code.Unknown n) has (in_if (not (is_visible s n.text)) code.Unknown n (not_is (is_visible s n.text) (is_unseen s n.text out)))
 broken_listed m _ _ short (unknown_vertex s owner shape head line out) =
     let f : Fault = at code.Unknown head.vertex in

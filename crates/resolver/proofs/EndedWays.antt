@@ -1,21 +1,25 @@
 -- Ways that end, and domains that lead back to themselves.
-use Rattle.std.proofs.Common.{◌≡◌, ℕ, zero, suc, ◌+◌, ◌-◌, ◌*◌, ◌<◌, ◌≤◌, true, Option, None, ap, sym, ◌∙◌, arith}
+use Rattle.std.proofs.Common.{◌≡◌, ℕ, zero, suc, ◌+◌, ◌-◌, ◌*◌, ◌<◌, ◌≤◌, true, Option, None, ap}
+use Rattle.std.proofs.Common.{sym, ◌∙◌, arith}
 use Rattle.std.specs.Option.{unwrap_or, IfSome}
 use Rattle.resolver.specs.Scopes.{reached, comes_to}
 use Rattle.resolver.proofs.Reaching.{reached_add, step_within}
-use Rattle.resolver.proofs.Circles.{two_equal, stays, back_is_found, found_is_back, found_goes_on, rounds_back, more_steps}
+use Rattle.resolver.proofs.Circles.{two_equal, stays, back_is_found, found_is_back, found_goes_on}
+use Rattle.resolver.proofs.Circles.{rounds_back, more_steps}
 
 -- each step leads to a number below n
 abbrev pub AreWithin : (ℕ → Option ℕ) → ℕ → Type 0
 AreWithin step n = (i : ℕ) → IfSome (step i) (λ k. k < n)
 
-reached_below : (step : ℕ → Option ℕ) (n k from : ℕ) → AreWithin step n → from < n → reached step k from < n
+reached_below : (step : ℕ → Option ℕ) (n k from : ℕ) → AreWithin step n → from < n
+    → reached step k from < n
 unfolding reached
 reached_below step n zero from w lt = lt
 reached_below step n (suc k) from w lt = reached_below step n k (unwrap_or (step from) from) w (step_within (step from) from n lt (w from))
 
 -- far out a way has come back to where it was
-round : (step : ℕ → Option ℕ) (n far from : ℕ) → AreWithin step n → n ≤ far → from < n → (m : ℕ) × (suc m ≤ far) × (reached step (suc m) (reached step far from) ≡ reached step far from)
+round : (step : ℕ → Option ℕ) (n far from : ℕ) → AreWithin step n → n ≤ far → from < n
+    → (m : ℕ) × (suc m ≤ far) × (reached step (suc m) (reached step far from) ≡ reached step far from)
 round step n far from w le lt =
     let same = two_equal n (λ k. reached step k from) (λ k _. reached_below step n k from w lt) in
     let p : ℕ = same.0 in
@@ -30,7 +34,8 @@ round step n far from w le lt =
     )
 
 -- a way that ends somewhere has ended far out
-pub ended : (step : ℕ → Option ℕ) (n far k from end : ℕ) → AreWithin step n → n ≤ far → from < n → reached step k from ≡ end → step end ≡ None → reached step far from ≡ end
+pub ended : (step : ℕ → Option ℕ) (n far k from end : ℕ) → AreWithin step n → n ≤ far → from < n
+    → reached step k from ≡ end → step end ≡ None → reached step far from ≡ end
 ended step n far k from end w le lt at e =
     let r = round step n far from w le lt in
     let x : ℕ = reached step far from in
@@ -40,7 +45,8 @@ ended step n far k from end w le lt at e =
     ∙ ap (reached step (far + k * r.0)) at ∙ stays step (far + k * r.0) end e
 
 -- one that leads back to itself in some steps does in few
-pub back_in_few : (step : ℕ → Option ℕ) (n far k i : ℕ) → AreWithin step n → n ≤ far → i < n → comes_to step i k i ≡ true → comes_to step i far i ≡ true
+pub back_in_few : (step : ℕ → Option ℕ) (n far k i : ℕ) → AreWithin step n → n ≤ far → i < n
+    → comes_to step i k i ≡ true → comes_to step i far i ≡ true
 back_in_few step n far k i w le lt e =
     let back = found_is_back step i k i e in
     let from : ℕ = reached step (far * back.0) i in

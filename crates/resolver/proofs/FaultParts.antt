@@ -1,23 +1,30 @@
 -- The parts of the list of faults, each with the rule that it stands for, in both directions.
-use Rattle.std.proofs.Common.{◌≡◌, ℕ, zero, suc, ◌+◌, ◌≤◌, ◌⊎◌, inl, inr, Bool, true, false, cond, not, ◌&&◌, ◌==◌, List, [], ◌∷◌, ◌++◌, slice_get, Option, Some, refl, ap, sym, ◌∙◌, subst, arith, true≢false, append_assoc, append-nil, ℤ, pos, ◌<ℤ◌, int_lt, int_le}
+use Rattle.std.proofs.Common.{◌≡◌, ℕ, zero, suc, ◌+◌, ◌≤◌, ◌⊎◌, inl, inr, Bool, true, false, cond}
+use Rattle.std.proofs.Common.{not, ◌&&◌, ◌==◌, List, [], ◌∷◌, ◌++◌, slice_get, Option, Some, refl}
+use Rattle.std.proofs.Common.{ap, sym, ◌∙◌, subst, arith, true≢false, append_assoc, append-nil, ℤ}
+use Rattle.std.proofs.Common.{pos, ◌<ℤ◌, int_lt, int_le}
 use Rattle.std.proofs.lemmas.Int.{ints}
 use Rattle.std.proofs.lemmas.Bool.Decides.{nat_tests}
 use Rattle.std.specs.Prelude.{Contains}
 use Rattle.std.specs.List.{flat_map}
 use Rattle.std.specs.Option.{unwrap_or, is_some}
-use Rattle.ili_grammar.specs.Syntax.{Ident, Decimal, Span, DomainSyntax, Attributes, no_attributes, and_attribute, an_attribute, TableSyntax}
+use Rattle.ili_grammar.specs.Syntax.{Ident, Decimal, Span, DomainSyntax, Attributes, no_attributes}
+use Rattle.ili_grammar.specs.Syntax.{and_attribute, an_attribute, TableSyntax}
 use Rattle.resolver.specs.declared.faults.ModelCode.{ModelCode}
 use Rattle.resolver.specs.declared.faults.ModelCode.TheVariants as code
 use Rattle.resolver.specs.Faults.{Fault, fault_if}
 use Rattle.resolver.specs.Numbers.{in_units, is_long, is_reversed, has_long_bound, is_text_length}
 use Rattle.resolver.specs.Models.{text_length}
 use Rattle.resolver.specs.Lines.{is_boundary, stands_for}
-use Rattle.resolver.specs.Rules.{Entry, entry, twice, cycle_faults, helpers, helper_name, table_entries}
+use Rattle.resolver.specs.Rules.{Entry, entry, twice, cycle_faults, helpers, helper_name}
+use Rattle.resolver.specs.Rules.{table_entries}
 use Rattle.resolver.specs.Scopes.{Scope, is_among, is_visible, names_of, comes_to, longest}
 use Rattle.resolver.specs.Standing.{IsLength}
-use Rattle.resolver.specs.Breaking.{IsVisible, StandsAgain, names_in, IsLong, IsReversed, AreHelpers, AreTableNames}
+use Rattle.resolver.specs.Breaking.{IsVisible, StandsAgain, names_in, IsLong, IsReversed}
+use Rattle.resolver.specs.Breaking.{AreHelpers, AreTableNames}
 use Rattle.resolver.proofs.ExactNumbers.{length_kept}
-use Rattle.resolver.proofs.Members.{In, in_contained, contains, in_before, in_after, in_either, among_in, in_among, or-cases, or-left, or-right}
+use Rattle.resolver.proofs.Members.{In, in_contained, contains, in_before, in_after, in_either}
+use Rattle.resolver.proofs.Members.{among_in, in_among, or-cases, or-left, or-right}
 use Rattle.resolver.proofs.Meant.{AreShort, test_means, means_test}
 
 abbrev pub at : ModelCode → Ident → Fault
@@ -28,7 +35,8 @@ pub in_if : (b : Bool) (c : ModelCode) (n : Ident) → b ≡ true → In (fault_
 in_if true c n e = inl refl
 in_if false c n e = absurd (true≢false (sym e))
 
-pub is_if : (b : Bool) (c : ModelCode) (n : Ident) (f : Fault) → In (fault_if b c n) f → (b ≡ true) × (at c n ≡ f)
+pub is_if : (b : Bool) (c : ModelCode) (n : Ident) (f : Fault) → In (fault_if b c n) f
+    → (b ≡ true) × (at c n ≡ f)
 is_if true c n f (inl e) = (refl, e)
 is_if true c n f (inr h) = absurd h
 is_if false c n f h = absurd h
@@ -58,7 +66,8 @@ pub is_unseen : (s : Scope) (name : List ℕ) → (IsVisible s name → ⊥) →
 is_unseen s name h = elim (is_visible s name) as (λ b. is_visible s name ≡ b → is_visible s name ≡ false) [ true ↦ λ e. absurd (h (seen s name e)) | false ↦ λ e. e ] refl
 
 -- a name that stands again
-pub in_twice : (earlier : List (List ℕ)) (before : List Entry) (again : Entry) (after : List Entry) → In (earlier ++ names_in before) again.key
+pub in_twice : (earlier : List (List ℕ)) (before : List Entry) (again : Entry) (after : List Entry)
+    → In (earlier ++ names_in before) again.key
     → In (twice earlier (before ++ (again ∷ after))) (at code.Twice again.name)
 in_twice earlier [] again after h =
     in_before (fault_if (is_among again.key earlier) code.Twice again.name) (twice (earlier ++ (again.key ∷ [])) after) (at code.Twice again.name)
@@ -67,13 +76,15 @@ in_twice earlier (e ∷ es) again after h =
     in_after (fault_if (is_among e.key earlier) code.Twice e.name) (twice (earlier ++ (e.key ∷ [])) (es ++ (again ∷ after))) (at code.Twice again.name)
     (in_twice (earlier ++ (e.key ∷ [])) es again after (subst (λ (l : List (List ℕ)). In l again.key) (sym (append_assoc earlier (e.key ∷ []) (names_in es))) h))
 
-pub again_told : (earlier : List (List ℕ)) (names : List Entry) (n : Ident) → StandsAgain earlier names n → In (twice earlier names) (at code.Twice n)
+pub again_told : (earlier : List (List ℕ)) (names : List Entry) (n : Ident)
+    → StandsAgain earlier names n → In (twice earlier names) (at code.Twice n)
 again_told earlier names n w =
     subst (λ (l : List Entry). In (twice earlier l) (at code.Twice n)) (sym w.order)
     (subst (λ (x : Ident). In (twice earlier (w.before ++ (w.again ∷ w.after))) (at code.Twice x)) w.place
     (in_twice earlier w.before w.again w.after (in_contained (earlier ++ names_in w.before) w.again.key w.known)))
 
-pub told_again : (earlier : List (List ℕ)) (names : List Entry) (f : Fault) → In (twice earlier names) f → (f.code ≡ code.Twice) × StandsAgain earlier names f.name
+pub told_again : (earlier : List (List ℕ)) (names : List Entry) (f : Fault)
+    → In (twice earlier names) f → (f.code ≡ code.Twice) × StandsAgain earlier names f.name
 told_again earlier [] f h = absurd h
 told_again earlier (e ∷ es) f h = elim (in_either (fault_if (is_among e.key earlier) code.Twice e.name) (twice (earlier ++ (e.key ∷ [])) es) f h) as (λ _. (f.code ≡ code.Twice) × StandsAgain earlier (e ∷ es) f.name) [
   | inl a ↦
@@ -97,7 +108,9 @@ told_again earlier (e ∷ es) f h = elim (in_either (fault_if (is_among e.key ea
 ]
 
 -- ---- domains on a cycle
-pub in_cycles : (step : ℕ → Option ℕ) (from k : ℕ) (ds : List DomainSyntax) (d : DomainSyntax) → slice_get ds k ≡ Some d → comes_to step (from + k) longest (from + k) ≡ true → In (cycle_faults step from ds) (at code.Cycle d.name)
+pub in_cycles : (step : ℕ → Option ℕ) (from k : ℕ) (ds : List DomainSyntax) (d : DomainSyntax)
+    → slice_get ds k ≡ Some d → comes_to step (from + k) longest (from + k) ≡ true
+    → In (cycle_faults step from ds) (at code.Cycle d.name)
 in_cycles step from k [] d at_ e = absurd (true≢false (sym (ap (λ (o : Option DomainSyntax). is_some o) at_)))
 in_cycles step from zero (x ∷ xs) d at_ e =
     let same : from + 0 ≡ from = omega arith in
@@ -110,7 +123,8 @@ in_cycles step from (suc k) (x ∷ xs) d at_ e =
     in_after (fault_if (comes_to step from longest from) code.Cycle x.name) (cycle_faults step (from + 1) xs) (at code.Cycle d.name)
     (in_cycles step (from + 1) k xs d at_ (ap (λ (i : ℕ). comes_to step i longest i) (sym same) ∙ e))
 
-pub is_cycle : (step : ℕ → Option ℕ) (from : ℕ) (ds : List DomainSyntax) (f : Fault) → In (cycle_faults step from ds) f
+pub is_cycle : (step : ℕ → Option ℕ) (from : ℕ) (ds : List DomainSyntax) (f : Fault)
+    → In (cycle_faults step from ds) f
     → (k : ℕ) × (d : DomainSyntax) × (slice_get ds k ≡ Some d) × (comes_to step (from + k) longest (from + k) ≡ true) × (at code.Cycle d.name ≡ f)
 is_cycle step from [] f h = absurd h
 is_cycle step from (x ∷ xs) f h =
@@ -127,16 +141,19 @@ is_cycle step from (x ∷ xs) f h =
     ]
 
 -- ---- the names of tables and of their helper tables
-helpers_are : (s : Scope) (table : List ℕ) (as_ : Attributes) → AreShort s → AreHelpers s table as_ (helpers s table as_)
+helpers_are : (s : Scope) (table : List ℕ) (as_ : Attributes) → AreShort s
+    → AreHelpers s table as_ (helpers s table as_)
 helpers_are s table no_attributes f = refl
 helpers_are s table (and_attribute (an_attribute n o c) as_) f = by_test (stands_for is_boundary s c) refl (helpers_are s table as_ f)
   where
-    by_test : (b : Bool) → stands_for is_boundary s c ≡ b → AreHelpers s table as_ (helpers s table as_)
+    by_test : (b : Bool) → stands_for is_boundary s c ≡ b
+        → AreHelpers s table as_ (helpers s table as_)
         → AreHelpers s table (and_attribute (an_attribute n o c) as_) (cond b (record { key = helper_name table n.text; name = n } ∷ []) [] ++ helpers s table as_)
     by_test true e h = inl (helpers s table as_, test_means is_boundary s c e, refl, h)
     by_test false e h = inr (λ w. true≢false (sym (means_test is_boundary s c f w) ∙ e), h)
 
-helpers_one : (s : Scope) (table : List ℕ) (as_ : Attributes) (names : List Entry) → AreShort s → AreHelpers s table as_ names → names ≡ helpers s table as_
+helpers_one : (s : Scope) (table : List ℕ) (as_ : Attributes) (names : List Entry) → AreShort s
+    → AreHelpers s table as_ names → names ≡ helpers s table as_
 helpers_one s table no_attributes names f h = h
 helpers_one s table (and_attribute (an_attribute n o c) as_) names f (inl (rest, w, e, h)) =
     e ∙ ap (λ (l : List Entry). record { key = helper_name table n.text; name = n } ∷ l) (helpers_one s table as_ rest f h)
@@ -149,11 +166,13 @@ helpers_one s table (and_attribute (an_attribute n o c) as_) names f (inr (w, h)
     none true e = absurd (w (test_means is_boundary s c e))
     none false e = e
 
-pub tables_are : (s : Scope) (ts : List TableSyntax) → AreShort s → AreTableNames s ts (flat_map (table_entries s) ts)
+pub tables_are : (s : Scope) (ts : List TableSyntax) → AreShort s
+    → AreTableNames s ts (flat_map (table_entries s) ts)
 tables_are s [] f = refl
 tables_are s (t ∷ ts) f = (helpers s t.name.text t.attributes, flat_map (table_entries s) ts, refl, helpers_are s t.name.text t.attributes f, tables_are s ts f)
 
-pub tables_one : (s : Scope) (ts : List TableSyntax) (names : List Entry) → AreShort s → AreTableNames s ts names → names ≡ flat_map (table_entries s) ts
+pub tables_one : (s : Scope) (ts : List TableSyntax) (names : List Entry) → AreShort s
+    → AreTableNames s ts names → names ≡ flat_map (table_entries s) ts
 tables_one s [] names f h = h
 tables_one s (t ∷ ts) names f (own, rest, e, h, k) =
     e ∙ ap (λ (l : List Entry). entry t.name ∷ (l ++ rest)) (helpers_one s t.name.text t.attributes own f h)
@@ -166,10 +185,12 @@ long_number scale d e = grind (arith, nat_tests, e)
 pub is_long_number : (scale : ℕ) (d : Decimal) → IsLong scale d → is_long scale d ≡ true
 is_long_number scale d h = grind (arith, nat_tests, h)
 
-pub long_bounds : (scale : ℕ) (b : Span) → has_long_bound scale b ≡ true → IsLong scale b.low ⊎ IsLong scale b.high
+pub long_bounds : (scale : ℕ) (b : Span) → has_long_bound scale b ≡ true
+    → IsLong scale b.low ⊎ IsLong scale b.high
 long_bounds scale b e = elim (or-cases (is_long scale b.low) (is_long scale b.high) e) as (λ _. IsLong scale b.low ⊎ IsLong scale b.high) [ inl l ↦ inl (long_number scale b.low l) | inr h ↦ inr (long_number scale b.high h) ]
 
-pub are_long_bounds : (scale : ℕ) (b : Span) → IsLong scale b.low ⊎ IsLong scale b.high → has_long_bound scale b ≡ true
+pub are_long_bounds : (scale : ℕ) (b : Span) → IsLong scale b.low ⊎ IsLong scale b.high
+    → has_long_bound scale b ≡ true
 are_long_bounds scale b (inl l) = or-left (is_long scale b.low) (is_long scale b.high) (is_long_number scale b.low l)
 are_long_bounds scale b (inr h) = or-right (is_long scale b.low) (is_long scale b.high) (is_long_number scale b.high h)
 
@@ -186,7 +207,8 @@ pub are_reversed : (scale : ℕ) (b : Span) → IsReversed scale b → is_revers
 are_reversed scale b h = is_less_ (in_units scale b.high) (in_units scale b.low) h
 
 -- a length is a whole number from 1 to 65,535
-within_length : (z : ℤ) (n : ℕ) → z ≡ pos n → 1 ≤ n → n ≤ 65535 → (int_le (pos 1) z && int_le z (pos 65535)) ≡ true
+within_length : (z : ℤ) (n : ℕ) → z ≡ pos n → 1 ≤ n → n ≤ 65535
+    → (int_le (pos 1) z && int_le z (pos 65535)) ≡ true
 within_length z n e low high = grind (arith, ints, nat_tests, e, low, high)
 
 length_test : (d : Decimal) (n : ℕ) → IsLength d n → is_text_length d ≡ true

@@ -1,5 +1,7 @@
 -- Places of names in a list.
-use Rattle.std.proofs.Common.{◌≡◌, ℕ, suc, zero, ◌+◌, ◌<◌, ◌≤◌, Bool, true, false, cond, nat_eq, nat_lt, ◌||◌, List, [], ◌∷◌, ◌++◌, length, take, drop, get_or, Option, Some, refl, sym, ap, ◌∙◌, arith, add-one, zero-add, drop-cons}
+use Rattle.std.proofs.Common.{◌≡◌, ℕ, suc, zero, ◌+◌, ◌<◌, ◌≤◌, Bool, true, false, cond, nat_eq}
+use Rattle.std.proofs.Common.{nat_lt, ◌||◌, List, [], ◌∷◌, ◌++◌, length, take, drop, get_or, Option}
+use Rattle.std.proofs.Common.{Some, refl, sym, ap, ◌∙◌, arith, add-one, zero-add, drop-cons}
 use Rattle.std.specs.Borrow.{Bor}
 use Rattle.std.specs.List.{list_any, position_from}
 use Rattle.std.specs.Option.{option_map_or, is_some}
@@ -21,18 +23,21 @@ place_down name key i p ns n got new e lt at k g u =
     ∙ ap (λ (l : List (Bor ident.Ident)). position_from (same name) i (texts (idents l))) (sym d)
 
 -- a name is among some where it has a place
-pub among_place : (test : List ℕ → Bool) (j : ℕ) (ns : List (List ℕ)) → list_any test ns ≡ is_some (position_from test j ns)
+pub among_place : (test : List ℕ → Bool) (j : ℕ) (ns : List (List ℕ))
+    → list_any test ns ≡ is_some (position_from test j ns)
 among_place test j [] = refl
 among_place test j (n ∷ ns) = elim (test n) as (λ b. (b || list_any test ns) ≡ is_some (cond b (Some j) (position_from test (j + 1) ns))) [ true ↦ refl | false ↦ among_place test (j + 1) ns ]
 
 -- a place is not before the first that is counted
-pub place_from : (test : List ℕ → Bool) (j k : ℕ) (ns : List (List ℕ)) → k ≤ j → option_map_or (λ p. nat_lt p k) (position_from test j ns) false ≡ false
+pub place_from : (test : List ℕ → Bool) (j k : ℕ) (ns : List (List ℕ)) → k ≤ j
+    → option_map_or (λ p. nat_lt p k) (position_from test j ns) false ≡ false
 place_from test j k [] le = refl
 place_from test j k (n ∷ ns) le = elim (test n) as (λ b. option_map_or (λ p. nat_lt p k) (cond b (Some j) (position_from test (j + 1) ns)) false ≡ false)
     [ true ↦ grind arith | false ↦ place_from test (j + 1) k ns (omega arith) ]
 
 -- a name is among the first i where its place is below i
-pub among_take : (test : List ℕ → Bool) (j i : ℕ) (ns : List (List ℕ)) → list_any test (take i ns) ≡ option_map_or (λ p. nat_lt p (j + i)) (position_from test j ns) false
+pub among_take : (test : List ℕ → Bool) (j i : ℕ) (ns : List (List ℕ))
+    → list_any test (take i ns) ≡ option_map_or (λ p. nat_lt p (j + i)) (position_from test j ns) false
 among_take test j zero [] = refl
 among_take test j (suc i) [] = refl
 among_take test j zero (n ∷ ns) = sym (place_from test j (j + 0) (n ∷ ns) (omega arith))
@@ -41,9 +46,11 @@ among_take test j (suc i) (n ∷ ns) = elim (test n) as (λ b. (b || list_any te
   | false ↦ among_take test (j + 1) i ns ∙ ap (λ (q : ℕ). option_map_or (λ p. nat_lt p q) (position_from test (j + 1) ns) false) (omega arith)
 ]
 
-pub any_append : (test : List ℕ → Bool) (xs ys : List (List ℕ)) → list_any test (xs ++ ys) ≡ (list_any test xs || list_any test ys)
+pub any_append : (test : List ℕ → Bool) (xs ys : List (List ℕ))
+    → list_any test (xs ++ ys) ≡ (list_any test xs || list_any test ys)
 any_append test [] ys = refl
 any_append test (x ∷ xs) ys = elim (test x) as (λ b. (b || list_any test (xs ++ ys)) ≡ ((b || list_any test xs) || list_any test ys)) [ true ↦ refl | false ↦ any_append test xs ys ]
 
-pub among_first : (test : List ℕ → Bool) (i : ℕ) (ns : List (List ℕ)) → list_any test (take i ns) ≡ option_map_or (λ p. nat_lt p i) (position_from test 0 ns) false
+pub among_first : (test : List ℕ → Bool) (i : ℕ) (ns : List (List ℕ))
+    → list_any test (take i ns) ≡ option_map_or (λ p. nat_lt p i) (position_from test 0 ns) false
 among_first test i ns = among_take test 0 i ns ∙ ap (λ (q : ℕ). option_map_or (λ p. nat_lt p q) (position_from test 0 ns) false) (zero-add i)

@@ -1,5 +1,6 @@
 -- Names that are kept once, and the names that stand before others.
-use Rattle.std.proofs.Common.{◌≡◌, ℕ, Bool, true, false, cond, ◌||◌, List, [], ◌∷◌, ◌++◌, Option, refl, ap, sym, ◌∙◌, nat_eq, append_assoc}
+use Rattle.std.proofs.Common.{◌≡◌, ℕ, Bool, true, false, cond, ◌||◌, List, [], ◌∷◌, ◌++◌, Option}
+use Rattle.std.proofs.Common.{refl, ap, sym, ◌∙◌, nat_eq, append_assoc}
 use Rattle.std.specs.Cmp.Lexicographic.{pointwise, nat_list_eq_equiv}
 use Rattle.indexmap.specs.IndexSet.{insert_key}
 use Rattle.ili_grammar.specs.Syntax.{Ident}
@@ -10,7 +11,8 @@ use Rattle.resolver.specs.Rules.{Entry, twice}
 use Rattle.resolver.proofs.Folds.{first_append}
 use Rattle.resolver.proofs.Indexes.{any_append}
 
-pub among_same : (q k : List ℕ) (ks : List (List ℕ)) → same q k ≡ true → is_among q ks ≡ is_among k ks
+pub among_same : (q k : List ℕ) (ks : List (List ℕ)) → same q k ≡ true
+    → is_among q ks ≡ is_among k ks
 among_same q k [] e = refl
 among_same q k (x ∷ ks) e = ap (λ (b : Bool). b || is_among q ks) (nat_list_eq_equiv.congr q k x e) ∙ ap (λ (b : Bool). same k x || b) (among_same q k ks e)
 
@@ -20,14 +22,17 @@ or-here false true h = h refl
 or-here false false h = refl
 
 -- a name that is kept once is among the same names as one that is put behind them
-pub among_insert : (ks : List (List ℕ)) (k q : List ℕ) → is_among q (insert_key (pointwise nat_eq) ks k) ≡ is_among q (ks ++ (k ∷ []))
+pub among_insert : (ks : List (List ℕ)) (k q : List ℕ)
+    → is_among q (insert_key (pointwise nat_eq) ks k) ≡ is_among q (ks ++ (k ∷ []))
 among_insert ks k q = by (is_among k ks) refl
   where
-    by : (b : Bool) → is_among k ks ≡ b → is_among q (cond b ks (ks ++ (k ∷ []))) ≡ is_among q (ks ++ (k ∷ []))
+    by : (b : Bool) → is_among k ks ≡ b
+        → is_among q (cond b ks (ks ++ (k ∷ []))) ≡ is_among q (ks ++ (k ∷ []))
     by true e = or-here (is_among q ks) (same q k) (λ h. among_same q k ks h ∙ e) ∙ sym (any_append (same q) ks (k ∷ []))
     by false e = refl
 
-pub twice_alike : (b d : List (List ℕ)) (es : List Entry) → ((q : List ℕ) → is_among q b ≡ is_among q d) → twice b es ≡ twice d es
+pub twice_alike : (b d : List (List ℕ)) (es : List Entry)
+    → ((q : List ℕ) → is_among q b ≡ is_among q d) → twice b es ≡ twice d es
 twice_alike b d [] h = refl
 twice_alike b d (e ∷ es) h =
     ap (λ (t : Bool). fault_if t code.Twice e.name ++ twice (b ++ (e.key ∷ [])) es) (h e.key)

@@ -1,5 +1,6 @@
 -- The fault that counts is the least of the list.
-use Rattle.std.proofs.Common.{◌≡◌, ◌⊎◌, inl, inr, Bool, true, false, cond, List, [], ◌∷◌, Option, Some, None, refl, ap, sym, ◌∙◌, subst, arith, true≢false}
+use Rattle.std.proofs.Common.{◌≡◌, ◌⊎◌, inl, inr, Bool, true, false, cond, List, [], ◌∷◌, Option}
+use Rattle.std.proofs.Common.{Some, None, refl, ap, sym, ◌∙◌, subst, arith, true≢false}
 use Rattle.std.specs.Option.{unwrap_or, is_some}
 use Rattle.std.proofs.lemmas.Bool.Decides.{nat_tests}
 use Rattle.resolver.specs.Faults.{Fault, is_before, first_from}
@@ -26,13 +27,16 @@ record IsLeastOf (best : Fault) (fs : List Fault) (f : Fault) : Type 0 where
   before_all : (g : Fault) → In fs g → ComesBefore g f → ⊥
   kept : (g : Fault) → ComesBefore g f → ComesBefore g best
 
-least_of : (best : Fault) (fs : List Fault) (f : Fault) → first_from (Some best) fs ≡ Some f → IsLeastOf best fs f
+least_of : (best : Fault) (fs : List Fault) (f : Fault) → first_from (Some best) fs ≡ Some f
+    → IsLeastOf best fs f
 least_of best [] f e =
     let same : best ≡ f = ap (λ (o : Option Fault). unwrap_or o best) e in
     subst (IsLeastOf best []) same (record { listed = inl refl; before_best = before_itself best; before_all = λ g h. absurd h; kept = λ g h. h })
 least_of best (x ∷ xs) f e = by_order (λ b h. least_of b xs f h) (is_before x best) refl e
   where
-    by_order : ((b : Fault) → first_from (Some b) xs ≡ Some f → IsLeastOf b xs f) → (b : Bool) → is_before x best ≡ b → first_from (Some (cond b x best)) xs ≡ Some f → IsLeastOf best (x ∷ xs) f
+    by_order : ((b : Fault) → first_from (Some b) xs ≡ Some f → IsLeastOf b xs f) → (b : Bool)
+        → is_before x best ≡ b → first_from (Some (cond b x best)) xs ≡ Some f
+        → IsLeastOf best (x ∷ xs) f
     by_order again true q h =
         let w = again x h in
         record {

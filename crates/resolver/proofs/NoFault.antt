@@ -1,5 +1,6 @@
 -- Where no fault counts, no rule is broken.
-use Rattle.std.proofs.Common.{◌≡◌, Bool, true, false, cond, not, ◌||◌, List, [], ◌∷◌, ◌++◌, length, Option, Some, None, refl, ap, arith, true≢false}
+use Rattle.std.proofs.Common.{◌≡◌, Bool, true, false, cond, not, ◌||◌, List, [], ◌∷◌, ◌++◌, length}
+use Rattle.std.proofs.Common.{Option, Some, None, refl, ap, arith, true≢false}
 use Rattle.std.proofs.lemmas.List.Elements.{All-cons}
 use Rattle.std.specs.List.{All, flat_map}
 use Rattle.std.specs.Option.{is_some}
@@ -25,15 +26,18 @@ none_behind [] gs e = e
 none_behind (f ∷ fs) gs e = absurd (omega (arith, ap (λ (l : List Fault). length l) e))
 
 -- each of some things breaks no rule
-pub none_in_each : {X : Type 0} (f : X → List Fault) (xs : List X) → flat_map f xs ≡ [] → All (λ x. f x ≡ []) xs
+pub none_in_each : {X : Type 0} (f : X → List Fault) (xs : List X) → flat_map f xs ≡ []
+    → All (λ x. f x ≡ []) xs
 none_in_each f [] e = λ i d lt. absurd (omega (arith, lt))
 none_in_each f (x ∷ xs) e = All-cons (λ y. f y ≡ []) x xs (none_before (f x) (flat_map f xs) e) (none_in_each f xs (none_behind (f x) (flat_map f xs) e))
 
-pub not_broken : (broken : Bool) (code : ModelCode) (name : Ident) → fault_if broken code name ≡ [] → broken ≡ false
+pub not_broken : (broken : Bool) (code : ModelCode) (name : Ident) → fault_if broken code name ≡ []
+    → broken ≡ false
 not_broken true code name e = absurd (omega (arith, ap (λ (l : List Fault). length l) e))
 not_broken false code name e = refl
 
-pub holds : (b : Bool) (code : ModelCode) (name : Ident) → fault_if (not b) code name ≡ [] → b ≡ true
+pub holds : (b : Bool) (code : ModelCode) (name : Ident) → fault_if (not b) code name ≡ []
+    → b ≡ true
 holds true code name e = refl
 holds false code name e = absurd (omega (arith, ap (λ (l : List Fault). length l) e))
 

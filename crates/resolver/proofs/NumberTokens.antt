@@ -1,5 +1,7 @@
 -- The bytes of a number token spell a number.
-use Rattle.std.proofs.Common.{◌≡◌, ℕ, suc, ◌+◌, Bool, true, false, cond, ◌&&◌, ◌||◌, ◌==◌, nat_eq, nat_lt, List, [], ◌∷◌, ◌++◌, length, take, drop, codes, Option, Some, None, refl, ap, sym, ◌∙◌, arith}
+use Rattle.std.proofs.Common.{◌≡◌, ℕ, suc, ◌+◌, Bool, true, false, cond, ◌&&◌, ◌||◌, ◌==◌, nat_eq}
+use Rattle.std.proofs.Common.{nat_lt, List, [], ◌∷◌, ◌++◌, length, take, drop, codes, Option, Some}
+use Rattle.std.proofs.Common.{None, refl, ap, sym, ◌∙◌, arith}
 use Rattle.std.proofs.Math.Seq.{take-add}
 use Rattle.std.proofs.lemmas.List.{drop-drop}
 use Rattle.std.proofs.lemmas.Bool.Decides.{nat_tests}
@@ -14,23 +16,29 @@ use Rattle.ili_lexer.specs.declared.fronts.Front.TheVariants as front
 use Rattle.ili_lexer.specs.declared.tokens.Kind.TheVariants as kind
 use Rattle.ili_lexer.specs.declared.tokens.Mark.{Mark}
 use Rattle.ili_lexer.specs.declared.keywords.Keyword.{Keyword}
-use Rattle.ili_lexer.specs.Fronts.{begins, closing, explanation_front, hex_front, word_front, byte_mark, mark_front, sign_length, decimals_of, number_front, front_of}
+use Rattle.ili_lexer.specs.Fronts.{begins, closing, explanation_front, hex_front, word_front}
+use Rattle.ili_lexer.specs.Fronts.{byte_mark, mark_front, sign_length, decimals_of, number_front}
+use Rattle.ili_lexer.specs.Fronts.{front_of}
 use Rattle.ili_lexer.specs.Bytes.{is_blank, is_inside_line, is_name_byte}
 use Rattle.ili_lexer.specs.Keywords.{keyword_of}
-use Rattle.decimals.specs.Numerals.{Sign, unsigned, plus, minus, sign_bytes, Numeral, Spells, point_bytes, is_digits, has_decimals}
+use Rattle.decimals.specs.Numerals.{Sign, unsigned, plus, minus, sign_bytes, Numeral, Spells}
+use Rattle.decimals.specs.Numerals.{point_bytes, is_digits, has_decimals}
 
 digits_first : (xs : List ℕ) → all_ascii_digits (take (prefix_len is_ascii_digit xs) xs) ≡ true
 digits_first [] = refl
 digits_first (x ∷ xs) = by_digit (is_ascii_digit x) refl (digits_first xs)
   where
-    by_digit : (b : Bool) → is_ascii_digit x ≡ b → all_ascii_digits (take (prefix_len is_ascii_digit xs) xs) ≡ true → all_ascii_digits (take (cond b (1 + prefix_len is_ascii_digit xs) 0) (x ∷ xs)) ≡ true
+    by_digit : (b : Bool) → is_ascii_digit x ≡ b
+        → all_ascii_digits (take (prefix_len is_ascii_digit xs) xs) ≡ true
+        → all_ascii_digits (take (cond b (1 + prefix_len is_ascii_digit xs) 0) (x ∷ xs)) ≡ true
     by_digit true e h =
         let next : 1 + prefix_len is_ascii_digit xs ≡ suc (prefix_len is_ascii_digit xs) = omega arith in
         ap (λ (n : ℕ). all_ascii_digits (take n (x ∷ xs))) next ∙ ap (λ (b : Bool). b && all_ascii_digits (take (prefix_len is_ascii_digit xs) xs)) e ∙ h
     by_digit false e h = refl
 
 -- the digits at the front, where there are some
-some_digits : (xs : List ℕ) → (prefix_len is_ascii_digit xs == 0) ≡ false → is_digits (take (prefix_len is_ascii_digit xs) xs) ≡ true
+some_digits : (xs : List ℕ) → (prefix_len is_ascii_digit xs == 0) ≡ false
+    → is_digits (take (prefix_len is_ascii_digit xs) xs) ≡ true
 some_digits xs e =
     let long : nat_lt 0 (length (take (prefix_len is_ascii_digit xs) xs)) ≡ true = above (length (take (prefix_len is_ascii_digit xs) xs)) (prefix_len is_ascii_digit xs) (length-prefix_len is_ascii_digit xs) e in
     ap (λ (b : Bool). b && all_ascii_digits (take (prefix_len is_ascii_digit xs) xs)) long ∙ digits_first xs
@@ -46,11 +54,13 @@ record IsPoint (text : List ℕ) (n : ℕ) (p : Option (List ℕ)) : Type 0 wher
   written : take n text ≡ point_bytes p
   digits : has_decimals p ≡ true
 
-point_found : (text : List ℕ) → (p : Option (List ℕ)) × IsPoint text ((if decimals_of text == 0 then 0 else 1) + decimals_of text) p
+point_found : (text : List ℕ)
+    → (p : Option (List ℕ)) × IsPoint text ((if decimals_of text == 0 then 0 else 1) + decimals_of text) p
 point_found [] = (None, record { written = refl; digits = refl })
 point_found (c ∷ cs) = by_start (nat_eq 46 c) refl
   where
-    by_count : nat_eq 46 c ≡ true → (b : Bool) → (prefix_len is_ascii_digit cs == 0) ≡ b → (p : Option (List ℕ)) × IsPoint (c ∷ cs) ((if b then 0 else 1) + prefix_len is_ascii_digit cs) p
+    by_count : nat_eq 46 c ≡ true → (b : Bool) → (prefix_len is_ascii_digit cs == 0) ≡ b
+        → (p : Option (List ℕ)) × IsPoint (c ∷ cs) ((if b then 0 else 1) + prefix_len is_ascii_digit cs) p
     by_count q true e =
         let none : 0 + prefix_len is_ascii_digit cs ≡ 0 = omega (arith, equal_is (prefix_len is_ascii_digit cs) 0 e) in
         (None, record { written = ap (λ (n : ℕ). take n (c ∷ cs)) none; digits = refl })
@@ -58,20 +68,24 @@ point_found (c ∷ cs) = by_start (nat_eq 46 c) refl
         let more : 1 + prefix_len is_ascii_digit cs ≡ suc (prefix_len is_ascii_digit cs) = omega arith in
         (Some (take (prefix_len is_ascii_digit cs) cs), record { written = ap (λ (n : ℕ). take n (c ∷ cs)) more ∙ ap (λ (x : ℕ). x ∷ take (prefix_len is_ascii_digit cs) cs) (sym (equal_is 46 c q)); digits = some_digits cs e })
 
-    by_start : (b : Bool) → nat_eq 46 c ≡ b → (p : Option (List ℕ)) × IsPoint (c ∷ cs) ((if (if b && true then prefix_len is_ascii_digit cs else 0) == 0 then 0 else 1) + (if b && true then prefix_len is_ascii_digit cs else 0)) p
+    by_start : (b : Bool) → nat_eq 46 c ≡ b
+        → (p : Option (List ℕ)) × IsPoint (c ∷ cs) ((if (if b && true then prefix_len is_ascii_digit cs else 0) == 0 then 0 else 1) + (if b && true then prefix_len is_ascii_digit cs else 0)) p
     by_start true q = by_count q (prefix_len is_ascii_digit cs == 0) refl
     by_start false q = (None, record { written = refl; digits = refl })
 
 -- the sign at the front, or none
-sign_found : (b : ℕ) (bs : List ℕ) → (sign : Sign) × (take (sign_length (b ∷ bs)) (b ∷ bs) ≡ sign_bytes sign)
+sign_found : (b : ℕ) (bs : List ℕ)
+    → (sign : Sign) × (take (sign_length (b ∷ bs)) (b ∷ bs) ≡ sign_bytes sign)
 sign_found b bs = by_tests (nat_eq 43 b) refl (nat_eq 45 b) refl
   where
-    by_tests : (x : Bool) → nat_eq 43 b ≡ x → (y : Bool) → nat_eq 45 b ≡ y → (sign : Sign) × (take (if (x && true) || (y && true) then 1 else 0) (b ∷ bs) ≡ sign_bytes sign)
+    by_tests : (x : Bool) → nat_eq 43 b ≡ x → (y : Bool) → nat_eq 45 b ≡ y
+        → (sign : Sign) × (take (if (x && true) || (y && true) then 1 else 0) (b ∷ bs) ≡ sign_bytes sign)
     by_tests true p y q = (plus, ap (λ (k : ℕ). k ∷ []) (sym (equal_is 43 b p)))
     by_tests false p true q = (minus, ap (λ (k : ℕ). k ∷ []) (sym (equal_is 45 b q)))
     by_tests false p false q = (unsigned, refl)
 
-number_spelled : (sign : Sign) (at n : ℕ) (text : List ℕ) → take at text ≡ sign_bytes sign → (prefix_len is_ascii_digit (drop at text) == 0) ≡ false
+number_spelled : (sign : Sign) (at n : ℕ) (text : List ℕ) → take at text ≡ sign_bytes sign
+    → (prefix_len is_ascii_digit (drop at text) == 0) ≡ false
     → n ≡ at + prefix_len is_ascii_digit (drop at text) + (if decimals_of (drop (at + prefix_len is_ascii_digit (drop at text)) text) == 0 then 0 else 1) + decimals_of (drop (at + prefix_len is_ascii_digit (drop at text)) text)
     → (m : Numeral) × Spells (take n text) m
 number_spelled sign at n text s some e =
@@ -96,19 +110,26 @@ later : (b : Bool) (x y f : Front) → (x ≡ f → ⊥) → (if b then x else y
 later true x y f differs e = absurd (differs e)
 later false x y f differs e = e
 
-no_explanation : (n : ℕ) (o : Option ℕ) → option_map_or (λ k. front.Token kind.Explanation (2 + k)) o front.OpenExplanation ≡ front.Token kind.Number n → ⊥
+no_explanation : (n : ℕ) (o : Option ℕ)
+    → option_map_or (λ k. front.Token kind.Explanation (2 + k)) o front.OpenExplanation ≡ front.Token kind.Number n
+    → ⊥
 no_explanation n None e = cc
 no_explanation n (Some k) e = cc
 
-no_hex : (n : ℕ) (b : Bool) (k : ℕ) → (if b then front.BadByte else front.Token kind.Hex k) ≡ front.Token kind.Number n → ⊥
+no_hex : (n : ℕ) (b : Bool) (k : ℕ)
+    → (if b then front.BadByte else front.Token kind.Hex k) ≡ front.Token kind.Number n → ⊥
 no_hex n true k e = cc
 no_hex n false k e = cc
 
-no_word : (n k : ℕ) (o : Option Keyword) → front.Token (option_map_or (λ w. kind.Keyword w) o kind.Name) k ≡ front.Token kind.Number n → ⊥
+no_word : (n k : ℕ) (o : Option Keyword)
+    → front.Token (option_map_or (λ w. kind.Keyword w) o kind.Name) k ≡ front.Token kind.Number n
+    → ⊥
 no_word n k None e = cc
 no_word n k (Some w) e = cc
 
-no_byte_mark : (n : ℕ) (o : Option Mark) → option_map_or (λ m. front.Token (kind.Mark m) 1) o front.BadByte ≡ front.Token kind.Number n → ⊥
+no_byte_mark : (n : ℕ) (o : Option Mark)
+    → option_map_or (λ m. front.Token (kind.Mark m) 1) o front.BadByte ≡ front.Token kind.Number n
+    → ⊥
 no_byte_mark n None e = cc
 no_byte_mark n (Some m) e = cc
 
@@ -127,7 +148,8 @@ no_long n e = cc
 one_count : (k n : ℕ) → front.Token kind.Number k ≡ front.Token kind.Number n → k ≡ n
 one_count k n e = cc
 
-number_there : (n b : ℕ) (bs : List ℕ) → front_of (b ∷ bs) ≡ front.Token kind.Number n → number_front (b ∷ bs) ≡ front.Token kind.Number n
+number_there : (n b : ℕ) (bs : List ℕ) → front_of (b ∷ bs) ≡ front.Token kind.Number n
+    → number_front (b ∷ bs) ≡ front.Token kind.Number n
 number_there n b bs e =
     let f : Front = front.Token kind.Number n in
     let text : List ℕ = b ∷ bs in
@@ -137,14 +159,16 @@ number_there n b bs e =
     (later (begins text (codes "!!")) (front.Passed (prefix_len is_inside_line text)) _ f (no_passed n (prefix_len is_inside_line text))
     (later (is_blank b) (front.Passed 1) _ f (no_passed n 1) e))))
 
-pub token_spells : (text : List ℕ) (n : ℕ) → front_of text ≡ front.Token kind.Number n → (m : Numeral) × Spells (take n text) m
+pub token_spells : (text : List ℕ) (n : ℕ) → front_of text ≡ front.Token kind.Number n
+    → (m : Numeral) × Spells (take n text) m
 token_spells [] n e = absurd (no_end n e)
   where
     no_end : (n : ℕ) → front.End ≡ front.Token kind.Number n → ⊥
     no_end n e = cc
 token_spells (b ∷ bs) n e = by_whole (prefix_len is_ascii_digit (drop (sign_length (b ∷ bs)) (b ∷ bs)) == 0) refl (number_there n b bs e)
   where
-    by_length : (prefix_len is_ascii_digit (drop (sign_length (b ∷ bs)) (b ∷ bs)) == 0) ≡ false → (x : Bool) → (k : ℕ)
+    by_length : (prefix_len is_ascii_digit (drop (sign_length (b ∷ bs)) (b ∷ bs)) == 0) ≡ false
+        → (x : Bool) → (k : ℕ)
         → k ≡ sign_length (b ∷ bs) + prefix_len is_ascii_digit (drop (sign_length (b ∷ bs)) (b ∷ bs))
         + (if decimals_of (drop (sign_length (b ∷ bs) + prefix_len is_ascii_digit (drop (sign_length (b ∷ bs)) (b ∷ bs))) (b ∷ bs)) == 0 then 0 else 1)
         + decimals_of (drop (sign_length (b ∷ bs) + prefix_len is_ascii_digit (drop (sign_length (b ∷ bs)) (b ∷ bs))) (b ∷ bs))
@@ -152,7 +176,8 @@ token_spells (b ∷ bs) n e = by_whole (prefix_len is_ascii_digit (drop (sign_le
     by_length some true k c h = absurd (no_long n h)
     by_length some false k c h = let s = sign_found b bs in number_spelled s.0 (sign_length (b ∷ bs)) n (b ∷ bs) s.1 some (sym (one_count k n h) ∙ c)
 
-    by_whole : (x : Bool) → (prefix_len is_ascii_digit (drop (sign_length (b ∷ bs)) (b ∷ bs)) == 0) ≡ x
+    by_whole : (x : Bool)
+        → (prefix_len is_ascii_digit (drop (sign_length (b ∷ bs)) (b ∷ bs)) == 0) ≡ x
         → (if x then mark_front (b ∷ bs) else if (nat_lt 9 (decimals_of (drop (sign_length (b ∷ bs) + prefix_len is_ascii_digit (drop (sign_length (b ∷ bs)) (b ∷ bs))) (b ∷ bs))) || nat_lt 18 (prefix_len is_ascii_digit (drop (sign_length (b ∷ bs)) (b ∷ bs)) + decimals_of (drop (sign_length (b ∷ bs) + prefix_len is_ascii_digit (drop (sign_length (b ∷ bs)) (b ∷ bs))) (b ∷ bs)))) then front.LongNumber else front.Token kind.Number (sign_length (b ∷ bs) + prefix_len is_ascii_digit (drop (sign_length (b ∷ bs)) (b ∷ bs))
         + (if decimals_of (drop (sign_length (b ∷ bs) + prefix_len is_ascii_digit (drop (sign_length (b ∷ bs)) (b ∷ bs))) (b ∷ bs)) == 0 then 0 else 1)
         + decimals_of (drop (sign_length (b ∷ bs) + prefix_len is_ascii_digit (drop (sign_length (b ∷ bs)) (b ∷ bs))) (b ∷ bs)))) ≡ front.Token kind.Number n → (m : Numeral) × Spells (take n (b ∷ bs)) m

@@ -7,12 +7,15 @@ use Rattle.ili_grammar.specs.declared.syntax.Content.TheFolds.{fold-roll-TypeSyn
 use Rattle.ili_grammar.specs.declared.syntax.Span as span
 use Rattle.ili_grammar.specs.declared.syntax.TypeSyntax as kind
 use Rattle.ili_grammar.specs.declared.syntax.TypeSyntax.TheVariants as kinds
-use Rattle.ili_grammar.specs.Syntax.{TypeSyntax, LineSyntax, AttributeSyntax, Content, Dim1, Dim2, Radians, Grads, Degrees, Range}
-use Rattle.ili_grammar.specs.Values.{type_of, span_of, content_step, type_step, attribute_step, line_step}
+use Rattle.ili_grammar.specs.Syntax.{TypeSyntax, LineSyntax, AttributeSyntax, Content, Dim1, Dim2}
+use Rattle.ili_grammar.specs.Syntax.{Radians, Grads, Degrees, Range}
+use Rattle.ili_grammar.specs.Values.{type_of, span_of, content_step, type_step, attribute_step}
+use Rattle.ili_grammar.specs.Values.{line_step}
 use Rattle.resolver.specs.Numbers.{spans}
 
 -- a type as it is kept, seen by one step
-seen : (k : kind.TypeSyntax) (t : TypeSyntax) (l : kind.TypeSyntax) → k ≡ l → type_of l ≡ t → spans (type_of k) ≡ spans t
+seen : (k : kind.TypeSyntax) (t : TypeSyntax) (l : kind.TypeSyntax) → k ≡ l → type_of l ≡ t
+    → spans (type_of k) ≡ spans t
 seen k t l e f = ap (λ (x : kind.TypeSyntax). spans (type_of x)) e ∙ ap spans f
 
 pub one_span : (k : kind.TypeSyntax) (s : span.Span)

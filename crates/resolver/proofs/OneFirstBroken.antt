@@ -1,5 +1,6 @@
 -- A model that a text spells has one first broken rule at most.
-use Rattle.std.proofs.Common.{◌≡◌, ℕ, inl, inr, true, false, cond, ◌==◌, List, [], ◌∷◌, refl, ap, sym, ◌∙◌, subst, arith}
+use Rattle.std.proofs.Common.{◌≡◌, ℕ, inl, inr, true, false, cond, ◌==◌, List, [], ◌∷◌, refl, ap}
+use Rattle.std.proofs.Common.{sym, ◌∙◌, subst, arith}
 use Rattle.std.specs.Prelude.{Contains}
 use Rattle.std.proofs.lemmas.Bool.Decides.{nat_tests}
 use Rattle.ili_lexer.specs.declared.tokens.Token.{Token}
@@ -8,7 +9,10 @@ use Rattle.ili_grammar.specs.Models.{Spells}
 use Rattle.ili_grammar.specs.Numbers.{ident}
 use Rattle.ili_grammar.specs.Slices.{toks}
 use Rattle.ili_grammar.specs.Syntax.{Ident, ModelSyntax}
-use Rattle.ili_grammar.specs.Tokens.{Kind, name, number, hex, explanation, word, semicolon, colon, comma, equals, left_paren, right_paren, left_bracket, right_bracket, star, greater, period, two_periods, arrow, Info, Tok, tok}
+use Rattle.ili_grammar.specs.Tokens.{Kind, name, number, hex, explanation, word, semicolon, colon}
+use Rattle.ili_grammar.specs.Tokens.{comma, equals, left_paren, right_paren, left_bracket}
+use Rattle.ili_grammar.specs.Tokens.{right_bracket, star, greater, period, two_periods, arrow, Info}
+use Rattle.ili_grammar.specs.Tokens.{Tok, tok}
 use Rattle.resolver.specs.declared.faults.ModelCode.{ModelCode}
 use Rattle.resolver.specs.declared.faults.ModelCode.TheVariants as code
 use Rattle.resolver.specs.Breaking.{Breaks}
@@ -23,7 +27,8 @@ use Rattle.resolver.proofs.TokenPlaces.{HaveOwnPlaces, own_places}
 abbrev IsToken : List Tok → Ident → Type 0
 IsToken ts n = (i : Info) × Contains ts (tok name i) × (n ≡ ident i)
 
-one_more : (Q : Ident → Type 0) (k : Kind) (i : Info) (r : List Tok) → (k ≡ name → Q (ident i)) → TokenNames Q r → TokenNames Q (tok k i ∷ r)
+one_more : (Q : Ident → Type 0) (k : Kind) (i : Info) (r : List Tok) → (k ≡ name → Q (ident i))
+    → TokenNames Q r → TokenNames Q (tok k i ∷ r)
 one_more Q name i r h s = (h refl, s)
 one_more Q number i r h s = s
 one_more Q hex i r h s = s
@@ -43,12 +48,14 @@ one_more Q period i r h s = s
 one_more Q two_periods i r h s = s
 one_more Q arrow i r h s = s
 
-are_tokens : (whole ts : List Tok) → ((t : Tok) → In ts t → In whole t) → TokenNames (IsToken whole) ts
+are_tokens : (whole ts : List Tok) → ((t : Tok) → In ts t → In whole t)
+    → TokenNames (IsToken whole) ts
 are_tokens whole [] h = tt
 are_tokens whole (tok k i ∷ ts) h =
     one_more (IsToken whole) k i ts (λ e. (i, contains whole (tok name i) (subst (λ (x : Kind). In whole (tok x i)) e (h (tok k i) (inl refl))), refl)) (are_tokens whole ts (λ t m. h t (inr m)))
 
-broken_token : (m : ModelSyntax) (ts : List Tok) (c : ModelCode) (n : Ident) → Spells m ts → (Breaks m c n) → IsToken ts n
+broken_token : (m : ModelSyntax) (ts : List Tok) (c : ModelCode) (n : Ident) → Spells m ts
+    → (Breaks m c n) → IsToken ts n
 broken_token m ts c n s b = broken_in (IsToken ts) m (model_names (IsToken ts) 32 m ts [] s (are_tokens ts ts (λ t k. k))) c n b
 
 -- ---- of two faults none comes before the other
@@ -58,7 +65,8 @@ tells f g e = grind (arith, nat_tests, e)
 not_before : (f g : Fault) → (ComesBefore f g → ⊥) → is_before f g ≡ false
 not_before f g h = elim (is_before f g) as (λ b. is_before f g ≡ b → is_before f g ≡ false) [ true ↦ λ e. absurd (h (tells f g e)) | false ↦ λ e. e ] refl
 
-same_place : (f g : Fault) → is_before f g ≡ false → is_before g f ≡ false → (f.name.line ≡ g.name.line) × (f.name.column ≡ g.name.column) × (rank f.code ≡ rank g.code)
+same_place : (f g : Fault) → is_before f g ≡ false → is_before g f ≡ false
+    → (f.name.line ≡ g.name.line) × (f.name.column ≡ g.name.column) × (rank f.code ≡ rank g.code)
 same_place f g e h = (line, column, by_rank)
   where
     line : f.name.line ≡ g.name.line
@@ -88,7 +96,8 @@ code_back code.Wide = refl
 code_back code.LineAttr = refl
 code_back code.IdentUnknown = refl
 
-one_first : (m : ModelSyntax) (ts : List Tok) (f g : Fault) → Spells m ts → HaveOwnPlaces ts → IsFirstBroken m f → IsFirstBroken m g → f ≡ g
+one_first : (m : ModelSyntax) (ts : List Tok) (f g : Fault) → Spells m ts → HaveOwnPlaces ts
+    → IsFirstBroken m f → IsFirstBroken m g → f ≡ g
 one_first m ts f g s own h k =
     let place = same_place f g (not_before f g (k.first f h.broken)) (not_before g f (h.first g k.broken)) in
     let a = broken_token m ts f.code f.name s h.broken in
@@ -100,5 +109,6 @@ one_first m ts f g s own h k =
     let coded : f.code ≡ g.code = sym (code_back f.code) ∙ ap code_of place.2 ∙ code_back g.code in
     λ z. record { code = coded z; name = named z }
 
-pub one_first_broken : (text : List ℕ) (ts : List Token) (m : ModelSyntax) (f g : Fault) → AreTokens text ts → Spells m (toks text ts) → IsFirstBroken m f → IsFirstBroken m g → f ≡ g
+pub one_first_broken : (text : List ℕ) (ts : List Token) (m : ModelSyntax) (f g : Fault)
+    → AreTokens text ts → Spells m (toks text ts) → IsFirstBroken m f → IsFirstBroken m g → f ≡ g
 one_first_broken text ts m f g are s h k = one_first m (toks text ts) f g s (own_places text ts are) h k

@@ -1,5 +1,6 @@
 -- What is written stands for one thing at most: names, numbers and types.
-use Rattle.std.proofs.Common.{◌≡◌, ℕ, true, false, ℤ, unsigned_abs, List, [], ◌∷◌, slice_get, Option, Some, None, refl, ap, sym, ◌∙◌, subst, true≢false}
+use Rattle.std.proofs.Common.{◌≡◌, ℕ, true, false, ℤ, unsigned_abs, List, [], ◌∷◌, slice_get}
+use Rattle.std.proofs.Common.{Option, Some, None, refl, ap, sym, ◌∙◌, subst, true≢false}
 use Rattle.std.specs.List.{AllZip}
 use Rattle.std.specs.Option.{is_some, unwrap_or}
 use Rattle.ili_grammar.specs.Syntax as syntax
@@ -7,9 +8,12 @@ use Rattle.ili_grammar.specs.Syntax.{Ident, Decimal, Span, TypeSyntax, DomainSyn
 use Rattle.resolver.specs.Resolved as resolved
 use Rattle.resolver.specs.Resolved.{Limits, Window, Block, Form}
 use Rattle.resolver.specs.Numbers.{scale_of}
-use Rattle.resolver.specs.Scopes.{Scope, Meaning, is_among, place, texts, names_of, name_alone, outside}
+use Rattle.resolver.specs.Scopes.{Scope, Meaning, is_among, place, texts, names_of, name_alone}
+use Rattle.resolver.specs.Scopes.{outside}
 use Rattle.resolver.specs.Rules.{attribute_names}
-use Rattle.resolver.specs.Standing.{StandsFor, as_written, as_outside, as_declared, AreLimits, IsLength, IsNumber, IsForm, IsReference, AreIdents, AreVertices, IsOverlap}
+use Rattle.resolver.specs.Standing.{StandsFor, as_written, as_outside, as_declared, AreLimits}
+use Rattle.resolver.specs.Standing.{IsLength, IsNumber, IsForm, IsReference, AreIdents, AreVertices}
+use Rattle.resolver.specs.Standing.{IsOverlap}
 
 pub one_some : {X : Type 0} (o : Option X) (x y : X) → o ≡ Some x → o ≡ Some y → x ≡ y
 one_some {X} o x y a b = ap (λ (p : Option X). unwrap_or p x) (sym a ∙ b)
@@ -17,10 +21,13 @@ one_some {X} o x y a b = ap (λ (p : Option X). unwrap_or p x) (sym a ∙ b)
 pub none_or_some : {X : Type 0} (o : Option X) (x : X) → o ≡ None → o ≡ Some x → ⊥
 none_or_some {X} o x a b = true≢false (sym (ap (λ (p : Option X). is_some p) (sym a ∙ b)))
 
-none_by_two : (s : Scope) (t : TypeSyntax) (n k : Ident) → name_alone t ≡ Some n → name_alone t ≡ Some k → is_among n.text (names_of s.above) ≡ true → is_among k.text (names_of s.above) ≡ false → ⊥
+none_by_two : (s : Scope) (t : TypeSyntax) (n k : Ident) → name_alone t ≡ Some n
+    → name_alone t ≡ Some k → is_among n.text (names_of s.above) ≡ true
+    → is_among k.text (names_of s.above) ≡ false → ⊥
 none_by_two s t n k p q a b = true≢false (sym a ∙ ap (λ (m : Ident). is_among m.text (names_of s.above)) (one_some (name_alone t) n k p q) ∙ b)
 
-pub one_meaning : (m n : Meaning) (s : Scope) (t : TypeSyntax) → StandsFor m s t → StandsFor n s t → m ≡ n
+pub one_meaning : (m n : Meaning) (s : Scope) (t : TypeSyntax) → StandsFor m s t → StandsFor n s t
+    → m ≡ n
 one_meaning m n _ _ (as_written s t q e) (as_written _ _ p f) = e ∙ sym f
 one_meaning m n _ _ (as_written s t q e) (as_outside _ _ k p a h) = absurd (none_or_some (name_alone t) k q p)
 one_meaning m n _ _ (as_written s t q e) (as_declared _ _ k i d p out at here h) = absurd (none_or_some (name_alone t) k q p)
@@ -36,7 +43,8 @@ one_meaning m n _ _ (as_declared s t k i d q out at here g) (as_declared _ _ l j
     one_meaning m n s d.kind g (subst (λ (x : DomainSyntax). StandsFor n s x.kind) (sym domain) h)
 
 -- ---- numbers
-pub one_limits : (scale : ℕ) (s : Span) (a b : Limits) → AreLimits scale s a → AreLimits scale s b → a ≡ b
+pub one_limits : (scale : ℕ) (s : Span) (a b : Limits) → AreLimits scale s a → AreLimits scale s b
+    → a ≡ b
 one_limits scale s a b f g =
     let low : a.low ≡ b.low = f.low.value ∙ sym g.low.value in
     let high : a.high ≡ b.high = f.high.value ∙ sym g.high.value in
@@ -46,7 +54,8 @@ one_limits scale s a b f g =
 one_length : (d : Decimal) (m n : ℕ) → IsLength d m → IsLength d n → m ≡ n
 one_length d m n f g = ap unsigned_abs (sym f.value ∙ g.value)
 
-of_limits : (kind : Limits → Form) (scale : ℕ) (s : Span) (f g : Form) → IsNumber kind scale s f → IsNumber kind scale s g → f ≡ g
+of_limits : (kind : Limits → Form) (scale : ℕ) (s : Span) (f g : Form) → IsNumber kind scale s f
+    → IsNumber kind scale s g → f ≡ g
 of_limits kind scale s f g a b = a.1 ∙ ap kind (one_limits scale s a.0 b.0 a.2 b.2) ∙ sym b.1
 
 -- ---- values
@@ -80,10 +89,12 @@ one_form (syntax.Polyline l) f g a b = absurd a
 one_form (syntax.Surface l) f g a b = absurd a
 one_form (syntax.Area l) f g a b = absurd a
 
-pub one_reference : (s : Scope) (n : Ident) (f g : Form) → IsReference s n f → IsReference s n g → f ≡ g
+pub one_reference : (s : Scope) (n : Ident) (f g : Form) → IsReference s n f → IsReference s n g
+    → f ≡ g
 one_reference s n f g a b = a.1 ∙ ap (λ (k : ℕ). resolved.Reference k) (one_some (place n.text s.tables) a.0 b.0 a.2 b.2) ∙ sym b.1
 
-pub one_zip : {X Y : Type 0} (R : X → Y → Type 0) → ((x : X) (y z : Y) → R x y → R x z → y ≡ z) → (xs : List X) (ys zs : List Y) → AllZip R xs ys → AllZip R xs zs → ys ≡ zs
+pub one_zip : {X Y : Type 0} (R : X → Y → Type 0) → ((x : X) (y z : Y) → R x y → R x z → y ≡ z)
+    → (xs : List X) (ys zs : List Y) → AllZip R xs ys → AllZip R xs zs → ys ≡ zs
 one_zip {X} {Y} R one [] [] [] a b = refl
 one_zip {X} {Y} R one [] [] (z ∷ zs) a b = absurd b
 one_zip {X} {Y} R one [] (y ∷ ys) zs a b = absurd a
@@ -91,13 +102,15 @@ one_zip {X} {Y} R one (x ∷ xs) [] zs a b = absurd a
 one_zip {X} {Y} R one (x ∷ xs) (y ∷ ys) [] a b = absurd b
 one_zip {X} {Y} R one (x ∷ xs) (y ∷ ys) (z ∷ zs) a b = ap (λ (k : Y). k ∷ ys) (one x y z a.0 b.0) ∙ ap (λ (ks : List Y). z ∷ ks) (one_zip R one xs ys zs a.1 b.1)
 
-pub one_idents : (as_ : Attributes) (lists : List (List Ident)) (ps qs : List (List ℕ)) → AreIdents as_ lists ps → AreIdents as_ lists qs → ps ≡ qs
+pub one_idents : (as_ : Attributes) (lists : List (List Ident)) (ps qs : List (List ℕ))
+    → AreIdents as_ lists ps → AreIdents as_ lists qs → ps ≡ qs
 one_idents as_ lists ps qs a b =
     let names : List (List ℕ) = texts (attribute_names as_) in
     one_zip (AllZip (λ n k. place n.text names ≡ Some k)) (one_zip (λ n k. place n.text names ≡ Some k) (λ n i j p q. one_some (place n.text names) i j p q)) lists ps qs a b
 
 -- ---- vertices and overlaps
-pub one_window : (t : TypeSyntax) (w v : Window) (h k : Option Limits) → AreVertices t w h → AreVertices t v k → (w ≡ v) × (h ≡ k)
+pub one_window : (t : TypeSyntax) (w v : Window) (h k : Option Limits) → AreVertices t w h
+    → AreVertices t v k → (w ≡ v) × (h ≡ k)
 one_window (syntax.Coord2 c) w v h k a b =
     let x : w.x ≡ v.x = one_limits (scale_of (syntax.Coord2 c)) c.x w.x v.x a.0 b.0 in
     let y : w.y ≡ v.y = one_limits (scale_of (syntax.Coord2 c)) c.y w.y v.y a.1 b.1 in
@@ -122,6 +135,7 @@ one_window (syntax.Polyline l) w v h k a b = absurd a
 one_window (syntax.Surface l) w v h k a b = absurd a
 one_window (syntax.Area l) w v h k a b = absurd a
 
-pub one_overlap : (scale : ℕ) (d : Option Decimal) (y z : Option ℤ) → IsOverlap scale d y → IsOverlap scale d z → y ≡ z
+pub one_overlap : (scale : ℕ) (d : Option Decimal) (y z : Option ℤ) → IsOverlap scale d y
+    → IsOverlap scale d z → y ≡ z
 one_overlap scale None y z a b = a ∙ sym b
 one_overlap scale (Some d) y z a b = a.0 ∙ sym b.0

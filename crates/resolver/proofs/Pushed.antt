@@ -1,11 +1,13 @@
 -- Attributes that are resolved one after the other.
-use Rattle.std.proofs.Common.{◌≡◌, ℕ, ◌+◌, ◌<◌, ◌≤◌, List, [], ◌∷◌, ◌++◌, map, length, drop, get_or, refl, ap, ◌∙◌}
+use Rattle.std.proofs.Common.{◌≡◌, ℕ, ◌+◌, ◌<◌, ◌≤◌, List, [], ◌∷◌, ◌++◌, map, length, drop, get_or}
+use Rattle.std.proofs.Common.{refl, ap, ◌∙◌}
 use Rattle.ili_grammar.specs.declared.syntax.AttributeSyntax as written
 use Rattle.ili_grammar.specs.Syntax.{AttributeSyntax, Attributes, no_attributes, and_attribute}
 use Rattle.ili_grammar.specs.Values.{attribute_of, attributes_of}
 use Rattle.resolver.specs.declared.models.Attribute as attribute
 use Rattle.resolver.specs.Resolved as resolved
-use Rattle.resolver.specs.Values.{attributes_in, attribute_of as resolved_attribute, attributes_of as resolved_attributes}
+use Rattle.resolver.specs.Values.{attributes_in, attribute_of as resolved_attribute}
+use Rattle.resolver.specs.Values.{attributes_of as resolved_attributes}
 use Rattle.resolver.specs.Sound.{listed}
 use Rattle.resolver.proofs.Folds.{next_viewed, all_pushed}
 
@@ -22,7 +24,8 @@ listed_back resolved.no_attributes = refl
 listed_back (resolved.and_attribute a as_) = ap (λ (t : resolved.Attributes). resolved.and_attribute a t) (listed_back as_)
 
 -- all are
-pub all_resolved : (g : Attributes → resolved.Attributes) (i : ℕ) (xs : List written.AttributeSyntax) (done : List attribute.Attribute) → g no_attributes ≡ resolved.no_attributes → length xs ≤ i
+pub all_resolved : (g : Attributes → resolved.Attributes) (i : ℕ) (xs : List written.AttributeSyntax) (done : List attribute.Attribute)
+    → g no_attributes ≡ resolved.no_attributes → length xs ≤ i
     → map resolved_attribute done ++ listed (g (attributes_of (drop i xs))) ≡ listed (g (attributes_of xs)) → resolved_attributes done ≡ g (attributes_of xs)
 all_resolved g i xs done none le e =
     ap attributes_in (all_pushed (λ (l : List written.AttributeSyntax). listed (g (attributes_of l))) i xs (map resolved_attribute done) (ap listed none) le e) ∙ listed_back (g (attributes_of xs))

@@ -1,5 +1,6 @@
 -- Names that are declared twice, one name after the other.
-use Rattle.std.proofs.Common.{◌≡◌, ℕ, ◌+◌, ◌<◌, Bool, List, [], ◌∷◌, ◌++◌, map, length, take, drop, get_or, Option, sym, ap, ◌∙◌, add-one, append_assoc, take-suc, subst}
+use Rattle.std.proofs.Common.{◌≡◌, ℕ, ◌+◌, ◌<◌, Bool, List, [], ◌∷◌, ◌++◌, map, length, take, drop}
+use Rattle.std.proofs.Common.{get_or, Option, sym, ap, ◌∙◌, add-one, append_assoc, take-suc, subst}
 use Rattle.std.proofs.lemmas.List.{length-map}
 use Rattle.std.proofs.Math.ListN.{get_or-map}
 use Rattle.std.specs.Borrow.{Bor}
@@ -14,7 +15,8 @@ use Rattle.resolver.specs.Rules.{twice, entry, Entry}
 use Rattle.resolver.specs.Indexed.{idents}
 use Rattle.resolver.proofs.Folds.{first_append, list_behind}
 
-pub names_before : (i : ℕ) (ns : List (Bor ident.Ident)) (n : Bor ident.Ident) → i < length ns → n ≡ get_or ns i n
+pub names_before : (i : ℕ) (ns : List (Bor ident.Ident)) (n : Bor ident.Ident) → i < length ns
+    → n ≡ get_or ns i n
     → take (i + 1) (texts (idents ns)) ≡ take i (texts (idents ns)) ++ (n.now.text ∷ [])
 names_before i ns n lt at =
     let ts : List (List ℕ) = texts (idents ns) in

@@ -33,13 +33,15 @@ listed_is_broken m c n short h = listed_broken m (record { code = c; name = n })
 pub broken_is_listed : (m : ModelSyntax) (c : ModelCode) (n : Ident) → AreAllShort m → Breaks m c n → Contains (faults m) (record { code = c; name = n })
 broken_is_listed m c n short h = contains (faults m) (record { code = c; name = n }) (broken_listed m c n short h)
 
-pub first_broken : (m : ModelSyntax) (f : Fault) → AreAllShort m → first_fault m ≡ Some f → IsFirstBroken m f
+pub first_broken : (m : ModelSyntax) (f : Fault) → AreAllShort m → first_fault m ≡ Some f
+    → IsFirstBroken m f
 first_broken m f short e =
     let w : IsLeast (faults m) f = least (faults m) f e in
     record { broken = listed_is_broken m f.code f.name short w.listed; first = λ g b c. w.first g (broken_is_listed m g.code g.name short b) c }
 
 -- an answer that names the fault that counts names the first broken rule
-pub first_named : (m : ModelSyntax) (f : ModelFault) → AreAllShort m → NamesFault f (first_fault m) → NamesFirstBroken m f
+pub first_named : (m : ModelSyntax) (f : ModelFault) → AreAllShort m → NamesFault f (first_fault m)
+    → NamesFirstBroken m f
 first_named m (At code name) short e = first_broken m (record { code = code; name = ident_of name }) short e
 first_named m Memory short e = tt
 

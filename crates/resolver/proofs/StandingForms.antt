@@ -1,5 +1,6 @@
 -- Types, vertices and overlaps that break no rule stand for what is written.
-use Rattle.std.proofs.Common.{◌≡◌, ℕ, ◌≤◌, Bool, true, false, cond, ◌&&◌, pos, List, [], ◌∷◌, Option, Some, None, refl, ap, sym, ◌∙◌, subst, arith, true≢false}
+use Rattle.std.proofs.Common.{◌≡◌, ℕ, ◌≤◌, Bool, true, false, cond, ◌&&◌, pos, List, [], ◌∷◌}
+use Rattle.std.proofs.Common.{Option, Some, None, refl, ap, sym, ◌∙◌, subst, arith, true≢false}
 use Rattle.std.specs.List.{list_any}
 use Rattle.std.specs.Option.{is_some, option_map}
 use Rattle.ili_grammar.specs.Syntax as syntax
@@ -10,26 +11,31 @@ use Rattle.resolver.specs.declared.shape.Shape.TheVariants as shapes
 use Rattle.resolver.specs.Faults.{fault_if}
 use Rattle.resolver.specs.Lines.{is_coord, is_coord2, is_line, is_long_overlap, suits}
 use Rattle.resolver.specs.Models.{limits, window, block, text_length, form, line_with, overlap_at}
-use Rattle.resolver.specs.Numbers.{spans, most_decimals, scale_of, in_units, is_long, is_reversed, has_long_bound, is_text_length}
+use Rattle.resolver.specs.Numbers.{spans, most_decimals, scale_of, in_units, is_long, is_reversed}
+use Rattle.resolver.specs.Numbers.{has_long_bound, is_text_length}
 use Rattle.resolver.specs.Rules.{numbers_faults, type_faults}
 use Rattle.resolver.specs.Scopes.{Scope, is_visible, name_alone}
 use Rattle.resolver.specs.Standing.{AreLimits, IsForm, IsOverlap, HasForm}
 use Rattle.resolver.proofs.ExactNumbers.{limits_kept, length_kept, few_digits}
-use Rattle.resolver.proofs.NoFault.{none_before, none_behind, not_broken, holds, or-left_false, or-right_false}
+use Rattle.resolver.proofs.NoFault.{none_before, none_behind, not_broken, holds, or-left_false}
+use Rattle.resolver.proofs.NoFault.{or-right_false}
 
 -- ---- bounds
 abbrev AreKept : ℕ → List Span → Type 0
 AreKept scale [] = Unit {0}
 AreKept scale (s ∷ ss) = AreLimits scale s (limits scale s) × AreKept scale ss
 
-spans_kept : (scale : ℕ) (ss : List Span) → most_decimals ss ≤ scale → list_any (is_reversed scale) ss ≡ false → list_any (has_long_bound scale) ss ≡ false → AreKept scale ss
+spans_kept : (scale : ℕ) (ss : List Span) → most_decimals ss ≤ scale
+    → list_any (is_reversed scale) ss ≡ false → list_any (has_long_bound scale) ss ≡ false
+    → AreKept scale ss
 spans_kept scale [] le r l = tt
 spans_kept scale (s ∷ ss) le r l = (
   limits_kept scale s (omega (arith, le)) (omega (arith, le)) (or-left_false (is_reversed scale s) (list_any (is_reversed scale) ss) r) (or-left_false (has_long_bound scale s) (list_any (has_long_bound scale) ss) l),
   spans_kept scale ss (omega (arith, le)) (or-right_false (is_reversed scale s) (list_any (is_reversed scale) ss) r) (or-right_false (has_long_bound scale s) (list_any (has_long_bound scale) ss) l),
 )
 
-numbers_kept : (owner : Ident) (t : TypeSyntax) → numbers_faults owner t ≡ [] → AreKept (scale_of t) (spans t)
+numbers_kept : (owner : Ident) (t : TypeSyntax) → numbers_faults owner t ≡ []
+    → AreKept (scale_of t) (spans t)
 numbers_kept owner t e =
     let reversed : Bool = list_any (is_reversed (scale_of t)) (spans t) in
     let long : Bool = list_any (has_long_bound (scale_of t)) (spans t) in
@@ -38,7 +44,8 @@ numbers_kept owner t e =
 
 -- ---- types
 -- a type that is no name and no line
-pub form_kept : (s : Scope) (owner : Ident) (t : TypeSyntax) → type_faults s owner t ≡ [] → name_alone t ≡ None → is_line t ≡ false → IsForm t (form t)
+pub form_kept : (s : Scope) (owner : Ident) (t : TypeSyntax) → type_faults s owner t ≡ []
+    → name_alone t ≡ None → is_line t ≡ false → IsForm t (form t)
 form_kept s owner (syntax.Named n) e a l = absurd (true≢false (ap (λ (o : Option Ident). is_some o) a))
 form_kept s owner (syntax.Coord2 c) e a l = let k = numbers_kept owner (syntax.Coord2 c) e in (window (scale_of (syntax.Coord2 c)) c, refl, k.0, k.1.0)
 form_kept s owner (syntax.Coord3 c) e a l = let k = numbers_kept owner (syntax.Coord3 c) e in (block (scale_of (syntax.Coord3 c)) c, refl, k.0, k.1.0, k.1.1.0)
@@ -61,7 +68,8 @@ unlike : {X : Type 0} (x : X) → None ≡ Some x → ⊥
 unlike {X} x e = true≢false (sym (ap (λ (o : Option X). is_some o) e))
 
 -- a name that breaks no rule is visible
-pub named_visible : (s : Scope) (owner : Ident) (t : TypeSyntax) (n : Ident) → name_alone t ≡ Some n → type_faults s owner t ≡ [] → is_visible s n.text ≡ true
+pub named_visible : (s : Scope) (owner : Ident) (t : TypeSyntax) (n : Ident) → name_alone t ≡ Some n
+    → type_faults s owner t ≡ [] → is_visible s n.text ≡ true
 named_visible s owner (syntax.Named k) n q e = subst (λ (m : Ident). is_visible s m.text ≡ true) (ap (λ (o : Option Ident). same_name o) q) (holds (is_visible s k.text) code.Unknown k e)
   where
     same_name : Option Ident → Ident
@@ -85,13 +93,16 @@ named_visible s owner (syntax.Surface l) n q e = absurd (unlike n q)
 named_visible s owner (syntax.Area l) n q e = absurd (unlike n q)
 
 -- ---- vertices and overlaps
-overlaps_kept : (overlap : Option Decimal) (kind : TypeSyntax) → is_coord kind ≡ true → is_long_overlap overlap kind ≡ false → IsOverlap (scale_of kind) overlap (option_map (overlap_at (scale_of kind)) overlap)
+overlaps_kept : (overlap : Option Decimal) (kind : TypeSyntax) → is_coord kind ≡ true
+    → is_long_overlap overlap kind ≡ false
+    → IsOverlap (scale_of kind) overlap (option_map (overlap_at (scale_of kind)) overlap)
 overlaps_kept None kind c e = refl
 overlaps_kept (Some d) kind c e =
     let short : is_long (scale_of kind) d ≡ false = sym (ap (λ (b : Bool). b && is_long (scale_of kind) d) c) ∙ e in
     (ap (λ (b : Bool). Some (cond b (pos 0) (in_units (scale_of kind) d))) short, few_digits (scale_of kind) d short)
 
-unsuited : (shape : Shape) (kind : TypeSyntax) → is_coord kind ≡ false → is_coord2 kind ≡ false → suits shape kind ≡ true → ⊥
+unsuited : (shape : Shape) (kind : TypeSyntax) → is_coord kind ≡ false → is_coord2 kind ≡ false
+    → suits shape kind ≡ true → ⊥
 unsuited shapes.Polyline kind a b e = true≢false (sym e ∙ a)
 unsuited shapes.Surface kind a b e = true≢false (sym e ∙ b)
 unsuited shapes.Area kind a b e = true≢false (sym e ∙ b)

@@ -1,5 +1,8 @@
 -- Of the tokens of a text those at one place have one text.
-use Rattle.std.proofs.Common.{◌≡◌, ◌<◌, ◌≤◌, ◌+◌, ◌-◌, ◌⊎◌, inl, inr, ℕ, zero, suc, Bool, true, false, cond, not, ◌==◌, nat_lt, List, [], ◌∷◌, length, take, drop, get_or, Option, Some, None, refl, sym, ap, ◌∙◌, subst, arith, take-suc}
+use Rattle.std.proofs.Common.{◌≡◌, ◌<◌, ◌≤◌, ◌+◌, ◌-◌, ◌⊎◌, inl, inr, ℕ, zero, suc, Bool, true}
+use Rattle.std.proofs.Common.{false, cond, not, ◌==◌, nat_lt, List, [], ◌∷◌, length, take, drop}
+use Rattle.std.proofs.Common.{get_or, Option, Some, None, refl, sym, ap, ◌∙◌, subst, arith}
+use Rattle.std.proofs.Common.{take-suc}
 use Rattle.std.specs.Prelude.{Contains}
 use Rattle.std.specs.List.{suffix_len}
 use Rattle.std.proofs.lemmas.Bool.Decides.{nat_tests}
@@ -7,7 +10,9 @@ use Rattle.std.proofs.lemmas.List.Sums.{sum_by-append, suffix_len-take_yes}
 use Rattle.ili_lexer.specs.Bytes.{is_inside_line}
 use Rattle.ili_lexer.specs.Longest.{IsTaken}
 use Rattle.ili_lexer.specs.Places.{line_after, column_after}
-use Rattle.ili_lexer.specs.Tokens.{Answer, tokens, fault, and_before, token_at, Gives, at_end, passing, taking, at_bad_byte, at_open_explanation, at_long_number, AreTokens}
+use Rattle.ili_lexer.specs.Tokens.{Answer, tokens, fault, and_before, token_at, Gives, at_end}
+use Rattle.ili_lexer.specs.Tokens.{passing, taking, at_bad_byte, at_open_explanation}
+use Rattle.ili_lexer.specs.Tokens.{at_long_number, AreTokens}
 use Rattle.ili_lexer.specs.declared.fronts.Front.TheVariants as front
 use Rattle.ili_lexer.specs.declared.tokens.Kind.{Kind}
 use Rattle.ili_lexer.specs.declared.tokens.Token.{Token}
@@ -47,7 +52,8 @@ module _ (text : List ℕ) where
   ByteBefore i j = Before (line i) (column i) (line j) (column j)
 
   -- one byte further
-  counted : (i : ℕ) (b : Bool) → i < length text → (get_or text i 0 == 10) ≡ b → line (suc i) ≡ line i + cond b 1 0
+  counted : (i : ℕ) (b : Bool) → i < length text → (get_or text i 0 == 10) ≡ b
+      → line (suc i) ≡ line i + cond b 1 0
   unfolding line
   counted i b lt e =
       let more = ap line_after (take-suc text i 0 lt) in
@@ -55,7 +61,8 @@ module _ (text : List ℕ) where
       let one = ap {B = ℕ} (λ (c : Bool). cond c 1 0) e in
       omega (arith, more, both, one)
 
-  inside : (i : ℕ) → i < length text → (get_or text i 0 == 10) ≡ false → column (suc i) ≡ suc (column i)
+  inside : (i : ℕ) → i < length text → (get_or text i 0 == 10) ≡ false
+      → column (suc i) ≡ suc (column i)
   unfolding column
   inside i lt e =
       let back : suc i - 1 ≡ i = omega arith in
@@ -83,7 +90,8 @@ module _ (text : List ℕ) where
       let same : i + suc (j - suc i) ≡ j = omega (arith, lt) in
       apart (line i) (column i) (line j) (column j) (subst (ByteBefore i) same (later i (j - suc i) (omega (arith, same, le)))) e f
 
-  one_place : (i j : ℕ) → i ≤ length text → j ≤ length text → line i ≡ line j → column i ≡ column j → i ≡ j
+  one_place : (i j : ℕ) → i ≤ length text → j ≤ length text → line i ≡ line j → column i ≡ column j
+      → i ≡ j
   one_place i j h k e f = by_order (nat_lt i j) refl (nat_lt j i) refl
     where
       by_order : (a : Bool) → nat_lt i j ≡ a → (b : Bool) → nat_lt j i ≡ b → i ≡ j
@@ -124,7 +132,8 @@ module _ (text : List ℕ) where
       let size : h.offset + h.size - h.offset ≡ h.size = omega arith in
       ap (bytes_of text) h.is ∙ ap (λ (n : ℕ). take n (drop h.offset text)) size
 
-  one_text : (t u : Token) → IsTokenAt t → IsTokenAt u → t.line ≡ u.line → t.column ≡ u.column → bytes_of text t ≡ bytes_of text u
+  one_text : (t u : Token) → IsTokenAt t → IsTokenAt u → t.line ≡ u.line → t.column ≡ u.column
+      → bytes_of text t ≡ bytes_of text u
   unfolding line column
   one_text t u h k e f =
       let on_line : line h.offset ≡ line k.offset = sym (ap (λ (x : Token). x.line) h.is) ∙ e ∙ ap (λ (x : Token). x.line) k.is in
@@ -145,7 +154,8 @@ module _ (text : List ℕ) where
   abbrev info : Tok → Info
   info (tok k i) = i
 
-  found : (p : Option Token) (ts : List Token) (x : Tok) → Each IsTokenAt ts → In (toks_behind text p ts) x → IsInfoAt (info x)
+  found : (p : Option Token) (ts : List Token) (x : Tok) → Each IsTokenAt ts
+      → In (toks_behind text p ts) x → IsInfoAt (info x)
   found p [] x h k = absurd k
   found p (t ∷ ts) x h (inl e) = subst (λ (y : Tok). IsInfoAt (info y)) e (record { token = t; at = h.0; line_is = refl; column_is = refl; text_is = refl })
   found p (t ∷ ts) x h (inr k) = found (Some t) ts x h.1 k

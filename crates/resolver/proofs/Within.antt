@@ -4,7 +4,8 @@ use Rattle.std.specs.List.{All, sum_by}
 use Rattle.std.proofs.lemmas.List.Elements.{All-append}
 use Rattle.std.proofs.lemmas.List.Sums.{sum_by-append, sum_by-cons, get_or-le-sum_by}
 use Rattle.ili_grammar.specs.Syntax.{DomainSyntax, TableSyntax, TopicSyntax, ModelSyntax}
-use Rattle.ili_grammar.specs.Limits.{IsSmallDomain, IsSmallTopic, IsWithinLimits, domain_names, table_names, topic_names}
+use Rattle.ili_grammar.specs.Limits.{IsSmallDomain, IsSmallTopic, IsWithinLimits, domain_names}
+use Rattle.ili_grammar.specs.Limits.{table_names, topic_names}
 use Rattle.resolver.specs.Scopes.{everywhere}
 use Rattle.resolver.specs.Limits.{AreBoundedDomains, IsBoundedTopic}
 
@@ -12,7 +13,8 @@ each_is_named : (ds : List DomainSyntax) → length ds ≤ sum_by domain_names d
 each_is_named [] = omega arith
 each_is_named (d ∷ ds) = omega (arith, each_is_named ds, sum_by-cons domain_names d ds)
 
-bounded_domains : (ds : List DomainSyntax) → All IsSmallDomain ds → sum_by domain_names ds ≤ 4194304 → AreBoundedDomains ds
+bounded_domains : (ds : List DomainSyntax) → All IsSmallDomain ds → sum_by domain_names ds ≤ 4194304
+    → AreBoundedDomains ds
 bounded_domains ds s few = record { each = λ i d lt. record { numbers = s i d lt; names = omega (arith, get_or-le-sum_by domain_names ds i d lt, few) }; few = omega (arith, each_is_named ds, few) }
 
 each_table_is_named : (ts : List TableSyntax) → length ts ≤ sum_by table_names ts

@@ -5,7 +5,8 @@ use Rattle.std.specs.Bool.{Decides}
 pub differ : {P : Type 0} → true ≡ false → P
 differ e = cc
 
-pub or_else : (A B : Type 0) (r s : Bool) → Decides r A → r ≡ false → Decides s B → Decides s (A ⊎ B)
+pub or_else : (A B : Type 0) (r s : Bool) → Decides r A → r ≡ false → Decides s B
+    → Decides s (A ⊎ B)
 or_else A B r s d f e = (
   (λ h. inr (e.0 h)),
   (λ h. elim h [ inl a ↦ differ (sym (d.1 a) ∙ f) | inr b ↦ e.1 b ]),

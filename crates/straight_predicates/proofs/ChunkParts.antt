@@ -1,6 +1,8 @@
 -- A list of which a part was written over.
-use Rattle.std.proofs.Common.{◌≡◌, ℕ, ◌+◌, ◌-◌, ◌<◌, ◌≤◌, min, List, ◌++◌, length, take, drop, arith, ap, sym, ◌∙◌, subst, append_assoc}
-use Rattle.std.proofs.lemmas.List.{take-append-drop, length-append, length-drop, length-take-le, take_all, drop-drop}
+use Rattle.std.proofs.Common.{◌≡◌, ℕ, ◌+◌, ◌-◌, ◌<◌, ◌≤◌, min, List, ◌++◌, length, take, drop}
+use Rattle.std.proofs.Common.{arith, ap, sym, ◌∙◌, subst, append_assoc}
+use Rattle.std.proofs.lemmas.List.{take-append-drop, length-append, length-drop, length-take-le}
+use Rattle.std.proofs.lemmas.List.{take_all, drop-drop}
 use Rattle.std.proofs.Math.Seq.{take-append_seam, drop-append_seam}
 
 drop_twice : {X : Type 0} (i n : ℕ) (xs : List X) → drop (i + n) xs ≡ drop n (drop i xs)
@@ -36,7 +38,8 @@ module _ {X : Type 0} (vs with : List X) (from count : ℕ) (w : from + count �
       ∙ drop-append_seam (take from vs ++ take k with) (drop (from + k) vs)
 
   -- more values than places: the others are put in
-  pub put_in : count ≤ length with → take (from + count) (over count) ++ (drop count with ++ drop (from + count) (over count)) ≡ take from vs ++ (with ++ drop (from + count) vs)
+  pub put_in : count ≤ length with
+      → take (from + count) (over count) ++ (drop count with ++ drop (from + count) (over count)) ≡ take from vs ++ (with ++ drop (from + count) vs)
   put_in m =
       ap (λ xs. xs ++ (drop count with ++ drop (from + count) (over count))) (over_front count m)
       ∙ ap (λ xs. (take from vs ++ take count with) ++ (drop count with ++ xs)) (over_back count m)
@@ -44,7 +47,8 @@ module _ {X : Type 0} (vs with : List X) (from count : ℕ) (w : from + count �
       ∙ ap (λ xs. take from vs ++ xs) (sym (append_assoc (take count with) (drop count with) (drop (from + count) vs)) ∙ ap (λ xs. xs ++ drop (from + count) vs) (take-append-drop count with))
 
   -- no more values than places: the others are taken out
-  pub taken_out : length with ≤ count → take (from + length with) (over (length with)) ++ drop (from + length with + (count - length with)) (over (length with)) ≡ take from vs ++ (with ++ drop (from + count) vs)
+  pub taken_out : length with ≤ count
+      → take (from + length with) (over (length with)) ++ drop (from + length with + (count - length with)) (over (length with)) ≡ take from vs ++ (with ++ drop (from + count) vs)
   taken_out m =
       let k = length with in
       let n : from + k + (count - k) ≡ from + count = omega (arith, m) in
@@ -52,7 +56,8 @@ module _ {X : Type 0} (vs with : List X) (from count : ℕ) (w : from + count �
       ∙ ap (λ xs. (take from vs ++ with) ++ xs) (drop_twice (from + k) (count - k) (over k) ∙ ap (λ xs. drop (count - k) xs) (over_back k (omega arith)) ∙ sym (drop_twice (from + k) (count - k) vs) ∙ ap (λ (j : ℕ). drop j vs) n)
       ∙ append_assoc (take from vs) with (drop (from + count) vs)
 
-pub put_values : {X : Type 0} (vs with vs' new : List X) (from count common : ℕ) → from + count ≤ length vs → common ≡ min count (length with) → common < length with
+pub put_values : {X : Type 0} (vs with vs' new : List X) (from count common : ℕ)
+    → from + count ≤ length vs → common ≡ min count (length with) → common < length with
     → vs' ≡ take from vs ++ (take common with ++ drop (from + length (take common with)) vs)
     → new ≡ take (from + common) vs' ++ (take (length with - common) (drop common with) ++ drop (from + common) vs')
     → new ≡ take from vs ++ (with ++ drop (from + count) vs)
@@ -65,7 +70,8 @@ put_values vs with vs' new from count common w m l e f =
     ∙ subst (λ (k : ℕ). take (from + k) (over vs with from count w k) ++ (drop k with ++ drop (from + k) (over vs with from count w k)) ≡ take from vs ++ (with ++ drop (from + count) vs)) (sym c)
     (put_in vs with from count w (omega (arith, n, c)))
 
-pub take_values : {X : Type 0} (vs with vs' new : List X) (from count common : ℕ) → from + count ≤ length vs → common ≡ min count (length with) → length with ≤ common
+pub take_values : {X : Type 0} (vs with vs' new : List X) (from count common : ℕ)
+    → from + count ≤ length vs → common ≡ min count (length with) → length with ≤ common
     → vs' ≡ take from vs ++ (take common with ++ drop (from + length (take common with)) vs)
     → new ≡ take (from + common) vs' ++ drop (from + common + (count - common)) vs'
     → new ≡ take from vs ++ (with ++ drop (from + count) vs)

@@ -1,6 +1,8 @@
 -- A list in which values are taken out or put in, some at a time.
-use Rattle.std.proofs.Common.{◌≡◌, ℕ, ◌+◌, ◌-◌, ◌≤◌, List, ◌++◌, length, take, drop, arith, ap, sym, ◌∙◌, append_assoc}
-use Rattle.std.proofs.lemmas.List.{take-append-drop, drop-drop, length-append, length-drop, length-take-le, take_at, drop_at}
+use Rattle.std.proofs.Common.{◌≡◌, ℕ, ◌+◌, ◌-◌, ◌≤◌, List, ◌++◌, length, take, drop, arith, ap, sym}
+use Rattle.std.proofs.Common.{◌∙◌, append_assoc}
+use Rattle.std.proofs.lemmas.List.{take-append-drop, drop-drop, length-append, length-drop}
+use Rattle.std.proofs.lemmas.List.{length-take-le, take_at, drop_at}
 
 module _ {T : Type 0} (old : List T) (from count : ℕ) (w : from + count ≤ length old) where
   -- what is left when `left` of the values are still to be taken out
@@ -16,7 +18,9 @@ module _ {T : Type 0} (old : List T) (from count : ℕ) (w : from + count ≤ le
       let b = length-drop (from + (count - left)) old in
       omega (arith, a, b, head_size, w, l)
 
-  pub without_more : (left taken : ℕ) (now new : List T) → left ≤ count → taken ≤ left → now ≡ without left → new ≡ take from now ++ drop (from + taken) now → new ≡ without (left - taken)
+  pub without_more : (left taken : ℕ) (now new : List T) → left ≤ count → taken ≤ left
+      → now ≡ without left → new ≡ take from now ++ drop (from + taken) now
+      → new ≡ without (left - taken)
   without_more left taken now new l m e f =
       let h = drop (from + (count - left)) old in
       let n : from + (count - left) + taken ≡ from + (count - (left - taken)) = omega (arith, l, m) in
@@ -37,7 +41,9 @@ module _ {T : Type 0} (old with : List T) (place : ℕ) (w : place ≤ length ol
   pub including_size : (left : ℕ) → place ≤ length (including left)
   including_size left = let a = length-append (take place old) (drop left with ++ drop place old) in omega (arith, a, front_size)
 
-  pub including_more : (from left : ℕ) (now new : List T) → from ≤ left → now ≡ including left → new ≡ take place now ++ (take (left - from) (drop from with) ++ drop place now) → new ≡ including from
+  pub including_more : (from left : ℕ) (now new : List T) → from ≤ left → now ≡ including left
+      → new ≡ take place now ++ (take (left - from) (drop from with) ++ drop place now)
+      → new ≡ including from
   including_more from left now new l e f =
       let h = drop left with ++ drop place old in
       let n : from + (left - from) ≡ left = omega (arith, l) in

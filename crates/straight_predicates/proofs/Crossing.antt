@@ -1,5 +1,6 @@
 -- Two edges of different lines, neither to one side of the other, have exactly one common place.
-use Rattle.std.proofs.Common.{◌≡◌, ℕ, ℤ, pos, ◌+ℤ◌, ◌*ℤ◌, ◌-ℤ◌, ◌<ℤ◌, ◌≤ℤ◌, inl, inr, [], ◌∷◌, refl, arith, sym, ◌∙◌, subst, ap}
+use Rattle.std.proofs.Common.{◌≡◌, ℕ, ℤ, pos, ◌+ℤ◌, ◌*ℤ◌, ◌-ℤ◌, ◌<ℤ◌, ◌≤ℤ◌, inl, inr, [], ◌∷◌, refl}
+use Rattle.std.proofs.Common.{arith, sym, ◌∙◌, subst, ap}
 use Rattle.std.proofs.lemmas.Int.{ints, by_lt_z}
 use Rattle.plane.specs.declared.kinds.Point.{Point}
 use Rattle.plane.specs.declared.kinds.Edge.{Edge}
@@ -40,7 +41,8 @@ abbrev NONE : Expr
 NONE = num (pos 0)
 
 -- both differences are the cross product of the two directions
-pub sides_differ : (s t : Edge) → side s (point t.high) -ℤ side s (point t.low) ≡ side t (point s.low) -ℤ side t (point s.high)
+pub sides_differ : (s t : Edge)
+    → side s (point t.high) -ℤ side s (point t.low) ≡ side t (point s.low) -ℤ side t (point s.high)
 unfolding side
 sides_differ s t = ring (minus TH TL) (minus SL SH) (ends s t) refl
 
@@ -51,7 +53,8 @@ rising s t = mix (side s (point t.high)) (point t.low) (pos 0 -ℤ side s (point
 abbrev falling : Edge → Edge → Vector
 falling s t = mix (pos 0 -ℤ side s (point t.high)) (point t.low) (side s (point t.low)) (point t.high)
 
-rising_same : (s t : Edge) → Same (rising s t) (mix (pos 0 -ℤ side t (point s.high)) (point s.low) (side t (point s.low)) (point s.high))
+rising_same : (s t : Edge)
+    → Same (rising s t) (mix (pos 0 -ℤ side t (point s.high)) (point s.low) (side t (point s.low)) (point s.high))
 unfolding side
 rising_same s t =
     let low = minus NONE SH in
@@ -63,7 +66,8 @@ rising_same s t =
       y = ring (times (m (at 5) (at 7)) (k one one)) (times (k (at 1) (at 3)) (m one one)) (ends s t) refl;
     }
 
-falling_same : (s t : Edge) → Same (falling s t) (mix (side t (point s.high)) (point s.low) (pos 0 -ℤ side t (point s.low)) (point s.high))
+falling_same : (s t : Edge)
+    → Same (falling s t) (mix (side t (point s.high)) (point s.low) (pos 0 -ℤ side t (point s.low)) (point s.high))
 unfolding side
 falling_same s t =
     let m : Expr → Expr → Expr = λ l h. plus (times (minus NONE TH) l) (times TL h) in
@@ -81,7 +85,8 @@ pub record Common (s t : Edge) : Type 0 where
   pub on_first : edges.OnStraight s z
   pub on_second : edges.OnStraight t z
 
-common_from : (s t : Edge) (i j k l : ℤ) → pos 0 ≤ℤ i → pos 0 ≤ℤ j → pos 0 <ℤ (i +ℤ j) → pos 0 ≤ℤ k → pos 0 ≤ℤ l → pos 0 <ℤ (k +ℤ l)
+common_from : (s t : Edge) (i j k l : ℤ) → pos 0 ≤ℤ i → pos 0 ≤ℤ j → pos 0 <ℤ (i +ℤ j) → pos 0 ≤ℤ k
+    → pos 0 ≤ℤ l → pos 0 <ℤ (k +ℤ l)
     → Same (mix i (point t.low) j (point t.high)) (mix k (point s.low) l (point s.high)) → Common s t
 common_from s t i j k l hi hj ij hk hl kl is =
     let z = mix i (point t.low) j (point t.high) in
@@ -93,7 +98,8 @@ common_from s t i j k l hi hj ij hk hl kl is =
       on_second = mean_on t z i j Z hi hj ij (record { x = refl; y = refl });
     }
 
-common_rising : (s t : Edge) → side s (point t.low) ≤ℤ pos 0 → pos 0 ≤ℤ side s (point t.high) → side s (point t.low) <ℤ side s (point t.high)
+common_rising : (s t : Edge) → side s (point t.low) ≤ℤ pos 0 → pos 0 ≤ℤ side s (point t.high)
+    → side s (point t.low) <ℤ side s (point t.high)
     → (IsAside t s → ⊥) → Common s t
 common_rising s t low high l clear =
     let d = sides_differ s t in
@@ -104,7 +110,8 @@ common_rising s t low high l clear =
     common_from s t (side s (point t.high)) (pos 0 -ℤ side s (point t.low)) (pos 0 -ℤ sh) sl
     high (omega (arith, ints, low)) (omega (arith, ints, l)) (omega (arith, ints, high_most)) low_least (omega (arith, ints, d, l)) (rising_same s t)
 
-common_falling : (s t : Edge) → pos 0 ≤ℤ side s (point t.low) → side s (point t.high) ≤ℤ pos 0 → side s (point t.high) <ℤ side s (point t.low)
+common_falling : (s t : Edge) → pos 0 ≤ℤ side s (point t.low) → side s (point t.high) ≤ℤ pos 0
+    → side s (point t.high) <ℤ side s (point t.low)
     → (IsAside t s → ⊥) → Common s t
 common_falling s t low high l clear =
     let d = sides_differ s t in
@@ -147,7 +154,8 @@ only_low z l h i j hi e is = record {
   y = one z.y l.y h.y z.n l.n h.n i j hi e is.y;
 }
   where
-    one : (zx lx hx zn ln hn i j : ℤ) → pos 0 <ℤ i → j ≡ pos 0 → zx *ℤ ((i *ℤ ln) +ℤ (j *ℤ hn)) ≡ ((i *ℤ lx) +ℤ (j *ℤ hx)) *ℤ zn → zx *ℤ ln ≡ lx *ℤ zn
+    one : (zx lx hx zn ln hn i j : ℤ) → pos 0 <ℤ i → j ≡ pos 0
+        → zx *ℤ ((i *ℤ ln) +ℤ (j *ℤ hn)) ≡ ((i *ℤ lx) +ℤ (j *ℤ hx)) *ℤ zn → zx *ℤ ln ≡ lx *ℤ zn
     one zx lx hx zn ln hn i j hi e is =
         let E = vars (zx ∷ lx ∷ hx ∷ zn ∷ ln ∷ hn ∷ i ∷ j ∷ []) in
         let f = ring (minus (times (at 0) (plus (times (at 6) (at 4)) (times (at 7) (at 5)))) (times (plus (times (at 6) (at 1)) (times (at 7) (at 2))) (at 3)))
@@ -162,7 +170,8 @@ swap_same z l h i j is = record {
   y = ap (λ (n : ℤ). z.y *ℤ n) (omega (arith, ints)) ∙ is.y ∙ ap (λ (n : ℤ). n *ℤ z.n) (omega (arith, ints));
 }
 
-pub only_end : (s t : Edge) → IsAcross s t → (p : Point) → edges.IsEnd s p → edges.IsEnd t p → (z : Vector) → Place z → edges.OnStraight s z → edges.OnStraight t z → Same z (point p)
+pub only_end : (s t : Edge) → IsAcross s t → (p : Point) → edges.IsEnd s p → edges.IsEnd t p
+    → (z : Vector) → Place z → edges.OnStraight s z → edges.OnStraight t z → Same z (point p)
 only_end s t across p sp tp z Z on_s on_t =
     let b = balanced s t z Z (on_line s z on_s) on_t in
     let zero = end_on_line s p sp in
@@ -174,7 +183,8 @@ only_end s t across p sp tp z Z on_s on_t =
         (λ (e : h ≡ pos 0). absurd (n e))
         (λ (l : pos 0 <ℤ h). cancel_zero h j l (ring (times (at 1) (at 0)) (times (at 0) (at 1)) (vars (j ∷ h ∷ [])) refl ∙ k))
 
-    other_zero : (i j g h : ℤ) → g ≡ pos 0 → (h ≡ pos 0 → ⊥) → (i *ℤ g) +ℤ (j *ℤ h) ≡ pos 0 → j ≡ pos 0
+    other_zero : (i j g h : ℤ) → g ≡ pos 0 → (h ≡ pos 0 → ⊥) → (i *ℤ g) +ℤ (j *ℤ h) ≡ pos 0
+        → j ≡ pos 0
     other_zero i j g h e n zero =
         let f = product_of_zero i g e in
         let k : j *ℤ h ≡ pos 0 = omega (arith, ints, f, zero) in

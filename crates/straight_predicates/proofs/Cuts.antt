@@ -1,5 +1,6 @@
 -- The two halves of a search for a cut.
-use Rattle.std.proofs.Common.{◌≡◌, ℕ, suc, ◌+◌, ◌-◌, ◌/◌, ◌<◌, ℤ, pos, ◌<ℤ◌, ◌≤ℤ◌, Bool, true, false, IsTrue, ◌↔◌, arith, subst}
+use Rattle.std.proofs.Common.{◌≡◌, ℕ, suc, ◌+◌, ◌-◌, ◌/◌, ◌<◌, ℤ, pos, ◌<ℤ◌, ◌≤ℤ◌, Bool, true}
+use Rattle.std.proofs.Common.{false, IsTrue, ◌↔◌, arith, subst}
 use Rattle.std.proofs.lemmas.Int.{by_lt_z}
 
 -- what is so of the middle is so of the edge before the place behind it

@@ -1,5 +1,7 @@
 -- All ends of edges, and what is so of them once they are sorted.
-use Rattle.std.proofs.Common.{◌≡◌, ℕ, zero, suc, ◌+◌, ◌<◌, ◌≤◌, ◌⊎◌, inl, inr, ℤ, ◌<ℤ◌, ◌≤ℤ◌, Bool, true, false, cond, List, [], ◌∷◌, ◌++◌, length, map, take, get_or, refl, arith, ap, sym, ◌∙◌, subst}
+use Rattle.std.proofs.Common.{◌≡◌, ℕ, zero, suc, ◌+◌, ◌<◌, ◌≤◌, ◌⊎◌, inl, inr, ℤ, ◌<ℤ◌, ◌≤ℤ◌, Bool}
+use Rattle.std.proofs.Common.{true, false, cond, List, [], ◌∷◌, ◌++◌, length, map, take, get_or}
+use Rattle.std.proofs.Common.{refl, arith, ap, sym, ◌∙◌, subst}
 use Rattle.std.proofs.lemmas.Int.{ints, by_lt_z}
 use Rattle.std.specs.Ordering.{is_lt, int_cmp, nat_cmp, ordering_then}
 use Rattle.std.specs.declared.cmp.Ordering.{Ordering}
@@ -15,14 +17,16 @@ use Rattle.straight_predicates.specs.EdgeLists.{edge_of, AreSorted}
 use Rattle.straight_predicates.specs.Tables.{AreEndsOf, IsEndOf, ComesFirst, all_ends, ends_of}
 use Rattle.straight_predicates.specs.declared.slots.End.{End}
 use Rattle.straight_predicates.proofs.Orders.{int_less, int_equal, nat_not_less}
-use Rattle.straight_predicates.proofs.Permutations.{has_permutation, once_permutation, sorted_neighbours}
+use Rattle.straight_predicates.proofs.Permutations.{has_permutation, once_permutation}
+use Rattle.straight_predicates.proofs.Permutations.{sorted_neighbours}
 
 pub never : (p : Point) → Before p p → ⊥
 never p (inl l) = omega (arith, ints, l)
 never p (inr l) = let k = l.1 in omega (arith, ints, k)
 
 -- one edge more
-pub ends_more : (k : ℕ) (edges : List Edge) (e : Edge) → all_ends k (edges ++ e ∷ []) ≡ all_ends k edges ++ ends_of (k + length edges) e
+pub ends_more : (k : ℕ) (edges : List Edge) (e : Edge)
+    → all_ends k (edges ++ e ∷ []) ≡ all_ends k edges ++ ends_of (k + length edges) e
 ends_more k [] e = ap (λ (n : ℕ). ends_of n e) (omega arith)
 ends_more k (d ∷ edges) e =
     ap (λ zs. ends_of k d ++ zs) (ends_more (suc k) edges e ∙ ap (λ (n : ℕ). all_ends (suc k) edges ++ ends_of n e) (omega arith))
@@ -83,7 +87,8 @@ key_cmp x y = ordering_then (ordering_then (int_cmp x.0 y.0) (int_cmp x.1 y.1)) 
 clash : true ≡ false → ⊥
 clash q = cc
 
-not_after : (y z : End) → is_lt (key_cmp (key_of z) (key_of y)) ≡ false → Before y.at z.at ⊎ ((y.at ≡ z.at) × (y.edge ≤ z.edge))
+not_after : (y z : End) → is_lt (key_cmp (key_of z) (key_of y)) ≡ false
+    → Before y.at z.at ⊎ ((y.at ≡ z.at) × (y.edge ≤ z.edge))
 not_after y z h =
     by_lt_z y.at.x z.at.x
     (λ (l : y.at.x <ℤ z.at.x). inl (inl l))
@@ -103,7 +108,8 @@ not_after y z h =
     inr (point_eq y.at z.at (sym ex) (sym ey), nat_not_less z.edge y.edge hy)))))
 
 -- two ends of one point and one edge are one end
-one_end : (edges : List Edge) → AreSorted edges → (y z : End) → IsEndOf edges y → IsEndOf edges z → y.at ≡ z.at → y.edge ≡ z.edge → code y ≡ code z
+one_end : (edges : List Edge) → AreSorted edges → (y z : End) → IsEndOf edges y → IsEndOf edges z
+    → y.at ≡ z.at → y.edge ≡ z.edge → code y ≡ code z
 one_end edges s y z a b p q = by_side y.starts z.starts refl refl
   where
     sides : (edge_of edges y.edge).low ≡ (edge_of edges y.edge).high → ⊥
@@ -130,7 +136,8 @@ one_end edges s y z a b p q = by_side y.starts z.starts refl refl
         high_is : y.starts ≡ false → y.at ≡ (edge_of edges y.edge).high
         high_is e = a.at ∙ ap (λ (t : Bool). cond t (edge_of edges y.edge).low (edge_of edges y.edge).high) e
 
-rising : (edges : List Edge) → AreSorted edges → (zs : List End) → ((z : End) → Has z zs → IsEndOf edges z) → Once (map code zs)
+rising : (edges : List Edge) → AreSorted edges → (zs : List End)
+    → ((z : End) → Has z zs → IsEndOf edges z) → Once (map code zs)
     → Neighbours (λ y z. is_lt (key_cmp (key_of z) (key_of y)) ≡ false) zs → Neighbours ComesFirst zs
 rising edges s [] f o h = tt
 rising edges s (z ∷ []) f o h = (tt, tt)
@@ -145,7 +152,8 @@ rising edges s (y ∷ (z ∷ zs)) f o h = (
 from_zero : (n i : ℕ) → n ≡ 0 + i → n ≡ i
 from_zero n i q = omega (arith, q)
 
-pub sorted_all : (edges : List Edge) (zs : List End) → AreSorted edges → IsPermutation (all_ends 0 edges) zs → IsSortedByKey key_of key_cmp zs → AreEndsOf edges zs
+pub sorted_all : (edges : List Edge) (zs : List End) → AreSorted edges
+    → IsPermutation (all_ends 0 edges) zs → IsSortedByKey key_of key_cmp zs → AreEndsOf edges zs
 sorted_all edges zs s p h =
     let only : (z : End) → Has z zs → IsEndOf edges z = λ z i.
     (let b = all_only 0 edges z (has_permutation zs (all_ends 0 edges) z (IsPermutation-sym (all_ends 0 edges) zs p) i) in
@@ -158,7 +166,8 @@ sorted_all edges zs s p h =
       size = length_permutation (all_ends 0 edges) zs p ∙ all_size 0 edges;
     }
 
-pub ends_step : (edges : List Edge) (i : ℕ) (d : Edge) (ends new : List End) → i < length edges → ends ≡ all_ends 0 (take i edges) → new ≡ ends ++ ends_of i (get_or edges i d)
+pub ends_step : (edges : List Edge) (i : ℕ) (d : Edge) (ends new : List End) → i < length edges
+    → ends ≡ all_ends 0 (take i edges) → new ≡ ends ++ ends_of i (get_or edges i d)
     → new ≡ all_ends 0 (take (i + 1) edges)
 ends_step edges i d ends new l e f =
     let size : length (take i edges) ≡ i = length-take-le i edges (omega (arith, l)) in

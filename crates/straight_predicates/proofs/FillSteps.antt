@@ -1,6 +1,9 @@
 -- The loop that writes the events, one group a turn.
-use Rattle.std.proofs.Common.{◌≡◌, ℕ, suc, pos, true, ◌+◌, ◌-◌, ◌<◌, ◌≤◌, List, [], ◌∷◌, ◌++◌, length, map, take, drop, get_or, refl, arith, ap, sym, ◌∙◌, subst, drop_of_length-le}
-use Rattle.std.proofs.lemmas.List.{take_all, take-append-drop, take-append-le, drop-append-le, length-append, length-drop, length-take-le, map-append}
+use Rattle.std.proofs.Common.{◌≡◌, ℕ, suc, pos, true, ◌+◌, ◌-◌, ◌<◌, ◌≤◌, List, [], ◌∷◌, ◌++◌}
+use Rattle.std.proofs.Common.{length, map, take, drop, get_or, refl, arith, ap, sym, ◌∙◌, subst}
+use Rattle.std.proofs.Common.{drop_of_length-le}
+use Rattle.std.proofs.lemmas.List.{take_all, take-append-drop, take-append-le, drop-append-le}
+use Rattle.std.proofs.lemmas.List.{length-append, length-drop, length-take-le, map-append}
 use Rattle.std.proofs.lemmas.List.Elements.{All-push}
 use Rattle.std.proofs.Math.Seq.{take-add}
 use Rattle.plane.specs.declared.kinds.Edge.{Edge}
@@ -8,21 +11,24 @@ use Rattle.plane.specs.Forms.Vectors.{Before}
 use Rattle.plane.specs.Runs.Timetables.{IsTimetable}
 use Rattle.straight_predicates.specs.EdgeLists.{edge_of, AreSorted}
 use Rattle.straight_predicates.specs.Slots.{AreSlots, IsSlot, part_of, timed_at}
-use Rattle.straight_predicates.specs.Tables.{AddsEvent, AreEndsOf, IsFilled, IsFilledTo, IsGroup, IsGroupOf}
+use Rattle.straight_predicates.specs.Tables.{AddsEvent, AreEndsOf, IsFilled, IsFilledTo, IsGroup}
+use Rattle.straight_predicates.specs.Tables.{IsGroupOf}
 use Rattle.straight_predicates.specs.declared.slots.End.{End}
 use Rattle.straight_predicates.specs.declared.slots.Slot.{Slot}
 use Rattle.straight_predicates.proofs.Filling.{filled_more, filled_none, filled_all}
 use Rattle.straight_predicates.proofs.Groups.{IsCut, cut_group, drop_twice}
 
 -- ---- slots whose numbers grow
-part_kept : (numbers more : List ℕ) (from upto : ℕ) → from ≤ upto → upto ≤ length numbers → part_of (numbers ++ more) from upto ≡ part_of numbers from upto
+part_kept : (numbers more : List ℕ) (from upto : ℕ) → from ≤ upto → upto ≤ length numbers
+    → part_of (numbers ++ more) from upto ≡ part_of numbers from upto
 part_kept numbers more from upto l m =
     let size = length-drop from numbers in
     let k : from ≤ length numbers = omega (arith, l, m) in
     let n : upto - from ≤ length (drop from numbers) = omega (arith, l, m, size) in
     ap (λ (ns : List ℕ). take (upto - from) ns) (drop-append-le from numbers more k) ∙ take-append-le (upto - from) (drop from numbers) more n
 
-timed_kept : (numbers more : List ℕ) (s : Slot) → IsSlot (length numbers) s → timed_at (numbers ++ more) s ≡ timed_at numbers s
+timed_kept : (numbers more : List ℕ) (s : Slot) → IsSlot (length numbers) s
+    → timed_at (numbers ++ more) s ≡ timed_at numbers s
 timed_kept numbers more s w =
     let a = w.first in
     let b = w.second in
@@ -31,7 +37,8 @@ timed_kept numbers more s w =
     let f = part_kept numbers more s.middle s.upto b c in
     λ i. record { at = s.at; ending = e i; starting = f i }
 
-slots_kept : (numbers more : List ℕ) (slots : List Slot) → AreSlots (length numbers) slots → map (timed_at (numbers ++ more)) slots ≡ map (timed_at numbers) slots
+slots_kept : (numbers more : List ℕ) (slots : List Slot) → AreSlots (length numbers) slots
+    → map (timed_at (numbers ++ more)) slots ≡ map (timed_at numbers) slots
 slots_kept numbers more [] w = refl
 slots_kept numbers more (s ∷ slots) w =
     let e = timed_kept numbers more s (w 0 s (omega arith)) in
@@ -64,7 +71,8 @@ module _ (edges : List Edge) (ends : List End) (i n : ℕ) (d : End) (a : AreEnd
       let s = ap length (rest_is ends i) ∙ length-drop i ends in
       omega (arith, w, s, l)
 
-pub room_at : (edges : List Edge) (ends : List End) (i n : ℕ) (slots : List Slot) (numbers : List ℕ) → AreEndsOf edges ends → i < length ends → IsGroup (take (length ends - i) (drop i ends)) n
+pub room_at : (edges : List Edge) (ends : List End) (i n : ℕ) (slots : List Slot) (numbers : List ℕ)
+    → AreEndsOf edges ends → i < length ends → IsGroup (take (length ends - i) (drop i ends)) n
     → IsFilledTo edges ends i slots numbers → length numbers + length (take (i + n - i) (drop i ends)) ≤ length edges + length edges
 room_at edges ends i n slots numbers a l g f =
     let b = bound edges ends i n (z_of) a l g in
@@ -76,7 +84,8 @@ room_at edges ends i n slots numbers a l g f =
     z_of : End
     z_of = get_or ends 0 (record { at = record { x = pos 0; y = pos 0 }; edge = 0; starts = true })
 
-pub begin : (edges : List Edge) (ends : List End) (slots : List Slot) (numbers : List ℕ) → slots ≡ [] → numbers ≡ [] → IsFilledTo edges ends 0 slots numbers
+pub begin : (edges : List Edge) (ends : List End) (slots : List Slot) (numbers : List ℕ)
+    → slots ≡ [] → numbers ≡ [] → IsFilledTo edges ends 0 slots numbers
 begin edges ends slots numbers e f =
     let start : IsFilledTo edges ends 0 [] [] = record {
       within = omega arith;
@@ -89,7 +98,8 @@ begin edges ends slots numbers e f =
 
 module _ (edges : List Edge) (ends : List End) (i n : ℕ) (d : End) (slots : List Slot) (numbers : List ℕ) (new_slots : List Slot) (new_numbers : List ℕ)
     (a : AreEndsOf edges ends) (l : i < length ends) (g : IsGroup (take (length ends - i) (drop i ends)) n) (f : IsFilledTo edges ends i slots numbers) where
-  done : AddsEvent (edge_of edges) (take n (drop i ends)) slots numbers new_slots new_numbers → IsFilledTo edges ends (i + n) new_slots new_numbers
+  done : AddsEvent (edge_of edges) (take n (drop i ends)) slots numbers new_slots new_numbers
+      → IsFilledTo edges ends (i + n) new_slots new_numbers
   done e =
       let c = cut edges ends i n d a l g in
       let b = bound edges ends i n d a l g in
@@ -120,10 +130,13 @@ module _ (edges : List Edge) (ends : List End) (i n : ℕ) (d : End) (slots : Li
           ∙ map-append (timed_at new_numbers) slots (e.slot ∷ [])
           ∙ ap (λ ts. ts ++ timed_at new_numbers e.slot ∷ []) (ap (λ (ns : List ℕ). map (timed_at ns) slots) e.numbers ∙ slots_kept numbers e.more slots f.slots)
 
-  pub step : AddsEvent (edge_of edges) (take (i + n - i) (drop i ends)) slots numbers new_slots new_numbers → IsFilledTo edges ends (i + n) new_slots new_numbers
+  pub step : AddsEvent (edge_of edges) (take (i + n - i) (drop i ends)) slots numbers new_slots new_numbers
+      → IsFilledTo edges ends (i + n) new_slots new_numbers
   step e = done (subst (λ zs. AddsEvent (edge_of edges) zs slots numbers new_slots new_numbers) (group_is ends i n) e)
 
-pub table_at_end : (edges : List Edge) (ends : List End) (i : ℕ) (slots : List Slot) (numbers : List ℕ) → AreSorted edges → AreEndsOf edges ends → length ends ≤ i → IsFilledTo edges ends i slots numbers
+pub table_at_end : (edges : List Edge) (ends : List End) (i : ℕ) (slots : List Slot) (numbers : List ℕ)
+    → AreSorted edges → AreEndsOf edges ends → length ends ≤ i
+    → IsFilledTo edges ends i slots numbers
     → IsTimetable (length edges) (edge_of edges) (map (timed_at numbers) slots)
 table_at_end edges ends i slots numbers s a l f =
     filled_all edges ends (map (timed_at numbers) slots) s a

@@ -1,12 +1,14 @@
 -- How the events of sorted ends make a timetable, group by group.
-use Rattle.std.proofs.Common.{◌≡◌, ℕ, ◌⊎◌, inl, inr, Bool, true, false, cond, List, [], ◌∷◌, ◌++◌, length, map, refl, ap, sym, ◌∙◌, subst}
+use Rattle.std.proofs.Common.{◌≡◌, ℕ, ◌⊎◌, inl, inr, Bool, true, false, cond, List, [], ◌∷◌, ◌++◌}
+use Rattle.std.proofs.Common.{length, map, refl, ap, sym, ◌∙◌, subst}
 use Rattle.std.proofs.lemmas.List.{map-append}
 use Rattle.plane.specs.declared.kinds.Point.{Point}
 use Rattle.plane.specs.declared.kinds.Edge.{Edge}
 use Rattle.plane.specs.Forms.Vectors.{Before}
 use Rattle.plane.specs.Lists.{First, Has, Neighbours}
 use Rattle.plane.specs.Runs.Timetables.{Timed, IsTimed, IsTimetable}
-use Rattle.plane.proofs.ListLemmas.Lists.{each_has, each_from, each_map, each_append, has_front, has_back, has_append, neighbours_append, last_from}
+use Rattle.plane.proofs.ListLemmas.Lists.{each_has, each_from, each_map, each_append, has_front}
+use Rattle.plane.proofs.ListLemmas.Lists.{has_back, has_append, neighbours_append, last_from}
 use Rattle.straight_predicates.specs.EdgeLists.{edge_of, AreSorted}
 use Rattle.straight_predicates.specs.declared.slots.End.{End}
 use Rattle.straight_predicates.specs.Tables.{AreEndsOf, IsEndOf, IsFilled, IsTimedBy}
@@ -20,7 +22,8 @@ map_has f x [] h = absurd h
 map_has f x (y ∷ xs) (inl q) = inl (ap f q)
 map_has f x (y ∷ xs) (inr h) = inr (map_has f x xs h)
 
-pub has_map : {X Y : Type 0} (f : X → Y) (y : Y) (xs : List X) → Has y (map f xs) → (x : X) × Has x xs × (y ≡ f x)
+pub has_map : {X Y : Type 0} (f : X → Y) (y : Y) (xs : List X) → Has y (map f xs)
+    → (x : X) × Has x xs × (y ≡ f x)
 has_map f y [] h = absurd h
 has_map f y (x ∷ xs) (inl q) = (x, inl refl, q)
 has_map f y (x ∷ xs) (inr h) = let (z, k, q) = has_map f y xs h in (z, inr k, q)
@@ -104,7 +107,8 @@ filled_none E ends = record {
 }
 
 -- ---- at the end
-pub filled_all : (edges : List Edge) (ends : List End) (table : List Timed) → AreSorted edges → AreEndsOf edges ends → IsFilled (edge_of edges) ends [] table
+pub filled_all : (edges : List Edge) (ends : List End) (table : List Timed) → AreSorted edges
+    → AreEndsOf edges ends → IsFilled (edge_of edges) ends [] table
     → IsTimetable (length edges) (edge_of edges) table
 filled_all edges ends table s a f = record {
   events = record {
@@ -130,6 +134,7 @@ filled_all edges ends table s a f = record {
     on_list : (z : End) → Has z ends → Has z.at (map at_of table)
     on_list z k = let (t, i, q) = f.all z k in subst (λ p. Has p (map at_of table)) q (map_has at_of t table i)
 
-    side_of : {p : Point} (z : End) (b : Bool) → z.starts ≡ b → IsEndOf edges z → z.at ≡ p → ((edge_of edges z.edge).low ≡ p) ⊎ ((edge_of edges z.edge).high ≡ p)
+    side_of : {p : Point} (z : End) (b : Bool) → z.starts ≡ b → IsEndOf edges z → z.at ≡ p
+        → ((edge_of edges z.edge).low ≡ p) ⊎ ((edge_of edges z.edge).high ≡ p)
     side_of z true e b q = inl (sym (b.at ∙ ap (λ (t : Bool). cond t (edge_of edges z.edge).low (edge_of edges z.edge).high) e) ∙ q)
     side_of z false e b q = inr (sym (b.at ∙ ap (λ (t : Bool). cond t (edge_of edges z.edge).low (edge_of edges z.edge).high) e) ∙ q)

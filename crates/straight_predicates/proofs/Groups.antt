@@ -1,32 +1,40 @@
 -- The ends of one point: which edges end and start there.
-use Rattle.std.proofs.Common.{◌≡◌, ℕ, zero, suc, ◌+◌, ◌-◌, ◌<◌, ◌≤◌, inl, inr, Bool, true, false, cond, List, [], ◌∷◌, ◌++◌, length, take, drop, get_or, refl, arith, ap, sym, ◌∙◌, subst, append_assoc, append-nil, All}
-use Rattle.std.proofs.lemmas.List.{take_more, take_all, take-append-drop, get_or-take, length-append, length-map, length-take-le}
+use Rattle.std.proofs.Common.{◌≡◌, ℕ, zero, suc, ◌+◌, ◌-◌, ◌<◌, ◌≤◌, inl, inr, Bool, true, false}
+use Rattle.std.proofs.Common.{cond, List, [], ◌∷◌, ◌++◌, length, take, drop, get_or, refl, arith}
+use Rattle.std.proofs.Common.{ap, sym, ◌∙◌, subst, append_assoc, append-nil, All}
+use Rattle.std.proofs.lemmas.List.{take_more, take_all, take-append-drop, get_or-take}
+use Rattle.std.proofs.lemmas.List.{length-append, length-map, length-take-le}
 use Rattle.std.proofs.Math.Seq.{take-append_seam, drop-append_seam, drop-nil}
 use Rattle.std.proofs.lemmas.List.Elements.{All-push}
 use Rattle.std.specs.List.Sorted.{IsPermutation, IsSortedBy}
-use Rattle.std.proofs.lemmas.List.Sorted.{IsPermutation-sym, IsPermutation-map, All-permutation, length_permutation}
+use Rattle.std.proofs.lemmas.List.Sorted.{IsPermutation-sym, IsPermutation-map, All-permutation}
+use Rattle.std.proofs.lemmas.List.Sorted.{length_permutation}
 use Rattle.plane.specs.declared.kinds.Point.{Point}
 use Rattle.plane.specs.declared.kinds.Edge.{Edge}
 use Rattle.plane.specs.Forms.Vectors.{Before}
 use Rattle.plane.specs.Lists.{Has, Neighbours, Once}
 use Rattle.plane.specs.Runs.Timetables.{Timed, BySlope}
-use Rattle.plane.proofs.ListLemmas.Lists.{each_has, each_from, first_from, has_front, has_back, neighbours_map, neighbours_front, neighbours_back}
+use Rattle.plane.proofs.ListLemmas.Lists.{each_has, each_from, first_from, has_front, has_back}
+use Rattle.plane.proofs.ListLemmas.Lists.{neighbours_map, neighbours_front, neighbours_back}
 use Rattle.plane.proofs.ListLemmas.SortedLists.{first_before}
 use Rattle.plane.proofs.MoveLemmas.OneTimetable.{before_trans}
 use Rattle.straight_predicates.specs.EdgeLists.{edge_of}
 use Rattle.straight_predicates.specs.Slopes.{IsRayOf, ray_edges, ray_lt}
 use Rattle.straight_predicates.specs.Slots.{part_of, timed_at}
-use Rattle.straight_predicates.specs.Tables.{AddsEvent, AreEndsOf, ComesFirst, IsEndOf, IsGroup, IsGroupOf, IsSplit, IsTimedBy, ending_of, starting_of}
+use Rattle.straight_predicates.specs.Tables.{AddsEvent, AreEndsOf, ComesFirst, IsEndOf, IsGroup}
+use Rattle.straight_predicates.specs.Tables.{IsGroupOf, IsSplit, IsTimedBy, ending_of, starting_of}
 use Rattle.straight_predicates.specs.declared.rays.Ray.{Ray}
 use Rattle.straight_predicates.specs.declared.slots.End.{End}
 use Rattle.straight_predicates.specs.declared.slots.Slot.{Slot}
 use Rattle.straight_predicates.proofs.Ends.{never}
 use Rattle.straight_predicates.proofs.Filling.{map_has}
-use Rattle.straight_predicates.proofs.Permutations.{contains, has_permutation, once_permutation, sorted_neighbours}
+use Rattle.straight_predicates.proofs.Permutations.{contains, has_permutation, once_permutation}
+use Rattle.straight_predicates.proofs.Permutations.{sorted_neighbours}
 use Rattle.straight_predicates.proofs.RayOrder.{rays_by_slope}
 
 -- ---- one end more
-ending_more : (zs : List End) (z : End) → ending_of (zs ++ z ∷ []) ≡ ending_of zs ++ cond z.starts [] (z.edge ∷ [])
+ending_more : (zs : List End) (z : End)
+    → ending_of (zs ++ z ∷ []) ≡ ending_of zs ++ cond z.starts [] (z.edge ∷ [])
 ending_more [] z = refl
 ending_more (y ∷ zs) z = by_side y.starts (ending_more zs z)
   where
@@ -35,20 +43,24 @@ ending_more (y ∷ zs) z = by_side y.starts (ending_more zs z)
     by_side true r = r
     by_side false r = ap (λ (es : List ℕ). y.edge ∷ es) r
 
-starting_more : (zs : List End) (z : End) → starting_of (zs ++ z ∷ []) ≡ starting_of zs ++ cond z.starts (z.edge ∷ []) []
+starting_more : (zs : List End) (z : End)
+    → starting_of (zs ++ z ∷ []) ≡ starting_of zs ++ cond z.starts (z.edge ∷ []) []
 starting_more [] z = refl
 starting_more (y ∷ zs) z = by_side y.starts (starting_more zs z)
   where
-    by_side : (b : Bool) → starting_of (zs ++ z ∷ []) ≡ starting_of zs ++ cond z.starts (z.edge ∷ []) []
+    by_side : (b : Bool)
+        → starting_of (zs ++ z ∷ []) ≡ starting_of zs ++ cond z.starts (z.edge ∷ []) []
         → cond b (y.edge ∷ starting_of (zs ++ z ∷ [])) (starting_of (zs ++ z ∷ [])) ≡ cond b (y.edge ∷ starting_of zs) (starting_of zs) ++ cond z.starts (z.edge ∷ []) []
     by_side false r = r
     by_side true r = ap (λ (es : List ℕ). y.edge ∷ es) r
 
-edges_more : (rays : List Ray) (r : Ray) → ray_edges (rays ++ r ∷ []) ≡ ray_edges rays ++ r.edge ∷ []
+edges_more : (rays : List Ray) (r : Ray)
+    → ray_edges (rays ++ r ∷ []) ≡ ray_edges rays ++ r.edge ∷ []
 edges_more [] r = refl
 edges_more (s ∷ rays) r = ap (λ (es : List ℕ). s.edge ∷ es) (edges_more rays r)
 
-pub split_low : (edges : List Edge) (group : List End) (i : ℕ) (d : End) (old numbers same : List ℕ) (rays new : List Ray) (r : Ray) → i < length group → (get_or group i d).starts ≡ true
+pub split_low : (edges : List Edge) (group : List End) (i : ℕ) (d : End) (old numbers same : List ℕ) (rays new : List Ray) (r : Ray)
+    → i < length group → (get_or group i d).starts ≡ true
     → IsSplit edges (take i group) old numbers rays → same ≡ numbers → new ≡ rays ++ r ∷ [] → r.edge ≡ (get_or group i d).edge → IsRayOf edges r
     → IsSplit edges (take (i + 1) group) old same new
 split_low edges group i d old numbers same rays new r l side s f e q ray =
@@ -64,7 +76,8 @@ split_low edges group i d old numbers same rays new r l side s f e q ray =
       directions = subst (All (IsRayOf edges)) (sym e) (All-push (IsRayOf edges) rays r s.directions ray);
     }
 
-pub split_high : (edges : List Edge) (group : List End) (i : ℕ) (d : End) (old numbers new : List ℕ) (rays same : List Ray) → i < length group → (get_or group i d).starts ≡ false
+pub split_high : (edges : List Edge) (group : List End) (i : ℕ) (d : End) (old numbers new : List ℕ) (rays same : List Ray)
+    → i < length group → (get_or group i d).starts ≡ false
     → IsSplit edges (take i group) old numbers rays → same ≡ rays → new ≡ numbers ++ (get_or group i d).edge ∷ []
     → IsSplit edges (take (i + 1) group) old new same
 split_high edges group i d old numbers new rays same l side s f e =
@@ -81,21 +94,25 @@ split_high edges group i d old numbers new rays same l side s f e =
     }
 
 -- ---- elements
-ending_has : (e : ℕ) (zs : List End) → Has e (ending_of zs) → (z : End) × Has z zs × (z.edge ≡ e) × (z.starts ≡ false)
+ending_has : (e : ℕ) (zs : List End) → Has e (ending_of zs)
+    → (z : End) × Has z zs × (z.edge ≡ e) × (z.starts ≡ false)
 ending_has e [] h = absurd h
 ending_has e (z ∷ zs) h = by_side (ending_has e zs) z.starts refl h
   where
-    by_side : (Has e (ending_of zs) → (y : End) × Has y zs × (y.edge ≡ e) × (y.starts ≡ false)) → (b : Bool) → z.starts ≡ b → Has e (cond b (ending_of zs) (z.edge ∷ ending_of zs))
+    by_side : (Has e (ending_of zs) → (y : End) × Has y zs × (y.edge ≡ e) × (y.starts ≡ false))
+        → (b : Bool) → z.starts ≡ b → Has e (cond b (ending_of zs) (z.edge ∷ ending_of zs))
         → (y : End) × Has y (z ∷ zs) × (y.edge ≡ e) × (y.starts ≡ false)
     by_side r true q h = let (y, i, k, m) = r h in (y, inr i, k, m)
     by_side r false q (inl k) = (z, inl refl, sym k, q)
     by_side r false q (inr h) = let (y, i, k, m) = r h in (y, inr i, k, m)
 
-starting_has : (e : ℕ) (zs : List End) → Has e (starting_of zs) → (z : End) × Has z zs × (z.edge ≡ e) × (z.starts ≡ true)
+starting_has : (e : ℕ) (zs : List End) → Has e (starting_of zs)
+    → (z : End) × Has z zs × (z.edge ≡ e) × (z.starts ≡ true)
 starting_has e [] h = absurd h
 starting_has e (z ∷ zs) h = by_side (starting_has e zs) z.starts refl h
   where
-    by_side : (Has e (starting_of zs) → (y : End) × Has y zs × (y.edge ≡ e) × (y.starts ≡ true)) → (b : Bool) → z.starts ≡ b → Has e (cond b (z.edge ∷ starting_of zs) (starting_of zs))
+    by_side : (Has e (starting_of zs) → (y : End) × Has y zs × (y.edge ≡ e) × (y.starts ≡ true))
+        → (b : Bool) → z.starts ≡ b → Has e (cond b (z.edge ∷ starting_of zs) (starting_of zs))
         → (y : End) × Has y (z ∷ zs) × (y.edge ≡ e) × (y.starts ≡ true)
     by_side r false q h = let (y, i, k, m) = r h in (y, inr i, k, m)
     by_side r true q (inl k) = (z, inl refl, sym k, q)
@@ -110,7 +127,8 @@ has_ending z (y ∷ zs) (inl e) q = by_side y.starts (ap (λ (x : End). x.starts
     by_side false k = inl (ap (λ (x : End). x.edge) e)
 has_ending z (y ∷ zs) (inr h) q = by_side (has_ending z zs h q) y.starts
   where
-    by_side : Has z.edge (ending_of zs) → (b : Bool) → Has z.edge (cond b (ending_of zs) (y.edge ∷ ending_of zs))
+    by_side : Has z.edge (ending_of zs) → (b : Bool)
+        → Has z.edge (cond b (ending_of zs) (y.edge ∷ ending_of zs))
     by_side r true = r
     by_side r false = inr r
 
@@ -123,7 +141,8 @@ has_starting z (y ∷ zs) (inl e) q = by_side y.starts (ap (λ (x : End). x.star
     by_side true k = inl (ap (λ (x : End). x.edge) e)
 has_starting z (y ∷ zs) (inr h) q = by_side (has_starting z zs h q) y.starts
   where
-    by_side : Has z.edge (starting_of zs) → (b : Bool) → Has z.edge (cond b (y.edge ∷ starting_of zs) (starting_of zs))
+    by_side : Has z.edge (starting_of zs) → (b : Bool)
+        → Has z.edge (cond b (y.edge ∷ starting_of zs) (starting_of zs))
     by_side r false = r
     by_side r true = inr r
 
@@ -131,14 +150,16 @@ has_starting z (y ∷ zs) (inr h) q = by_side (has_starting z zs h q) y.starts
 abbrev Less : End → End → Type 0
 Less y z = y.edge < z.edge
 
-least : (z : End) (zs : List End) → Neighbours Less (z ∷ zs) → (y : End) → Has y zs → z.edge < y.edge
+least : (z : End) (zs : List End) → Neighbours Less (z ∷ zs) → (y : End) → Has y zs
+    → z.edge < y.edge
 least z zs h y k = first_before Less (λ x. Unit {0}) (λ x u l. omega (arith, l)) (λ x y z a b c l m. omega (arith, l, m)) z y zs (λ x i. tt) h k
 
 ending_rises : (zs : List End) → Neighbours Less zs → Neighbours (λ (a b : ℕ). a < b) (ending_of zs)
 ending_rises [] h = tt
 ending_rises (z ∷ zs) h = by_side (ending_rises zs h.1) z.starts
   where
-    by_side : Neighbours (λ (a b : ℕ). a < b) (ending_of zs) → (b : Bool) → Neighbours (λ (a b : ℕ). a < b) (cond b (ending_of zs) (z.edge ∷ ending_of zs))
+    by_side : Neighbours (λ (a b : ℕ). a < b) (ending_of zs) → (b : Bool)
+        → Neighbours (λ (a b : ℕ). a < b) (cond b (ending_of zs) (z.edge ∷ ending_of zs))
     by_side r true = r
     by_side r false = (
       first_from (λ (b : ℕ). z.edge < b) (ending_of zs) (each_from (λ (b : ℕ). z.edge < b) (ending_of zs) (λ e k. let (y, i, q, m) = ending_has e zs k in subst (λ (b : ℕ). z.edge < b) q (least z zs h y i))),
@@ -149,12 +170,14 @@ starting_once : (zs : List End) → Neighbours Less zs → Once (starting_of zs)
 starting_once [] h = tt
 starting_once (z ∷ zs) h = by_side (starting_once zs h.1) z.starts
   where
-    by_side : Once (starting_of zs) → (b : Bool) → Once (cond b (z.edge ∷ starting_of zs) (starting_of zs))
+    by_side : Once (starting_of zs) → (b : Bool)
+        → Once (cond b (z.edge ∷ starting_of zs) (starting_of zs))
     by_side r false = r
     by_side r true = ((λ k. let (y, i, q, m) = starting_has z.edge zs k in let l = least z zs h y i in omega (arith, l, q)), r)
 
 -- ---- the event of a group
-part_first : (old ending starting : List ℕ) (from middle : ℕ) → from ≡ length old → middle ≡ length (old ++ ending) → part_of ((old ++ ending) ++ starting) from middle ≡ ending
+part_first : (old ending starting : List ℕ) (from middle : ℕ) → from ≡ length old
+    → middle ≡ length (old ++ ending) → part_of ((old ++ ending) ++ starting) from middle ≡ ending
 part_first old ending starting from middle e f =
     let n : middle - from ≡ length ending = omega (arith, e, f, length-append old ending) in
     ap (λ (k : ℕ). take (middle - from) (drop k ((old ++ ending) ++ starting))) e
@@ -163,7 +186,8 @@ part_first old ending starting from middle e f =
     ∙ ap (λ (ns : List ℕ). take (length ending) ns) (drop-append_seam old (ending ++ starting))
     ∙ take-append_seam ending starting
 
-part_second : (front starting : List ℕ) (middle upto : ℕ) → middle ≡ length front → upto ≡ length (front ++ starting) → part_of (front ++ starting) middle upto ≡ starting
+part_second : (front starting : List ℕ) (middle upto : ℕ) → middle ≡ length front
+    → upto ≡ length (front ++ starting) → part_of (front ++ starting) middle upto ≡ starting
 part_second front starting middle upto e f =
     let n : upto - middle ≡ length starting = omega (arith, e, f, length-append front starting) in
     ap (λ (k : ℕ). take (upto - middle) (drop k (front ++ starting))) e
@@ -176,7 +200,8 @@ pub sizes_add : (zs : List End) → length (ending_of zs) + length (starting_of 
 sizes_add [] = refl
 sizes_add (z ∷ zs) = by_side (sizes_add zs) z.starts
   where
-    by_side : length (ending_of zs) + length (starting_of zs) ≡ length zs → (b : Bool) → length (cond b (ending_of zs) (z.edge ∷ ending_of zs)) + length (cond b (z.edge ∷ starting_of zs) (starting_of zs)) ≡ length (z ∷ zs)
+    by_side : length (ending_of zs) + length (starting_of zs) ≡ length zs → (b : Bool)
+        → length (cond b (ending_of zs) (z.edge ∷ ending_of zs)) + length (cond b (z.edge ∷ starting_of zs) (starting_of zs)) ≡ length (z ∷ zs)
     by_side r true = omega (arith, r)
     by_side r false = omega (arith, r)
 
@@ -202,7 +227,8 @@ module _ (edges : List Edge) (group : List End) (at : Point) (g : IsGroupOf edge
       let (a, p) = each_has (λ (z : End). IsEndOf edges z × (z.at ≡ at)) group z g.only i in
       subst (λ y. Has y group) (λ j. record { at = p j; edge = q j; starts = m j }) i
 
-  pub group_timed : (t : Timed) → t.at ≡ at → t.ending ≡ ending_of group → t.starting ≡ ray_edges sorted → IsTimedBy (edge_of edges) group t
+  pub group_timed : (t : Timed) → t.at ≡ at → t.ending ≡ ending_of group
+      → t.starting ≡ ray_edges sorted → IsTimedBy (edge_of edges) group t
   group_timed t ea ee es = record {
     starting = λ e. (
       (λ k. let (z, i, q, m) = starting_has e group (start_has e (subst (λ (ns : List ℕ). Has e ns) es k)) in
@@ -220,7 +246,8 @@ module _ (edges : List Edge) (group : List End) (at : Point) (g : IsGroupOf edge
     by_number = subst (λ (ns : List ℕ). Neighbours (λ (a b : ℕ). a < b) ns) (sym ee) (ending_rises group g.rising);
   }
 
-pub same_first : (zs : List End) (b d : End) → 0 < length zs → (get_or zs 0 d).at ≡ (get_or zs 0 b).at
+pub same_first : (zs : List End) (b d : End) → 0 < length zs
+    → (get_or zs 0 d).at ≡ (get_or zs 0 b).at
 same_first [] b d l = absurd (omega (arith, l))
 same_first (z ∷ zs) b d l = refl
 
@@ -256,7 +283,8 @@ event_made edges group d old mid new old_slots new_slots rays sorted at from mid
     same_size : length (ray_edges sorted) ≡ length (starting_of group)
     same_size = length-map sorted (λ (r : Ray). r.edge) ∙ length_permutation rays sorted perm ∙ sym (length-map rays (λ (r : Ray). r.edge)) ∙ ap length s.rays
 
-pub nothing_split : (edges : List Edge) (old : List ℕ) (rays : List Ray) → rays ≡ [] → IsSplit edges [] old old rays
+pub nothing_split : (edges : List Edge) (old : List ℕ) (rays : List Ray) → rays ≡ []
+    → IsSplit edges [] old old rays
 nothing_split edges old rays e = record {
   numbers = sym (append-nil old);
   rays = ap ray_edges e;
@@ -267,13 +295,17 @@ nothing_split edges old rays e = record {
     no_more [] k e l = omega (arith, l)
     no_more (r ∷ rays) k e l = cc
 
-pub split_whole : (edges : List Edge) (group : List End) (i : ℕ) (old new : List ℕ) (rays : List Ray) → length group ≤ i → IsSplit edges (take i group) old new rays → IsSplit edges group old new rays
+pub split_whole : (edges : List Edge) (group : List End) (i : ℕ) (old new : List ℕ) (rays : List Ray)
+    → length group ≤ i → IsSplit edges (take i group) old new rays
+    → IsSplit edges group old new rays
 split_whole edges group i old new rays l s = subst (λ zs. IsSplit edges zs old new rays) (take_all i group l) s
 
-pub sizes_after : (edges : List Edge) (group : List End) (old mid : List ℕ) (rays : List Ray) → IsSplit edges group old mid rays → length mid ≤ length old + length group
+pub sizes_after : (edges : List Edge) (group : List End) (old mid : List ℕ) (rays : List Ray)
+    → IsSplit edges group old mid rays → length mid ≤ length old + length group
 sizes_after edges group old mid rays s = let h = ap length s.numbers ∙ length-append old (ending_of group) in let k = sizes_add group in omega (arith, h, k)
 
-pub sizes_at_end : (edges : List Edge) (group : List End) (old mid new : List ℕ) (rays sorted : List Ray) → IsSplit edges group old mid rays → IsPermutation rays sorted → new ≡ mid ++ ray_edges sorted
+pub sizes_at_end : (edges : List Edge) (group : List End) (old mid new : List ℕ) (rays sorted : List Ray)
+    → IsSplit edges group old mid rays → IsPermutation rays sorted → new ≡ mid ++ ray_edges sorted
     → length new ≡ length old + length group
 sizes_at_end edges group old mid new rays sorted s p e =
     let h = ap length s.numbers ∙ length-append old (ending_of group) in
@@ -293,7 +325,9 @@ comes_trans x y z (inl a) (inr b) = inl (subst (λ p. Before x.at p) b.0 a)
 comes_trans x y z (inr a) (inl b) = inl (subst (λ p. Before p z.at) (sym a.0) b)
 comes_trans x y z (inr a) (inr b) = let l = a.1 in let m = b.1 in inr (a.0 ∙ b.0, omega (arith, l, m))
 
-after_group : (v : Point) (xs : List End) (n : ℕ) → Neighbours ComesFirst xs → ((k : ℕ) (d : End) → k < n → (get_or xs k d).at ≡ v) → ((d : End) → n < length xs → (get_or xs n d).at ≡ v → ⊥)
+after_group : (v : Point) (xs : List End) (n : ℕ) → Neighbours ComesFirst xs
+    → ((k : ℕ) (d : End) → k < n → (get_or xs k d).at ≡ v)
+    → ((d : End) → n < length xs → (get_or xs n d).at ≡ v → ⊥)
     → 0 < n → (z : End) → Has z (drop n xs) → Before v z.at
 after_group v xs zero h f g l z k = absurd (omega (arith, l))
 after_group v [] (suc n) h f g l z k = absurd k
@@ -314,9 +348,11 @@ after_group v (x ∷ xs) (suc (suc n)) h f g l z k =
 -- what is known of a group of the ends from i on
 pub record IsCut (edges : List Edge) (ends : List End) (i n : ℕ) (d : End) : Type 0 where
   pub group : IsGroupOf edges (get_or (take n (drop i ends)) 0 d).at (take n (drop i ends))
-  pub here : (z : End) → Has z (take n (drop i ends)) → z.at ≡ (get_or (take n (drop i ends)) 0 d).at
+  pub here : (z : End) → Has z (take n (drop i ends))
+      → z.at ≡ (get_or (take n (drop i ends)) 0 d).at
   pub some : (z : End) × Has z (take n (drop i ends))
-  pub later : (z : End) → Has z (drop (i + n) ends) → Before (get_or (take n (drop i ends)) 0 d).at z.at
+  pub later : (z : End) → Has z (drop (i + n) ends)
+      → Before (get_or (take n (drop i ends)) 0 d).at z.at
 
 first_of : (xs : List End) → 0 < length xs → (z : End) × Has z xs
 first_of [] l = absurd (omega (arith, l))
@@ -333,7 +369,8 @@ drop_twice (suc i) n (x ∷ xs) = ap (λ (k : ℕ). drop k (x ∷ xs)) (shift i 
     shift : (i n : ℕ) → suc i + n ≡ suc (i + n)
     shift i n = omega arith
 
-pub cut_group : (edges : List Edge) (ends : List End) (i n : ℕ) (d : End) → AreEndsOf edges ends → IsGroup (drop i ends) n → IsCut edges ends i n d
+pub cut_group : (edges : List Edge) (ends : List End) (i n : ℕ) (d : End) → AreEndsOf edges ends
+    → IsGroup (drop i ends) n → IsCut edges ends i n d
 cut_group edges ends i n d a g = record {
   group = record {
     some = let l = size in let m = g.some in omega (arith, l, m);
@@ -367,12 +404,14 @@ cut_group edges ends i n d a g = record {
         first_at [] l = absurd (let m = g.some in omega (arith, l, m))
         first_at (x ∷ xs) l = refl
 
-    at_here : (z : End) → Has z (take n (drop i ends)) → z.at ≡ (get_or (take n (drop i ends)) 0 d).at
+    at_here : (z : End) → Has z (take n (drop i ends))
+        → z.at ≡ (get_or (take n (drop i ends)) 0 d).at
     at_here z k =
         let (j, l, e) = contains z (take n (drop i ends)) k in
         let m : j < n = let s = size in omega (arith, l, s) in
         ap (λ (y : End). y.at) (sym e ∙ get_or-take n (drop i ends) j z m) ∙ g.one j z m ∙ first_same z
 
-    by_edge : (y z : End) → Has y (take n (drop i ends)) → Has z (take n (drop i ends)) → ComesFirst y z → y.edge < z.edge
+    by_edge : (y z : End) → Has y (take n (drop i ends)) → Has z (take n (drop i ends))
+        → ComesFirst y z → y.edge < z.edge
     by_edge y z j k (inl b) = absurd (never z.at (subst (λ p. Before p z.at) (at_here y j ∙ sym (at_here z k)) b))
     by_edge y z j k (inr e) = e.1

@@ -1,5 +1,6 @@
 -- Writing the events of edges' ends, event by event.
-use Rattle.std.proofs.Common.{◌≡◌, ◌≢◌, ℕ, zero, suc, ◌+◌, ◌<◌, List, [], ◌∷◌, map, length, take, get_or, refl, arith, ap, sym, ◌∙◌, subst, inl, inr}
+use Rattle.std.proofs.Common.{◌≡◌, ◌≢◌, ℕ, zero, suc, ◌+◌, ◌<◌, List, [], ◌∷◌, map, length, take}
+use Rattle.std.proofs.Common.{get_or, refl, arith, ap, sym, ◌∙◌, subst, inl, inr}
 use Rattle.std.proofs.lemmas.Bool.{cases_lt, cases_eq}
 use Rattle.std.proofs.lemmas.List.{get_or-set_other, take_more, length-map}
 use Rattle.std.proofs.lemmas.Grind.{get_or-set_at}
@@ -20,7 +21,8 @@ use Rattle.straight_predicates.specs.EdgeEvents.{AreEventsOf, IsNoted, AreNoted,
 pub none_noted : (event : ℕ) (old : List ℕ) → IsNoted [] event old old
 none_noted event old = record { noted = λ e h. absurd h; others = λ e n. refl }
 
-pub one_noted : (edges : List ℕ) (event : ℕ) (old new : List ℕ) (i x : ℕ) → i < length edges → x ≡ get_or edges i 0 → x < length new
+pub one_noted : (edges : List ℕ) (event : ℕ) (old new : List ℕ) (i x : ℕ) → i < length edges
+    → x ≡ get_or edges i 0 → x < length new
     → IsNoted (take i edges) event old new → IsNoted (take (i + 1) edges) event old (set new x event)
 one_noted edges event old new i x l q b is =
     let more = take_more edges i 0 l in
@@ -38,36 +40,42 @@ one_noted edges event old new i x l q b is =
     }
 
 -- ---- no two events lie at one point
-once_places : {X : Type 0} (xs : List X) (d : X) (j k : ℕ) → Once xs → j < length xs → k < length xs → get_or xs j d ≡ get_or xs k d → j ≡ k
+once_places : {X : Type 0} (xs : List X) (d : X) (j k : ℕ) → Once xs → j < length xs → k < length xs
+    → get_or xs j d ≡ get_or xs k d → j ≡ k
 once_places [] d j k o a b e = absurd (omega (arith, a))
 once_places (x ∷ xs) d zero zero o a b e = refl
 once_places (x ∷ xs) d zero (suc k) o a b e = absurd (o.0 (subst (λ y. Has y xs) (sym e) (has_at xs k d (omega (arith, b)))))
 once_places (x ∷ xs) d (suc j) zero o a b e = absurd (o.0 (subst (λ y. Has y xs) e (has_at xs j d (omega (arith, a)))))
 once_places (x ∷ xs) d (suc j) (suc k) o a b e = ap (λ (n : ℕ). suc n) (once_places xs d j k o.1 (omega (arith, a)) (omega (arith, b)) e)
 
-has_place : {X : Type 0} (xs : List X) (d x : X) → Has x xs → (k : ℕ) × (k < length xs) × (get_or xs k d ≡ x)
+has_place : {X : Type 0} (xs : List X) (d x : X) → Has x xs
+    → (k : ℕ) × (k < length xs) × (get_or xs k d ≡ x)
 has_place [] d x h = absurd h
 has_place (y ∷ xs) d x (inl e) = (0, omega arith, sym e)
 has_place (y ∷ xs) d x (inr h) = let (k, l, e) = has_place xs d x h in (suc k, omega (arith, l), e)
 
-point_at : (table : List Timed) (k : ℕ) → get_or (map (λ (t : Timed). t.at) table) k no_event.at ≡ (event_of table k).at
+point_at : (table : List Timed) (k : ℕ)
+    → get_or (map (λ (t : Timed). t.at) table) k no_event.at ≡ (event_of table k).at
 point_at table k = get_or-map (λ (t : Timed). t.at) table k no_event
 
-events_apart : (table : List Timed) (j k : ℕ) → Neighbours Before (map (λ (t : Timed). t.at) table) → j < length table → k < length table
+events_apart : (table : List Timed) (j k : ℕ) → Neighbours Before (map (λ (t : Timed). t.at) table)
+    → j < length table → k < length table
     → (event_of table j).at ≡ (event_of table k).at → j ≡ k
 events_apart table j k h a b e =
     let n = length-map table (λ (t : Timed). t.at) in
     let once = sorted_once Before (λ p. Unit {0}) (λ p u b. never p b) (λ p q r a b c l n. before_trans p q r l n) (map (λ (t : Timed). t.at) table) (λ p i. tt) h in
     once_places (map (λ (t : Timed). t.at) table) no_event.at j k once (omega (arith, a, n)) (omega (arith, b, n)) (point_at table j ∙ e ∙ sym (point_at table k))
 
-event_at : (table : List Timed) (p : Point) → Has p (map (λ (t : Timed). t.at) table) → (k : ℕ) × (k < length table) × ((event_of table k).at ≡ p)
+event_at : (table : List Timed) (p : Point) → Has p (map (λ (t : Timed). t.at) table)
+    → (k : ℕ) × (k < length table) × ((event_of table k).at ≡ p)
 event_at table p h =
     let n = length-map table (λ (t : Timed). t.at) in
     let (k, l, e) = has_place (map (λ (t : Timed). t.at) table) no_event.at p h in
     (k, omega (arith, l, n), sym (point_at table k) ∙ e)
 
 -- ---- event after event, of one kind of ends
-pub nothing_noted : (edges_at : Timed → List ℕ) (table : List Timed) (events : List ℕ) → AreNoted edges_at table 0 events
+pub nothing_noted : (edges_at : Timed → List ℕ) (table : List Timed) (events : List ℕ)
+    → AreNoted edges_at table 0 events
 nothing_noted edges_at table events = record { each = λ j e l h. absurd (omega (arith, l)) }
 
 event_noted : (edges_at : Timed → List ℕ) (point : ℕ → Point) (table : List Timed) (k : ℕ) (old new : List ℕ)
@@ -87,30 +95,37 @@ module _ (edges : List Edge) (table : List Timed) (is : IsTimetable (length edge
   timed_of : (k : ℕ) → k < length table → IsTimed (length edges) (edge_of edges) (event_of table k)
   timed_of k l = each_has (IsTimed (length edges) (edge_of edges)) table (event_of table k) is.timed (has_at table k no_event l)
 
-  pub starting_known : (k e : ℕ) → k < length table → Has e (event_of table k).starting → e < length edges
+  pub starting_known : (k e : ℕ) → k < length table → Has e (event_of table k).starting
+      → e < length edges
   starting_known k e l h = (((timed_of k l).starting e).0 h).0
 
-  pub ending_known : (k e : ℕ) → k < length table → Has e (event_of table k).ending → e < length edges
+  pub ending_known : (k e : ℕ) → k < length table → Has e (event_of table k).ending
+      → e < length edges
   ending_known k e l h = (((timed_of k l).ending e).0 h).0
 
-  pub low_noted : (k : ℕ) (old new : List ℕ) → k < length table → AreNoted (λ (t : Timed). t.starting) table k old → IsNoted (event_of table k).starting k old new
+  pub low_noted : (k : ℕ) (old new : List ℕ) → k < length table
+      → AreNoted (λ (t : Timed). t.starting) table k old
+      → IsNoted (event_of table k).starting k old new
       → AreNoted (λ (t : Timed). t.starting) table (k + 1) new
   low_noted k old new l before n =
       event_noted (λ (t : Timed). t.starting) (λ (e : ℕ). (edge_of edges e).low) table k old new is.events.rises (λ j e b h. (((timed_of j b).starting e).0 h).1) l before n
 
-  pub high_noted : (k : ℕ) (old new : List ℕ) → k < length table → AreNoted (λ (t : Timed). t.ending) table k old → IsNoted (event_of table k).ending k old new
+  pub high_noted : (k : ℕ) (old new : List ℕ) → k < length table
+      → AreNoted (λ (t : Timed). t.ending) table k old → IsNoted (event_of table k).ending k old new
       → AreNoted (λ (t : Timed). t.ending) table (k + 1) new
   high_noted k old new l before n =
       event_noted (λ (t : Timed). t.ending) (λ (e : ℕ). (edge_of edges e).high) table k old new is.events.rises (λ j e b h. (((timed_of j b).ending e).0 h).1) l before n
 
-  low_of : (low : List ℕ) → AreNoted (λ (t : Timed). t.starting) table (length table) low → (e : ℕ) → e < length edges
+  low_of : (low : List ℕ) → AreNoted (λ (t : Timed). t.starting) table (length table) low → (e : ℕ)
+      → e < length edges
       → (get_or low e 0 < length table) × ((event_of table (get_or low e 0)).at ≡ (edge_of edges e).low)
   low_of low n e l =
       let (k, b, p) = event_at table (edge_of edges e).low (is.events.ends e l).0 in
       let q = n.each k e b (((timed_of k b).starting e).1 (l, sym p)) in
       (omega (arith, b, q), ap (λ (i : ℕ). (event_of table i).at) q ∙ p)
 
-  high_of : (high : List ℕ) → AreNoted (λ (t : Timed). t.ending) table (length table) high → (e : ℕ) → e < length edges
+  high_of : (high : List ℕ) → AreNoted (λ (t : Timed). t.ending) table (length table) high → (e : ℕ)
+      → e < length edges
       → (get_or high e 0 < length table) × ((event_of table (get_or high e 0)).at ≡ (edge_of edges e).high)
   high_of high n e l =
       let (k, b, p) = event_at table (edge_of edges e).high (is.events.ends e l).1 in

@@ -1,5 +1,6 @@
 -- A point on a straight, by a turn and by order along each axis.
-use Rattle.std.proofs.Common.{◌≡◌, ◌↔◌, Bool, false, IsTrue, [], ◌∷◌, ℤ, pos, ◌+ℤ◌, ◌-ℤ◌, ◌*ℤ◌, ◌<ℤ◌, ◌≤ℤ◌, refl, ap, sym, ◌∙◌, arith}
+use Rattle.std.proofs.Common.{◌≡◌, ◌↔◌, Bool, false, IsTrue, [], ◌∷◌, ℤ, pos, ◌+ℤ◌, ◌-ℤ◌, ◌*ℤ◌}
+use Rattle.std.proofs.Common.{◌<ℤ◌, ◌≤ℤ◌, refl, ap, sym, ◌∙◌, arith}
 use Rattle.std.proofs.lemmas.Int.{ints, by_lt_z}
 use Rattle.plane.specs.declared.kinds.Point.{Point}
 use Rattle.plane.specs.Rule.Places.{point}
@@ -15,7 +16,8 @@ turn_is a b p =
     ring (minus (times (minus (times BX ONE) (times AX ONE)) (minus (times PY ONE) (times AY ONE))) (times (minus (times BY ONE) (times AY ONE)) (minus (times PX ONE) (times AX ONE))))
     (minus (times (minus BX AX) (minus PY AY)) (times (minus BY AY) (minus PX AX))) (vars (a.x ∷ a.y ∷ b.x ∷ b.y ∷ p.x ∷ p.y ∷ [])) refl
 
-dot_is : (a b p : Point) → dot (point a) (point b) (point p) ≡ ((a.x -ℤ p.x) *ℤ (b.x -ℤ p.x)) +ℤ ((a.y -ℤ p.y) *ℤ (b.y -ℤ p.y))
+dot_is : (a b p : Point)
+    → dot (point a) (point b) (point p) ≡ ((a.x -ℤ p.x) *ℤ (b.x -ℤ p.x)) +ℤ ((a.y -ℤ p.y) *ℤ (b.y -ℤ p.y))
 dot_is a b p =
     let AX = at 0 in let AY = at 1 in let BX = at 2 in let BY = at 3 in let PX = at 4 in let PY = at 5 in let ONE = num (pos 1) in
     ring (plus (times (minus (times AX ONE) (times PX ONE)) (minus (times BX ONE) (times PX ONE))) (times (minus (times AY ONE) (times PY ONE)) (minus (times BY ONE) (times PY ONE))))
@@ -58,7 +60,8 @@ module _ (a b p : Point) where
   abbrev py : ℤ
   py = (a.y -ℤ p.y) *ℤ (b.y -ℤ p.y)
 
-  pub on_straight : (r : Bool) → cross a b p ≡ pos 0 → (IsTrue r ↔ ((((a.x -ℤ p.x) *ℤ (b.x -ℤ p.x)) ≤ℤ pos 0) × (((a.y -ℤ p.y) *ℤ (b.y -ℤ p.y)) ≤ℤ pos 0)))
+  pub on_straight : (r : Bool) → cross a b p ≡ pos 0
+      → (IsTrue r ↔ ((((a.x -ℤ p.x) *ℤ (b.x -ℤ p.x)) ≤ℤ pos 0) × (((a.y -ℤ p.y) *ℤ (b.y -ℤ p.y)) ≤ℤ pos 0)))
       → IsTrue r ↔ IsOnStraight (point a) (point b) (point p)
   on_straight r e h = (
     λ t. let (hx, hy) = h.0 t in record { line = turn_is a b p ∙ e; between = let d = dot_is a b p in omega (arith, ints, d, hx, hy) },
@@ -70,5 +73,6 @@ module _ (a b p : Point) where
         h.1 (not_both_signs px py ((a.x -ℤ p.x) *ℤ (b.y -ℤ p.y)) f k, not_both_signs py px ((a.x -ℤ p.x) *ℤ (b.y -ℤ p.y)) (swap py px ∙ f) (omega (arith, ints, k))),
   )
 
-  pub off_straight : (cross a b p ≡ pos 0 → ⊥) → IsTrue false ↔ IsOnStraight (point a) (point b) (point p)
+  pub off_straight : (cross a b p ≡ pos 0 → ⊥)
+      → IsTrue false ↔ IsOnStraight (point a) (point b) (point p)
   off_straight n = (λ t. differ (sym t), λ s. absurd (n (sym (turn_is a b p) ∙ s.line)))

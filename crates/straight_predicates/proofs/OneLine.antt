@@ -1,9 +1,11 @@
 -- Two edges of one line: they are told apart by the order of their ends.
-use Rattle.std.proofs.Common.{◌≡◌, ◌+◌, ◌^◌, ℤ, pos, ◌+ℤ◌, ◌*ℤ◌, ◌-ℤ◌, ◌<ℤ◌, ◌≤ℤ◌, ◌⊎◌, inl, inr, [], ◌∷◌, refl, arith, sym, subst, ap}
+use Rattle.std.proofs.Common.{◌≡◌, ◌+◌, ◌^◌, ℤ, pos, ◌+ℤ◌, ◌*ℤ◌, ◌-ℤ◌, ◌<ℤ◌, ◌≤ℤ◌, ◌⊎◌, inl, inr}
+use Rattle.std.proofs.Common.{[], ◌∷◌, refl, arith, sym, subst, ap}
 use Rattle.std.proofs.lemmas.Int.{ints, by_lt_z}
 use Rattle.plane.specs.declared.kinds.Point.{Point}
 use Rattle.plane.specs.declared.kinds.Edge.{Edge}
-use Rattle.plane.specs.Forms.Vectors.{Vector, Place, Same, mix, point, side, sweep, rise, Before, On}
+use Rattle.plane.specs.Forms.Vectors.{Vector, Place, Same, mix, point, side, sweep, rise, Before}
+use Rattle.plane.specs.Forms.Vectors.{On}
 use Rattle.plane.specs.Forms.Weights.{Weight}
 use Rattle.plane.specs.Forms.Meets as edges
 use Rattle.plane.proofs.Algebra.Laws.{square_nonnegative, square_zero, product_comm}
@@ -26,10 +28,12 @@ pub record AreRising (w : ℤ) (s t : Edge) : Type 0 where
 abbrev value : ℤ → Point → ℤ
 value w p = sweep w (point p)
 
-on_sweep : (w : ℤ) (e : Edge) (z : Vector) → pos 0 <ℤ rise w e → Place z → edges.OnStraight e z → On w e z
+on_sweep : (w : ℤ) (e : Edge) (z : Vector) → pos 0 <ℤ rise w e → Place z → edges.OnStraight e z
+    → On w e z
 on_sweep w e z r Z h = (on_is w e z r Z).1 h
 
-pub before_apart : (w : ℤ) (s t : Edge) → AreRising w s t → value w s.high <ℤ value w t.low → edges.Disjoint s t
+pub before_apart : (w : ℤ) (s t : Edge) → AreRising w s t → value w s.high <ℤ value w t.low
+    → edges.Disjoint s t
 before_apart w s t r l z Z on_s on_t =
     let a = (on_sweep w s z r.first Z on_s).high in
     let b = (on_sweep w t z r.second Z on_t).low in
@@ -39,7 +43,8 @@ before_apart w s t r l z Z on_s on_t =
     omega (arith, ints, a, b, c, d, e)
 
 -- a place of an edge with the sweep value of its high end is that end
-at_high : (w : ℤ) (e : Edge) (z : Vector) → pos 0 <ℤ rise w e → Place z → edges.OnStraight e z → (value w e.high *ℤ z.n) ≤ℤ sweep w z → Same z (point e.high)
+at_high : (w : ℤ) (e : Edge) (z : Vector) → pos 0 <ℤ rise w e → Place z → edges.OnStraight e z
+    → (value w e.high *ℤ z.n) ≤ℤ sweep w z → Same z (point e.high)
 at_high w e z r Z on high =
     let b = balanced e e z Z (on_line e z on) on in
     let m = mix b.i (point e.low) b.j (point e.high) in
@@ -50,7 +55,8 @@ at_high w e z r Z on high =
     let i0 : b.i ≡ pos 0 = no_weight (value w e.low) (value w e.high) (sweep w z) (sweep w m) z.n b.i b.j Z (omega (arith, ints, r, rise-is w e)) (omega (arith, ints, o, high)) s t in
     only_low z (point e.high) (point e.low) b.j b.i (omega (arith, ints, some, i0)) i0 (swap_same z (point e.low) (point e.high) b.i b.j b.is)
   where
-    no_weight : (l h z m n i j : ℤ) → pos 0 <ℤ n → pos 0 <ℤ (h -ℤ l) → z ≡ h *ℤ n → ((i *ℤ pos 1) +ℤ (j *ℤ pos 1)) *ℤ z ≡ n *ℤ m → m ≡ (i *ℤ l) +ℤ (j *ℤ h) → i ≡ pos 0
+    no_weight : (l h z m n i j : ℤ) → pos 0 <ℤ n → pos 0 <ℤ (h -ℤ l) → z ≡ h *ℤ n
+        → ((i *ℤ pos 1) +ℤ (j *ℤ pos 1)) *ℤ z ≡ n *ℤ m → m ≡ (i *ℤ l) +ℤ (j *ℤ h) → i ≡ pos 0
     no_weight l h z m n i j hn hr e f g =
         let a = ap (λ (x : ℤ). ((i *ℤ pos 1) +ℤ (j *ℤ pos 1)) *ℤ x) e in
         let b = ap (λ (x : ℤ). n *ℤ x) g in
@@ -71,7 +77,8 @@ touch_in_line w s t r e = record {
 
 -- ---- the overlap of two edges
 
-square : (w : ℤ) (s : Edge) → pos 0 <ℤ rise w s → pos 0 <ℤ (((s.high.x -ℤ s.low.x) *ℤ (s.high.x -ℤ s.low.x)) +ℤ ((s.high.y -ℤ s.low.y) *ℤ (s.high.y -ℤ s.low.y)))
+square : (w : ℤ) (s : Edge) → pos 0 <ℤ rise w s
+    → pos 0 <ℤ (((s.high.x -ℤ s.low.x) *ℤ (s.high.x -ℤ s.low.x)) +ℤ ((s.high.y -ℤ s.low.y) *ℤ (s.high.y -ℤ s.low.y)))
 unfolding rise
 square w s r =
     let x = s.high.x -ℤ s.low.x in
@@ -106,7 +113,8 @@ pub record IsOneLine (s t : Edge) : Type 0 where
   pub low : side s (point t.low) ≡ pos 0
   pub high : side s (point t.high) ≡ pos 0
 
-on_other : (w : ℤ) (s t : Edge) (p : Point) → pos 0 <ℤ rise w s → IsOneLine s t → side s (point p) ≡ pos 0 → side t (point p) ≡ pos 0
+on_other : (w : ℤ) (s t : Edge) (p : Point) → pos 0 <ℤ rise w s → IsOneLine s t
+    → side s (point p) ≡ pos 0 → side t (point p) ≡ pos 0
 on_other w s t p r h e =
     let low = h.low in
     let high = h.high in
@@ -126,7 +134,8 @@ record IsShared (w : ℤ) (s t : Edge) (p : Point) : Type 0 where
   before_second : value w p ≤ℤ value w t.high
 
 -- half way between two such points
-half_way : (w : ℤ) (s t : Edge) (p q : Point) → AreRising w s t → IsOneLine s t → IsShared w s t p → IsShared w s t q → value w p <ℤ value w q → edges.Bad s t
+half_way : (w : ℤ) (s t : Edge) (p q : Point) → AreRising w s t → IsOneLine s t → IsShared w s t p
+    → IsShared w s t q → value w p <ℤ value w q → edges.Bad s t
 half_way w s t p q r one hp hq l =
     let m = mix (pos 1) (point p) (pos 1) (point q) in
     let M : Place m = omega (arith, ints) in
@@ -147,7 +156,9 @@ half_way w s t p q r one hp hq l =
       no_end = λ e. inner e.at (sweep_same w m (point e.at) e.is) e.of_first;
     }
   where
-    inner : (e : Point) → pos 1 *ℤ sweep w (mix (pos 1) (point p) (pos 1) (point q)) ≡ ((pos 1 *ℤ pos 1) +ℤ (pos 1 *ℤ pos 1)) *ℤ value w e → edges.IsEnd s e → ⊥
+    inner : (e : Point)
+        → pos 1 *ℤ sweep w (mix (pos 1) (point p) (pos 1) (point q)) ≡ ((pos 1 *ℤ pos 1) +ℤ (pos 1 *ℤ pos 1)) *ℤ value w e
+        → edges.IsEnd s e → ⊥
     inner e k (inl h) =
         let v = sweep-mix w (pos 1) (point p) (pos 1) (point q) in
         let x = ap (λ (p : Point). value w p) h in
@@ -159,7 +170,8 @@ half_way w s t p q r one hp hq l =
         let c = hq.before_first in
         omega (arith, ints, k, v, x, c, l)
 
-pub bad_in_line : (w : ℤ) (s t : Edge) → AreRising w s t → IsOneLine s t → value w t.low <ℤ value w s.high → value w s.low <ℤ value w t.high → edges.Bad s t
+pub bad_in_line : (w : ℤ) (s t : Edge) → AreRising w s t → IsOneLine s t
+    → value w t.low <ℤ value w s.high → value w s.low <ℤ value w t.high → edges.Bad s t
 bad_in_line w s t r one a b =
     let rs : value w s.low <ℤ value w s.high = omega (arith, ints, r.first, rise-is w s) in
     let rt : value w t.low <ℤ value w t.high = omega (arith, ints, r.second, rise-is w t) in
@@ -179,7 +191,8 @@ bad_in_line w s t r one a b =
 abbrev pub heavy : ℤ
 heavy = pos (2 ^ 42 + 1)
 
-pub close_weight : (s t : Edge) → EdgesAreClose s t → Weight heavy (s.low ∷ s.high ∷ t.low ∷ t.high ∷ [])
+pub close_weight : (s t : Edge) → EdgesAreClose s t
+    → Weight heavy (s.low ∷ s.high ∷ t.low ∷ t.high ∷ [])
 close_weight s t c =
     let low = s.low.y -ℤ pos (2 ^ 41) in
     let high = s.low.y +ℤ pos (2 ^ 41) in
@@ -203,7 +216,8 @@ rising_edges s t h =
 touch_back : (s t : Edge) → edges.Touch t s → edges.Touch s t
 touch_back s t h = record { at = h.at; of_first = h.of_second; of_second = h.of_first; only = λ z Z on_s on_t. h.only z Z on_t on_s }
 
-pub line_apart : (s t : Edge) → AreSorted s t → Before s.high t.low ⊎ Before t.high s.low → edges.Disjoint s t
+pub line_apart : (s t : Edge) → AreSorted s t → Before s.high t.low ⊎ Before t.high s.low
+    → edges.Disjoint s t
 line_apart s t h b =
     let w = close_weight s t h.close in
     let r = rising_edges s t h in
@@ -212,7 +226,8 @@ line_apart s t h b =
       | inr k ↦ let a = before_apart heavy t s (record { first = r.second; second = r.first }) (w t.high s.low (inr (inr (inr (inl refl)))) (inl refl) k) in λ z Z on_s on_t. a z Z on_t on_s
     ]
 
-pub line_touch : (s t : Edge) → AreSorted s t → (s.high ≡ t.low) ⊎ (t.high ≡ s.low) → edges.Touch s t
+pub line_touch : (s t : Edge) → AreSorted s t → (s.high ≡ t.low) ⊎ (t.high ≡ s.low)
+    → edges.Touch s t
 line_touch s t h b =
     let r = rising_edges s t h in
     elim b [
@@ -220,7 +235,8 @@ line_touch s t h b =
       | inr e ↦ touch_back s t (touch_in_line heavy t s (record { first = r.second; second = r.first }) e)
     ]
 
-pub line_bad : (s t : Edge) → AreSorted s t → IsOneLine s t → Before t.low s.high → Before s.low t.high → edges.Bad s t
+pub line_bad : (s t : Edge) → AreSorted s t → IsOneLine s t → Before t.low s.high
+    → Before s.low t.high → edges.Bad s t
 line_bad s t h one a b =
     let w = close_weight s t h.close in
     bad_in_line heavy s t (rising_edges s t h) one (w t.low s.high (inr (inr (inl refl))) (inr (inl refl)) a) (w s.low t.high (inl refl) (inr (inr (inr (inl refl)))) b)

@@ -1,9 +1,11 @@
 -- What a list keeps when its elements change places.
-use Rattle.std.proofs.Common.{◌≡◌, ℕ, suc, ◌+◌, ◌≤◌, inl, inr, Bool, true, false, cond, nat_eq, List, [], ◌∷◌, map, get_or, refl, arith, sym, subst}
+use Rattle.std.proofs.Common.{◌≡◌, ℕ, suc, ◌+◌, ◌≤◌, inl, inr, Bool, true, false, cond, nat_eq}
+use Rattle.std.proofs.Common.{List, [], ◌∷◌, map, get_or, refl, arith, sym, subst}
 use Rattle.std.proofs.lemmas.Bool.Decides.{nat_tests}
 use Rattle.std.specs.List.{Contains, sum_by}
 use Rattle.std.specs.List.Sorted.{IsPermutation, IsSortedBy}
-use Rattle.std.proofs.lemmas.List.Sorted.{Contains-permutation, sum_by-IsPermutation, IsPermutation-map}
+use Rattle.std.proofs.lemmas.List.Sorted.{Contains-permutation, sum_by-IsPermutation}
+use Rattle.std.proofs.lemmas.List.Sorted.{IsPermutation-map}
 use Rattle.std.proofs.lemmas.List.Sums.{sum_by-cons}
 use Rattle.plane.specs.Lists.{Has, Neighbours, Once}
 use Rattle.plane.proofs.ListLemmas.SortedLists.{has_at}
@@ -16,7 +18,8 @@ contains x (y ∷ ys) (inr h) = let (k, l, e) = contains x ys h in (suc k, omega
 contained : {X : Type 0} (x : X) (xs : List X) → Contains xs x → Has x xs
 contained x xs (k, l, e) = subst (λ y. Has y xs) e (has_at xs k x l)
 
-pub has_permutation : {X : Type 0} (xs ys : List X) (x : X) → IsPermutation xs ys → Has x xs → Has x ys
+pub has_permutation : {X : Type 0} (xs ys : List X) (x : X) → IsPermutation xs ys → Has x xs
+    → Has x ys
 has_permutation xs ys x p h = contained x ys (Contains-permutation xs ys x p (contains x xs h))
 
 -- ---- no repeats, by counting
@@ -65,7 +68,8 @@ once_from (n ∷ ns) f = (
   once_from ns (λ e. let a = f e in omega (arith, a, sum_by-cons (one_at e) n ns)),
 )
 
-pub once_permutation : {X : Type 0} (f : X → ℕ) (xs ys : List X) → IsPermutation xs ys → Once (map f xs) → Once (map f ys)
+pub once_permutation : {X : Type 0} (f : X → ℕ) (xs ys : List X) → IsPermutation xs ys
+    → Once (map f xs) → Once (map f ys)
 once_permutation f xs ys p o =
     once_from (map f ys) (λ e.
     let a = counts_once e (map f xs) o in
@@ -73,7 +77,8 @@ once_permutation f xs ys p o =
     omega (arith, a, b))
 
 -- ---- sorted by a test, from neighbour to neighbour
-pub sorted_neighbours : {X : Type 0} (lt : X → X → Bool) (xs : List X) → IsSortedBy lt xs → Neighbours (λ x y. lt y x ≡ false) xs
+pub sorted_neighbours : {X : Type 0} (lt : X → X → Bool) (xs : List X) → IsSortedBy lt xs
+    → Neighbours (λ x y. lt y x ≡ false) xs
 sorted_neighbours lt [] h = tt
 sorted_neighbours lt (x ∷ []) h = (tt, tt)
 sorted_neighbours lt (x ∷ (y ∷ ys)) h = (

@@ -1,5 +1,6 @@
 -- Rays are in one strict order by slope and number.
-use Rattle.std.proofs.Common.{◌≡◌, ℕ, ◌<◌, ◌≤◌, ◌⊎◌, ℤ, pos, ◌*ℤ◌, ◌-ℤ◌, ◌<ℤ◌, ◌≤ℤ◌, inl, inr, true, false, List, [], ◌∷◌, refl, arith, ap, sym, ◌∙◌, subst}
+use Rattle.std.proofs.Common.{◌≡◌, ℕ, ◌<◌, ◌≤◌, ◌⊎◌, ℤ, pos, ◌*ℤ◌, ◌-ℤ◌, ◌<ℤ◌, ◌≤ℤ◌, inl, inr, true}
+use Rattle.std.proofs.Common.{false, List, [], ◌∷◌, refl, arith, ap, sym, ◌∙◌, subst}
 use Rattle.std.proofs.lemmas.Int.{ints, by_lt_z}
 use Rattle.std.specs.Ordering.{is_lt, nat_cmp, ordering_then}
 use Rattle.std.specs.declared.cmp.Ordering.TheVariants.{Less}
@@ -15,7 +16,8 @@ use Rattle.plane.proofs.Algebra.Ring.{at, num, minus, times, vars, ring}
 use Rattle.straight_predicates.proofs.WeighedTurns.{turns_left, turns_none}
 use Rattle.straight_predicates.specs.declared.rays.Ray.{Ray}
 use Rattle.straight_predicates.specs.EdgeLists.{edge_of, no_point}
-use Rattle.straight_predicates.proofs.Orders.{int_less, int_equal, int_greater, nat_least, nat_not_less, by_lt}
+use Rattle.straight_predicates.proofs.Orders.{int_less, int_equal, int_greater, nat_least}
+use Rattle.straight_predicates.proofs.Orders.{nat_not_less, by_lt}
 use Rattle.straight_predicates.specs.Slopes.{turn_between, ray_cmp, ray_lt, ray_edges, IsRayOf}
 
 abbrev turn : Ray → Ray → ℤ
@@ -84,7 +86,8 @@ cross_turn a b =
     (minus (times (at 0) (at 3)) (times (at 1) (at 2)))
     (vars (a.direction.x ∷ a.direction.y ∷ b.direction.x ∷ b.direction.y ∷ [])) refl
 
-left_through : (a b c : Ray) → pos 0 ≤ℤ turn a b → pos 0 ≤ℤ turn b c → ((pos 0 <ℤ turn a b) ⊎ (pos 0 <ℤ turn b c)) → pos 0 <ℤ turn a c
+left_through : (a b c : Ray) → pos 0 ≤ℤ turn a b → pos 0 ≤ℤ turn b c
+    → ((pos 0 <ℤ turn a b) ⊎ (pos 0 <ℤ turn b c)) → pos 0 <ℤ turn a c
 left_through a b c h k s =
     let ab = cross_turn a b in
     let bc = cross_turn b c in
@@ -128,20 +131,25 @@ rays_rank = record {
     clash q = cc
 
 -- ---- edges that start at one point, by the slopes of their rays
-same_turn : (a b c d : Point) (rx ry sx sy : ℤ) → rx ≡ b.x -ℤ a.x → ry ≡ b.y -ℤ a.y → sx ≡ c.x -ℤ d.x → sy ≡ c.y -ℤ d.y → d ≡ a → (rx *ℤ sy) -ℤ (ry *ℤ sx) ≡ cross a b c
+same_turn : (a b c d : Point) (rx ry sx sy : ℤ) → rx ≡ b.x -ℤ a.x → ry ≡ b.y -ℤ a.y
+    → sx ≡ c.x -ℤ d.x → sy ≡ c.y -ℤ d.y → d ≡ a → (rx *ℤ sy) -ℤ (ry *ℤ sx) ≡ cross a b c
 same_turn a b c d rx ry sx sy e f g h q = cc
 
-ray_turn : (edges : List Edge) (p : Point) (r s : Ray) → IsRayOf edges r → IsRayOf edges s → (edge_of edges r.edge).low ≡ p → (edge_of edges s.edge).low ≡ p
+ray_turn : (edges : List Edge) (p : Point) (r s : Ray) → IsRayOf edges r → IsRayOf edges s
+    → (edge_of edges r.edge).low ≡ p → (edge_of edges s.edge).low ≡ p
     → turn r s ≡ turn_at (edge_of edges) r.edge (edge_of edges s.edge).high
 ray_turn edges p r s h k e f =
     same_turn (edge_of edges r.edge).low (edge_of edges r.edge).high (edge_of edges s.edge).high (edge_of edges s.edge).low _ _ _ _ h.x h.y k.x k.y (f ∙ sym e)
 
-by_slope : (edges : List Edge) (p : Point) (r s : Ray) → IsRayOf edges r → IsRayOf edges s → (edge_of edges r.edge).low ≡ p → (edge_of edges s.edge).low ≡ p
+by_slope : (edges : List Edge) (p : Point) (r s : Ray) → IsRayOf edges r → IsRayOf edges s
+    → (edge_of edges r.edge).low ≡ p → (edge_of edges s.edge).low ≡ p
     → (r.edge ≡ s.edge → ⊥) → NotAfter r s → BySlope (edge_of edges) r.edge s.edge
 by_slope edges p r s h k e f n (inl l) = inl (subst (λ (z : ℤ). pos 0 <ℤ z) (ray_turn edges p r s h k e f) l)
 by_slope edges p r s h k e f n (inr l) = let o = l.1 in inr (sym (ray_turn edges p r s h k e f) ∙ l.0, omega (arith, o, n))
 
-pub rays_by_slope : (edges : List Edge) (p : Point) (rays : List Ray) → ((r : Ray) → Has r rays → IsRayOf edges r × ((edge_of edges r.edge).low ≡ p)) → Neighbours (λ r s. ray_lt s r ≡ false) rays
+pub rays_by_slope : (edges : List Edge) (p : Point) (rays : List Ray)
+    → ((r : Ray) → Has r rays → IsRayOf edges r × ((edge_of edges r.edge).low ≡ p))
+    → Neighbours (λ r s. ray_lt s r ≡ false) rays
     → Once (ray_edges rays) → Neighbours (BySlope (edge_of edges)) (ray_edges rays)
 rays_by_slope edges p [] f h o = tt
 rays_by_slope edges p (r ∷ []) f h o = (tt, tt)

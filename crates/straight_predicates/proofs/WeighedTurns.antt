@@ -1,5 +1,6 @@
 -- Turns about one point are transitive, for three points that all come after it.
-use Rattle.std.proofs.Common.{◌≡◌, ◌⊎◌, ℤ, pos, ◌+ℤ◌, ◌*ℤ◌, ◌-ℤ◌, ◌<ℤ◌, ◌≤ℤ◌, inl, inr, [], ◌∷◌, refl, arith, ap}
+use Rattle.std.proofs.Common.{◌≡◌, ◌⊎◌, ℤ, pos, ◌+ℤ◌, ◌*ℤ◌, ◌-ℤ◌, ◌<ℤ◌, ◌≤ℤ◌, inl, inr, [], ◌∷◌}
+use Rattle.std.proofs.Common.{refl, arith, ap}
 use Rattle.std.proofs.lemmas.Int.{ints}
 use Rattle.plane.specs.declared.kinds.Point.{Point}
 use Rattle.plane.specs.Rule.Turns.{cross}
@@ -14,7 +15,8 @@ abbrev way : ℤ → Point → Point → ℤ
 way w p a = ((w *ℤ a.x) +ℤ a.y) -ℤ ((w *ℤ p.x) +ℤ p.y)
 
 -- the turn from a to c is the turns from a over b to c, weighed
-turns-sum : (w : ℤ) (p a b c : Point) → way w p b *ℤ cross p a c ≡ (way w p a *ℤ cross p b c) +ℤ (way w p c *ℤ cross p a b)
+turns-sum : (w : ℤ) (p a b c : Point)
+    → way w p b *ℤ cross p a c ≡ (way w p a *ℤ cross p b c) +ℤ (way w p c *ℤ cross p a b)
 turns-sum w p a b c =
     let PX = at 0 in let PY = at 1 in let AX = at 2 in let AY = at 3 in let BX = at 4 in let BY = at 5 in let CX = at 6 in let CY = at 7 in let W = at 8 in
     let WAY : Expr → Expr → Expr = λ x y. minus (plus (times W x) y) (plus (times W PX) PY) in
@@ -23,7 +25,8 @@ turns-sum w p a b c =
     (vars (p.x ∷ p.y ∷ a.x ∷ a.y ∷ b.x ∷ b.y ∷ c.x ∷ c.y ∷ w ∷ [])) refl
 
 -- the signs of such a sum
-sum_sign : (ra rb rc ab bc ac : ℤ) → pos 0 <ℤ ra → pos 0 <ℤ rb → pos 0 <ℤ rc → rb *ℤ ac ≡ (ra *ℤ bc) +ℤ (rc *ℤ ab) → pos 0 ≤ℤ ab → pos 0 ≤ℤ bc
+sum_sign : (ra rb rc ab bc ac : ℤ) → pos 0 <ℤ ra → pos 0 <ℤ rb → pos 0 <ℤ rc
+    → rb *ℤ ac ≡ (ra *ℤ bc) +ℤ (rc *ℤ ab) → pos 0 ≤ℤ ab → pos 0 ≤ℤ bc
     → ((pos 0 <ℤ ab) ⊎ (pos 0 <ℤ bc)) → pos 0 <ℤ ac
 sum_sign ra rb rc ab bc ac ha hb hc e x y (inl s) =
     let u = product_nonnegative ra bc (omega (arith, ints, ha)) y in
@@ -34,7 +37,8 @@ sum_sign ra rb rc ab bc ac ha hb hc e x y (inr s) =
     let v = product_nonnegative rc ab (omega (arith, ints, hc)) x in
     positive_factor rb ac hb (omega (arith, ints, u, v, e))
 
-sum_zero : (ra rb rc ab bc ac : ℤ) → pos 0 <ℤ rb → rb *ℤ ac ≡ (ra *ℤ bc) +ℤ (rc *ℤ ab) → ab ≡ pos 0 → bc ≡ pos 0 → ac ≡ pos 0
+sum_zero : (ra rb rc ab bc ac : ℤ) → pos 0 <ℤ rb → rb *ℤ ac ≡ (ra *ℤ bc) +ℤ (rc *ℤ ab) → ab ≡ pos 0
+    → bc ≡ pos 0 → ac ≡ pos 0
 sum_zero ra rb rc ab bc ac hb e x y =
     let u = ap (λ (z : ℤ). ra *ℤ z) y in
     let v = ap (λ (z : ℤ). rc *ℤ z) x in
@@ -53,7 +57,8 @@ module _ (p a b c : Point) (ha : Before p a) (hb : Before p b) (hc : Before p c)
       let z = heavy p c (inl refl) (inr (inr (inr (inl refl)))) hc in
       (w, omega (arith, ints, x), omega (arith, ints, y), omega (arith, ints, z))
 
-  pub turns_left : pos 0 ≤ℤ cross p a b → pos 0 ≤ℤ cross p b c → ((pos 0 <ℤ cross p a b) ⊎ (pos 0 <ℤ cross p b c)) → pos 0 <ℤ cross p a c
+  pub turns_left : pos 0 ≤ℤ cross p a b → pos 0 ≤ℤ cross p b c
+      → ((pos 0 <ℤ cross p a b) ⊎ (pos 0 <ℤ cross p b c)) → pos 0 <ℤ cross p a c
   turns_left x y s =
       let (w, ra, rb, rc) = ways in
       sum_sign (way w p a) (way w p b) (way w p c) (cross p a b) (cross p b c) (cross p a c) ra rb rc (turns-sum w p a b c) x y s

@@ -5,10 +5,13 @@ use Rattle.plane.specs.Rule.Windows.{IsNarrow, IsInside}
 use Rattle.plane.proofs.Linear.WindowPoints.{inside_near, nearer}
 use Rattle.straight_predicates.specs.Meetings.{AreClose, EdgesAreClose}
 
-pub inside_close : (low high p q : Point) → IsNarrow low high → IsInside low high p → IsInside low high q → AreClose p q
+pub inside_close : (low high p q : Point) → IsNarrow low high → IsInside low high p
+    → IsInside low high q → AreClose p q
 inside_close low high p q n h k = nearer p q (inside_near low high p q n h k)
 
-pub window_close : (low high : Point) (s t : Edge) → IsNarrow low high → IsInside low high s.low → IsInside low high s.high → IsInside low high t.low → IsInside low high t.high → EdgesAreClose s t
+pub window_close : (low high : Point) (s t : Edge) → IsNarrow low high → IsInside low high s.low
+    → IsInside low high s.high → IsInside low high t.low → IsInside low high t.high
+    → EdgesAreClose s t
 window_close low high s t n a b c d = record {
   first = inside_close low high s.low s.high n a b;
   second = inside_close low high t.low t.high n c d;

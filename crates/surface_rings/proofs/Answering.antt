@@ -1,5 +1,6 @@
 -- The answer, from what the bodies found.
-use Rattle.std.proofs.Common.{◌≡◌, ℕ, ◌<◌, ◌⊎◌, inl, inr, Bool, List, [], length, arith, ap, sym, ◌∙◌, subst}
+use Rattle.std.proofs.Common.{◌≡◌, ℕ, ◌<◌, ◌⊎◌, inl, inr, Bool, List, [], length, arith, ap, sym}
+use Rattle.std.proofs.Common.{◌∙◌, subst}
 use Rattle.plane.specs.declared.kinds.Edge.{Edge}
 use Rattle.plane.specs.declared.window.Window2.{Window2}
 use Rattle.plane.specs.Lists.{Each}
@@ -12,11 +13,13 @@ use Rattle.plane.specs.Rule.Plans.{Plan}
 use Rattle.plane.specs.Runs.Moves.{Fit, Move, steps_from}
 use Rattle.plane.specs.Runs.Steps.{Run}
 use Rattle.straight_predicates.specs.EdgeLists.{edge_of, no_edge}
-use Rattle.surface_rings.specs.Surfaces.{HasOneInnerSide, HasParts, IsClear, IsInside, IsMeeting, SurfaceHolds, drawing_of}
+use Rattle.surface_rings.specs.Surfaces.{HasOneInnerSide, HasParts, IsClear, IsInside, IsMeeting}
+use Rattle.surface_rings.specs.Surfaces.{SurfaceHolds, drawing_of}
 use Rattle.surface_rings.specs.Working.{AreEvenMoves, AreFloors, floor_in}
 use Rattle.surface_rings.proofs.EvenSteps.{even_steps}
 use Rattle.surface_rings.proofs.OddEnds.{even_list}
-use Rattle.surface_rings.proofs.PlaneLaws.{edges_run, even_run, listed_parity, run_crossed, run_one, run_some, run_two, straights_count}
+use Rattle.surface_rings.proofs.PlaneLaws.{edges_run, even_run, listed_parity, run_crossed, run_one}
+use Rattle.surface_rings.proofs.PlaneLaws.{run_some, run_two, straights_count}
 
 module _ (u : Window2) (edges : List Edge) (vs : List Move) (run : Run (length edges) (edge_of edges) (steps_from [] vs)) (fit : Fit [] vs) (floors : List Bool)
     (even : AreEvenMoves vs) (are : AreFloors (length edges) vs (length vs) floors) (clear : IsClear edges) (some : 0 < length edges) where
@@ -38,7 +41,8 @@ module _ (u : Window2) (edges : List Edge) (vs : List Move) (run : Run (length e
   even_ends : EvenEnds edges
   even_ends = even_list edges (even_run (floor_in floors) (length edges) E (steps_from [] vs) run steps)
 
-  same_parity : (z : Vector) → parity (crosses_vertical z) edges ≡ parity (crosses_vertical z) (chosen every (length d.curves) E)
+  same_parity : (z : Vector)
+      → parity (crosses_vertical z) edges ≡ parity (crosses_vertical z) (chosen every (length d.curves) E)
   same_parity z = listed_parity (crosses_vertical z) edges no_edge ∙ ap (λ (m : ℕ). parity (crosses_vertical z) (chosen every m E)) (sym count)
 
   to_region : (z : Vector) → IsInside u edges z → IsInRegion d E z
@@ -56,7 +60,8 @@ module _ (u : Window2) (edges : List Edge) (vs : List Move) (run : Run (length e
     | inr (i, n) ↦ inr (from_region q i, λ j. n (to_region p j))
   ]
 
-  pub holds : ((e f : ℕ) → e < length edges → f < length edges → Bridged vs (floor_in floors) e f) → SurfaceHolds u edges
+  pub holds : ((e f : ℕ) → e < length edges → f < length edges → Bridged vs (floor_in floors) e f)
+      → SurfaceHolds u edges
   holds all = record {
     clear = clear;
     even = even_ends;
@@ -83,7 +88,8 @@ bad_turned a b x = record {
   no_end = λ c. x.no_end (record { at = c.at; of_first = c.of_second; of_second = c.of_first; is = c.is });
 }
 
-pub meeting : (edges : List Edge) (a b low high : ℕ) → a < length edges → b < length edges → (a ≡ b → ⊥) → Bad (edge_of edges a) (edge_of edges b)
+pub meeting : (edges : List Edge) (a b low high : ℕ) → a < length edges → b < length edges
+    → (a ≡ b → ⊥) → Bad (edge_of edges a) (edge_of edges b)
     → ((low ≡ a) × (high ≡ b) × (a < b)) ⊎ ((low ≡ b) × (high ≡ a) × (b < a)) → IsMeeting edges low high
 meeting edges a b low high l k n x (inl (p, q, r)) =
     subst (λ (i : ℕ). IsMeeting edges i high) (sym p) (subst (λ (j : ℕ). IsMeeting edges a j) (sym q) (record { less = r; within = k; bad = x }))

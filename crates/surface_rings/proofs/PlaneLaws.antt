@@ -3,7 +3,8 @@ pub use Rattle.half_edges.proofs.Elsewhere.{unlinked_none, unlinked_more}
 pub use Rattle.plane.proofs.GapLemmas.GapCells.{some_none, some_same}
 pub use Rattle.plane.proofs.GapLemmas.GapsOnce.{closed_edges}
 pub use Rattle.plane.proofs.ListLemmas.ListPairs.{each_at}
-pub use Rattle.plane.proofs.ListLemmas.Lists.{each_from, has_append, has_back, has_front, has_map, once_back, once_front}
+pub use Rattle.plane.proofs.ListLemmas.Lists.{each_from, has_append, has_back, has_front, has_map}
+pub use Rattle.plane.proofs.ListLemmas.Lists.{once_back, once_front}
 pub use Rattle.plane.proofs.ListLemmas.SortedLists.{first_before, has_at, sorted_once}
 pub use Rattle.plane.proofs.MoveLemmas.MadeSteps.{never, step_is, steps_length}
 pub use Rattle.plane.proofs.MoveLemmas.OneTimetable.{before_trans}

@@ -1,5 +1,7 @@
 -- A model that breaks no rule has different names.
-use Rattle.std.proofs.Common.{◌≡◌, ◌≤◌, ◌+◌, inl, inr, ℕ, List, [], ◌∷◌, ◌++◌, length, map, Bool, true, false, cond, refl, ◌∙◌, sym, ap, subst, arith, nat_eq, append_assoc, append-nil}
+use Rattle.std.proofs.Common.{◌≡◌, ◌≤◌, ◌+◌, inl, inr, ℕ, List, [], ◌∷◌, ◌++◌, length, map, Bool}
+use Rattle.std.proofs.Common.{true, false, cond, refl, ◌∙◌, sym, ap, subst, arith, nat_eq}
+use Rattle.std.proofs.Common.{append_assoc, append-nil}
 use Rattle.std.specs.Prelude.{Contains}
 use Rattle.std.specs.List.{All, AllZip, flat_map}
 use Rattle.std.specs.Cmp.Lexicographic.{pointwise}
@@ -7,9 +9,14 @@ use Rattle.std.proofs.lemmas.Bool.{true≢false, or_parts}
 use Rattle.std.proofs.lemmas.Slice.Eq.{bytes_eq-Decides}
 use Rattle.std.proofs.lemmas.List.Sums.{sum_by-cons, sum_by-append}
 use Rattle.std.proofs.lemmas.List.Elements.{All-nil, All-cons}
-use Rattle.ili_grammar.specs.Syntax.{Ident, Attributes, no_attributes, and_attribute, an_attribute, Content, Value, Reference, TypeSyntax, Named, Coord2, Coord3, Dim1, Dim2, Radians, Grads, Degrees, Range, Text, Date, Enumeration, HAlignment, VAlignment, Polyline, Surface, Area, DomainSyntax, TableSyntax, TopicSyntax, ModelSyntax}
+use Rattle.ili_grammar.specs.Syntax.{Ident, Attributes, no_attributes, and_attribute, an_attribute}
+use Rattle.ili_grammar.specs.Syntax.{Content, Value, Reference, TypeSyntax, Named, Coord2, Coord3}
+use Rattle.ili_grammar.specs.Syntax.{Dim1, Dim2, Radians, Grads, Degrees, Range, Text, Date}
+use Rattle.ili_grammar.specs.Syntax.{Enumeration, HAlignment, VAlignment, Polyline, Surface, Area}
+use Rattle.ili_grammar.specs.Syntax.{DomainSyntax, TableSyntax, TopicSyntax, ModelSyntax}
 use Rattle.resolver.specs.declared.faults.ModelCode.TheVariants as code
-use Rattle.resolver.specs.Breaking.{StandsAgain, AreHelpers, AreTableNames, topic_twice, table_twice}
+use Rattle.resolver.specs.Breaking.{StandsAgain, AreHelpers, AreTableNames, topic_twice}
+use Rattle.resolver.specs.Breaking.{table_twice}
 use Rattle.resolver.specs.Faults.{Fault, fault_if}
 use Rattle.resolver.specs.First.{BreaksNone}
 use Rattle.resolver.specs.Lines.{is_boundary}
@@ -22,7 +29,8 @@ use Rattle.resolver.specs.Standing.{IsTypeForm, IsContent, AreAttributes, IsTabl
 use Rattle.resolver.proofs.FaultParts.{told_again}
 use Rattle.resolver.proofs.Members.{In, contains}
 use Rattle.resolver.proofs.OneStanding.{one_meaning}
-use Rattle.table_layout.specs.Names.{times, AreDifferent, helper_names, names_taken, topic_names_taken, HasOwnNames}
+use Rattle.table_layout.specs.Names.{times, AreDifferent, helper_names, names_taken}
+use Rattle.table_layout.specs.Names.{topic_names_taken, HasOwnNames}
 use Rattle.table_layout.specs.Tables.{topic_names_of}
 
 -- two lists that make none together are none
@@ -41,7 +49,8 @@ keys es = map (λ (e : Entry). e.key) es
 among : (name x : List ℕ) → pointwise nat_eq x name ≡ true → same name x ≡ true
 among name x h = (bytes_eq-Decides name x).1 (sym ((bytes_eq-Decides x name).0 h))
 
-no_times : (name : List ℕ) (names : List (List ℕ)) → is_among name names ≡ false → times name names ≡ 0
+no_times : (name : List ℕ) (names : List (List ℕ)) → is_among name names ≡ false
+    → times name names ≡ 0
 no_times name [] h = refl
 no_times name (x ∷ xs) h =
     let p = or_parts (same name x) (is_among name xs) h in
@@ -51,7 +60,8 @@ no_times name (x ∷ xs) h =
     none true e f = absurd (true≢false (sym (among name x e) ∙ f))
     none false e f = refl
 
-one_more : (names : List (List ℕ)) (k : List ℕ) → AreDifferent names → is_among k names ≡ false → AreDifferent (names ++ k ∷ [])
+one_more : (names : List (List ℕ)) (k : List ℕ) → AreDifferent names → is_among k names ≡ false
+    → AreDifferent (names ++ k ∷ [])
 one_more names k all h name = go (pointwise nat_eq k name) refl
   where
     both : times name (names ++ k ∷ []) ≡ times name names + once (pointwise nat_eq k name)
@@ -70,7 +80,8 @@ one_more names k all h name = go (pointwise nat_eq k name) refl
         let z : once (pointwise nat_eq k name) ≡ 0 = rw e refl in
         omega (arith, both, all name, z)
 
-different : (before : List (List ℕ)) (es : List Entry) → AreDifferent before → twice before es ≡ [] → AreDifferent (before ++ keys es)
+different : (before : List (List ℕ)) (es : List Entry) → AreDifferent before → twice before es ≡ []
+    → AreDifferent (before ++ keys es)
 different before [] all e = subst AreDifferent (sym (append-nil before)) all
 different before (x ∷ es) all e =
     let none = none_of _ (twice (before ++ x.key ∷ []) es) e in
@@ -85,14 +96,16 @@ no_names : AreDifferent []
 no_names name = omega arith
 
 -- names of which none stands again are not reported as twice
-not_twice : (before : List (List ℕ)) (es : List Entry) → ((n : Ident) → StandsAgain before es n → ⊥) → twice before es ≡ []
+not_twice : (before : List (List ℕ)) (es : List Entry) → ((n : Ident) → StandsAgain before es n → ⊥)
+    → twice before es ≡ []
 not_twice before es none = go (twice before es) refl
   where
     go : (fs : List Fault) → twice before es ≡ fs → twice before es ≡ []
     go [] e = e
     go (f ∷ fs) e = absurd (none f.name (told_again before es f (subst (λ (l : List Fault). In l f) (sym e) (inl refl))).1)
 
-different_names : (es : List Entry) → ((n : Ident) → StandsAgain [] es n → ⊥) → AreDifferent (keys es)
+different_names : (es : List Entry) → ((n : Ident) → StandsAgain [] es n → ⊥)
+    → AreDifferent (keys es)
 different_names es none = different [] es no_names (not_twice [] es none)
 
 -- ---- the names that tables take are those that the rule compares
@@ -104,7 +117,8 @@ keys_append (e ∷ es) fs = ap (λ (xs : List (List ℕ)). e.key ∷ xs) (keys_a
 abbrev Decided : List ℕ → List ℕ → Bool → Bool → resolved.AttributeForm → Type 0
 Decided table name o b f = helper_names table (resolved.an_attribute name o f) ≡ cond b (helper_name table name ∷ []) []
 
-by_kind : (table name : List ℕ) (o : Bool) (s : Scope) (k : TypeSyntax) (f : resolved.AttributeForm) → IsTypeForm name o s k f → Decided table name o (is_boundary k) f
+by_kind : (table name : List ℕ) (o : Bool) (s : Scope) (k : TypeSyntax) (f : resolved.AttributeForm)
+    → IsTypeForm name o s k f → Decided table name o (is_boundary k) f
 by_kind table name o s (Polyline l) f h = ap (λ (x : resolved.AttributeForm). helper_names table (resolved.an_attribute name o x)) h.1
 by_kind table name o s (Surface l) f h = ap (λ (x : resolved.AttributeForm). helper_names table (resolved.an_attribute name o x)) h.2
 by_kind table name o s (Area l) f h = ap (λ (x : resolved.AttributeForm). helper_names table (resolved.an_attribute name o x)) h.2
@@ -129,7 +143,8 @@ record HasHelpers (s : Scope) (table : List ℕ) (as_ : Attributes) (fs : resolv
   are : AreHelpers s table as_ names
   taken : keys names ≡ flat_map (helper_names table) (listed fs)
 
-one_helper : (s : Scope) (table : List ℕ) (n : Ident) (o : Bool) (c : Content) (as_ : Attributes) (f : resolved.AttributeForm) (rest : resolved.Attributes) → IsContent n.text o s c f → HasHelpers s table as_ rest
+one_helper : (s : Scope) (table : List ℕ) (n : Ident) (o : Bool) (c : Content) (as_ : Attributes) (f : resolved.AttributeForm) (rest : resolved.Attributes)
+    → IsContent n.text o s c f → HasHelpers s table as_ rest
     → HasHelpers s table (and_attribute (an_attribute n o c) as_) (resolved.and_attribute (resolved.an_attribute n.text o f) rest)
 one_helper s table n o (Reference r) as_ f rest h more =
     record {
@@ -142,7 +157,8 @@ one_helper s table n o (Value t) as_ f rest h more = by_test (is_boundary h.0.ki
     decided : Decided table n.text o (is_boundary h.0.kind) f
     decided = by_kind table n.text o h.0.scope h.0.kind f h.2
 
-    by_test : (b : Bool) → is_boundary h.0.kind ≡ b → HasHelpers s table (and_attribute (an_attribute n o (Value t)) as_) (resolved.and_attribute (resolved.an_attribute n.text o f) rest)
+    by_test : (b : Bool) → is_boundary h.0.kind ≡ b
+        → HasHelpers s table (and_attribute (an_attribute n o (Value t)) as_) (resolved.and_attribute (resolved.an_attribute n.text o f) rest)
     by_test true e =
         record {
           names = record { key = helper_name table n.text; name = n } ∷ more.names;
@@ -156,7 +172,8 @@ one_helper s table n o (Value t) as_ f rest h more = by_test (is_boundary h.0.ki
           taken = more.taken ∙ ap (λ (l : List (List ℕ)). l ++ flat_map (helper_names table) (listed rest)) (sym (subst (λ (b : Bool). Decided table n.text o b f) e decided));
         }
 
-helpers_there : (s : Scope) (table : List ℕ) (as_ : Attributes) (fs : resolved.Attributes) → AreAttributes s as_ fs → HasHelpers s table as_ fs
+helpers_there : (s : Scope) (table : List ℕ) (as_ : Attributes) (fs : resolved.Attributes)
+    → AreAttributes s as_ fs → HasHelpers s table as_ fs
 helpers_there s table no_attributes fs h = subst (HasHelpers s table no_attributes) (sym h) (record { names = []; are = refl; taken = refl })
 helpers_there s table (and_attribute (an_attribute n o c) as_) fs h =
     subst (HasHelpers s table (and_attribute (an_attribute n o c) as_)) (sym h.2) (one_helper s table n o c as_ h.0 h.1 h.3 (helpers_there s table as_ h.1 h.4))
@@ -166,7 +183,8 @@ record HasTableNames (s : Scope) (ts : List TableSyntax) (ms : List ModelTable) 
   are : AreTableNames s ts names
   taken : keys names ≡ flat_map names_taken ms
 
-tables_there : (s : Scope) (ts : List TableSyntax) (ms : List ModelTable) → AllZip (IsTable s) ts ms → HasTableNames s ts ms
+tables_there : (s : Scope) (ts : List TableSyntax) (ms : List ModelTable) → AllZip (IsTable s) ts ms
+    → HasTableNames s ts ms
 tables_there s [] [] h = record { names = []; are = refl; taken = refl }
 tables_there s [] (m ∷ ms) h = absurd h
 tables_there s (t ∷ ts) [] h = absurd h
@@ -183,7 +201,8 @@ tables_there s (t ∷ ts) (m ∷ ms) h =
           ∙ ap (λ (n : List ℕ). (n ∷ flat_map (helper_names n) (listed m.attributes)) ++ flat_map names_taken ms) (sym h.0.name);
     }
 
-topic_names_there : (above : List DomainSyntax) (ts : List TopicSyntax) (rs : List Topic) → AllZip (IsTopic above) ts rs → keys (map entry (map (λ t. t.name) ts)) ≡ topic_names_of rs
+topic_names_there : (above : List DomainSyntax) (ts : List TopicSyntax) (rs : List Topic)
+    → AllZip (IsTopic above) ts rs → keys (map entry (map (λ t. t.name) ts)) ≡ topic_names_of rs
 topic_names_there above [] [] h = refl
 topic_names_there above [] (r ∷ rs) h = absurd h
 topic_names_there above (t ∷ ts) [] h = absurd h
@@ -191,12 +210,15 @@ topic_names_there above (t ∷ ts) (r ∷ rs) h = ap (λ (n : List ℕ). n ∷ k
 
 -- ---- the whole
 module _ (m : ModelSyntax) (none : BreaksNone m) where
-  topic_different : (t : TopicSyntax) (r : Topic) → Contains m.topics t → IsTopic (everywhere m) t r → AreDifferent (topic_names_taken r)
+  topic_different : (t : TopicSyntax) (r : Topic) → Contains m.topics t → IsTopic (everywhere m) t r
+      → AreDifferent (topic_names_taken r)
   topic_different t r c h =
       let there : HasTableNames (inside (everywhere m) t) t.tables r.tables = tables_there (inside (everywhere m) t) t.tables r.tables h.tables in
       subst AreDifferent there.taken (different_names there.names (λ n w. none (record { code = code.Twice; name = n }) (table_twice t there.names n c there.are w)))
 
-  each_different : (ts : List TopicSyntax) (rs : List Topic) → ((t : TopicSyntax) → In ts t → In m.topics t) → AllZip (IsTopic (everywhere m)) ts rs → All (λ r. AreDifferent (topic_names_taken r)) rs
+  each_different : (ts : List TopicSyntax) (rs : List Topic)
+      → ((t : TopicSyntax) → In ts t → In m.topics t) → AllZip (IsTopic (everywhere m)) ts rs
+      → All (λ r. AreDifferent (topic_names_taken r)) rs
   each_different [] [] sub h = All-nil (λ r. AreDifferent (topic_names_taken r))
   each_different [] (r ∷ rs) sub h = absurd h
   each_different (t ∷ ts) [] sub h = absurd h

@@ -1,7 +1,8 @@
 -- Two models and their layouts.
 use Rattle.std.proofs.Common.{◌≡◌, ℕ, List, [], ◌∷◌, Bool, true, false, Some, None, pos, refl}
 use Rattle.std.specs.Prelude.{codes}
-use Rattle.resolver.specs.Resolved.{Limits, Window, Text, Date, Reference, AreaPoint, LineForm, an_attribute, Value, Polyline, Surface, Area, a_part, Topic}
+use Rattle.resolver.specs.Resolved.{Limits, Window, Text, Date, Reference, AreaPoint, LineForm}
+use Rattle.resolver.specs.Resolved.{an_attribute, Value, Polyline, Surface, Area, a_part, Topic}
 use Rattle.resolver.specs.Values.{attributes_in}
 use Rattle.table_layout.specs.Layouts.{Main, AreaLines, SurfaceLines, Table}
 use Rattle.table_layout.specs.Tables.{tables_from, areas_from}

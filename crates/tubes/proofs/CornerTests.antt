@@ -1,5 +1,7 @@
 -- The conditions on the corners of a tube, as their tests take them.
-use Rattle.std.proofs.Common.{rules, ◌≡◌, ◌↔◌, ◌^◌, ◌-◌, ◌<◌, ◌≤◌, ℕ, zero, suc, IsTrue, ℤ, pos, negsuc, ◌+ℤ◌, ◌*ℤ◌, ◌-ℤ◌, ◌<ℤ◌, ◌≤ℤ◌, [], ◌∷◌, List, length, drop, arith, ap, refl, sym, ◌∙◌, subst}
+use Rattle.std.proofs.Common.{rules, ◌≡◌, ◌↔◌, ◌^◌, ◌-◌, ◌<◌, ◌≤◌, ℕ, zero, suc, IsTrue, ℤ, pos}
+use Rattle.std.proofs.Common.{negsuc, ◌+ℤ◌, ◌*ℤ◌, ◌-ℤ◌, ◌<ℤ◌, ◌≤ℤ◌, [], ◌∷◌, List, length, drop}
+use Rattle.std.proofs.Common.{arith, ap, refl, sym, ◌∙◌, subst}
 use Rattle.std.specs.Int.Signed.{lt_z}
 use Rattle.std.specs.Prelude.{unsigned_abs}
 use Rattle.std.proofs.lemmas.Int.{ints}
@@ -9,7 +11,8 @@ use Rattle.plane.specs.Lists.{Each, First, Last, Neighbours}
 use Rattle.plane.specs.Numbers.{IsNear, IsWithin}
 use Rattle.plane.specs.Rule.HalfArcs.{HalfArc, bend}
 use Rattle.plane.specs.Rule.Turns.{AreNear, cross}
-use Rattle.plane.specs.Tubes.Bays.{AreBays, AreNext, Bay, IsBay, ahead_of_from, ahead_of_to, bays, distance, outward}
+use Rattle.plane.specs.Tubes.Bays.{AreBays, AreNext, Bay, IsBay, ahead_of_from, ahead_of_to, bays}
+use Rattle.plane.specs.Tubes.Bays.{distance, outward}
 use Rattle.plane.specs.declared.kinds.Point.{Point}
 use Rattle.plane.proofs.Algebra.Bounds.{within_product, within_sum}
 use Rattle.plane.proofs.Algebra.Laws.{product_positive}
@@ -50,11 +53,13 @@ sign_times turn.Straight d z l h = ap (λ z. d *ℤ z) h ∙ zero_of d
     zero_of d = omega (arith, ints)
 sign_times turn.Right d z l h = product_negative d z l h
 
-pub outward_left : (h : HalfArc) (d : ℤ) (p q r : Point) (t : Turn) → d ≡ bend h → pos 0 <ℤ d → HasSign t (cross q p r) → HasSign t (outward h p q r)
+pub outward_left : (h : HalfArc) (d : ℤ) (p q r : Point) (t : Turn) → d ≡ bend h → pos 0 <ℤ d
+    → HasSign t (cross q p r) → HasSign t (outward h p q r)
 unfolding outward
 outward_left h d p q r t e l s = subst (HasSign t) (ap (λ b. b *ℤ cross q p r) e ∙ sym (turned p q r (bend h))) (sign_times t d (cross q p r) l s)
 
-pub outward_right : (h : HalfArc) (d : ℤ) (p q r : Point) (t : Turn) → d ≡ bend h → d <ℤ pos 0 → HasSign t (cross p q r) → HasSign t (outward h p q r)
+pub outward_right : (h : HalfArc) (d : ℤ) (p q r : Point) (t : Turn) → d ≡ bend h → d <ℤ pos 0
+    → HasSign t (cross p q r) → HasSign t (outward h p q r)
 unfolding outward
 outward_right h d p q r t e l s = subst (HasSign t) (flip d (cross p q r) ∙ ap (λ b. pos 0 -ℤ (b *ℤ cross p q r)) e) (sign_times t (pos 0 -ℤ d) (cross p q r) (omega (arith, ints, l)) s)
   where
@@ -71,7 +76,9 @@ unfolding outward
 outward_back h p q r = ap (λ z. pos 0 -ℤ z) (sym (turned p q r (bend h)))
 
 -- ---- sums
-pub along_is : (k : Circle) (p : Point) (w t x y r : ℤ) → w ≡ k.m.x -ℤ k.s.x → t ≡ k.m.y -ℤ k.s.y → x ≡ p.x -ℤ k.s.x → y ≡ p.y -ℤ k.s.y → r ≡ (w *ℤ x) +ℤ (t *ℤ y) → r ≡ along (half_arc k) (point p)
+pub along_is : (k : Circle) (p : Point) (w t x y r : ℤ) → w ≡ k.m.x -ℤ k.s.x → t ≡ k.m.y -ℤ k.s.y
+    → x ≡ p.x -ℤ k.s.x → y ≡ p.y -ℤ k.s.y → r ≡ (w *ℤ x) +ℤ (t *ℤ y)
+    → r ≡ along (half_arc k) (point p)
 unfolding along
 along_is k p w t x y r e f g i j =
     let a = one k.s.x in
@@ -81,7 +88,8 @@ along_is k p w t x y r e f g i j =
     one : (z : ℤ) → z *ℤ pos 1 ≡ z
     one z = omega (arith, ints)
 
-pub facing_is : (k : Circle) (x y u v r : ℤ) → x ≡ k.e.x -ℤ k.s.x → y ≡ k.e.y -ℤ k.s.y → u ≡ k.e.x -ℤ k.m.x → v ≡ k.e.y -ℤ k.m.y → r ≡ (x *ℤ u) +ℤ (y *ℤ v) → r ≡ facing (half_arc k)
+pub facing_is : (k : Circle) (x y u v r : ℤ) → x ≡ k.e.x -ℤ k.s.x → y ≡ k.e.y -ℤ k.s.y
+    → u ≡ k.e.x -ℤ k.m.x → v ≡ k.e.y -ℤ k.m.y → r ≡ (x *ℤ u) +ℤ (y *ℤ v) → r ≡ facing (half_arc k)
 unfolding facing
 facing_is k x y u v r e f g i j =
     let a = less k.e.x k.m.x k.s.x in
@@ -91,7 +99,8 @@ facing_is k x y u v r e f g i j =
     less : (e m s : ℤ) → (e -ℤ s) -ℤ (m -ℤ s) ≡ e -ℤ m
     less e m s = omega (arith, ints)
 
-pub squares_within : (x y s : ℤ) → IsWithin (2 ^ 29) x → IsWithin (2 ^ 29) y → s ≡ (x *ℤ x) +ℤ (y *ℤ y) → IsWithin (2 ^ 59) s
+pub squares_within : (x y s : ℤ) → IsWithin (2 ^ 29) x → IsWithin (2 ^ 29) y
+    → s ≡ (x *ℤ x) +ℤ (y *ℤ y) → IsWithin (2 ^ 59) s
 squares_within x y s h k e = subst (IsWithin (2 ^ 59)) (sym e) (within_sum (2 ^ 58) (2 ^ 58) _ _ (within_product (2 ^ 29) (2 ^ 29) x x h h) (within_product (2 ^ 29) (2 ^ 29) y y k k))
 
 -- ---- neighbours among the bays
@@ -107,7 +116,8 @@ next_split h (v ∷ (w ∷ vs)) (o ∷ []) zero l e = absurd (omega (arith, l))
 next_split h (v ∷ (w ∷ vs)) (o ∷ (n ∷ os)) zero l e = let u = under_next h o v n w in ((λ p. (u.1 p.0, p.1)), (λ p. (u.0 p.0, p.1)))
 next_split h (v ∷ vs) (o ∷ os) (suc j) l e = next_split h vs os j (omega (arith, l)) (omega (arith, e))
 
-pub next_at : (h : HalfArc) (vs os : List Point) (i : ℕ) → 1 ≤ i → i < length os → length vs ≡ length os
+pub next_at : (h : HalfArc) (vs os : List Point) (i : ℕ) → 1 ≤ i → i < length os
+    → length vs ≡ length os
     → Neighbours (AreNext h) (bays (drop (i - 1) vs) (drop (i - 1) os)) ↔ (IsUnder h (nth os (i - 1)) (nth vs (i - 1)) (nth os i) × Neighbours (AreNext h) (bays (drop i vs) (drop i os)))
 next_at h vs os i f l e =
     let s : suc (i - 1) ≡ i = omega (arith, f) in
@@ -118,7 +128,8 @@ no_bays : (h : HalfArc) (vs : List Point) → Neighbours (AreNext h) (bays vs []
 no_bays h [] = tt
 no_bays h (v ∷ vs) = tt
 
-pub next_ends : (h : HalfArc) (vs os : List Point) (j : ℕ) → length os ≤ suc j → Neighbours (AreNext h) (bays (drop j vs) (drop j os))
+pub next_ends : (h : HalfArc) (vs os : List Point) (j : ℕ) → length os ≤ suc j
+    → Neighbours (AreNext h) (bays (drop j vs) (drop j os))
 next_ends h [] os zero l = tt
 next_ends h [] os (suc j) l = tt
 next_ends h (v ∷ vs) [] zero l = tt
@@ -129,13 +140,15 @@ next_ends h (v ∷ vs) (o ∷ (n ∷ os)) zero l = absurd (omega (arith, l))
 next_ends h (v ∷ vs) (o ∷ os) (suc j) l = next_ends h vs os j (omega (arith, l))
 
 -- ---- the first and the last bay
-pub first_bays : (P : Point → Type 0) (vs os : List Point) → length vs ≡ length os → First (λ (b : Bay). P b.outer) (bays vs os) ↔ First P os
+pub first_bays : (P : Point → Type 0) (vs os : List Point) → length vs ≡ length os
+    → First (λ (b : Bay). P b.outer) (bays vs os) ↔ First P os
 first_bays P [] [] e = ((λ h. h), (λ h. h))
 first_bays P [] (o ∷ os) e = absurd (omega (arith, e))
 first_bays P (v ∷ vs) [] e = absurd (omega (arith, e))
 first_bays P (v ∷ vs) (o ∷ os) e = ((λ h. h), (λ h. h))
 
-pub last_bays : (P : Point → Type 0) (vs os : List Point) → length vs ≡ length os → Last (λ (b : Bay). P b.outer) (bays vs os) ↔ Last P os
+pub last_bays : (P : Point → Type 0) (vs os : List Point) → length vs ≡ length os
+    → Last (λ (b : Bay). P b.outer) (bays vs os) ↔ Last P os
 last_bays P [] [] e = ((λ h. h), (λ h. h))
 last_bays P [] (o ∷ os) e = absurd (omega (arith, e))
 last_bays P (v ∷ vs) [] e = absurd (omega (arith, e))
@@ -157,15 +170,18 @@ corners_are h vs os e =
 pub lt_test : (a b : ℤ) → IsTrue (lt_z a b) ↔ (a <ℤ b)
 lt_test a b = ((λ t. search rules), (λ l. search rules))
 
-pub bay_is : (h : HalfArc) (v o w : Point) → (((along h (point v) <ℤ along h (point o)) × (along h (point o) <ℤ along h (point w))) × (pos 0 <ℤ outward h v w o)) ↔ IsBay h v (bay o w)
+pub bay_is : (h : HalfArc) (v o w : Point)
+    → (((along h (point v) <ℤ along h (point o)) × (along h (point o) <ℤ along h (point w))) × (pos 0 <ℤ outward h v w o)) ↔ IsBay h v (bay o w)
 bay_is h v o w = ((λ p. record { up = p.0.0; on = p.0.1; over = p.1 }), (λ b. ((b.up, b.on), b.over)))
 
-pub under_is : (h : HalfArc) (o v n : Point) → ((pos 0 <ℤ outward h n o v) × (IsFar h o (distance o n) × IsFar h n (distance o n))) ↔ IsUnder h o v n
+pub under_is : (h : HalfArc) (o v n : Point)
+    → ((pos 0 <ℤ outward h n o v) × (IsFar h o (distance o n) × IsFar h n (distance o n))) ↔ IsUnder h o v n
 under_is h o v n =
     let e = outward_back h o n v in (
       (λ p. let l = p.0 in record { under = omega (arith, ints, e, l); first_far = p.1.0; second_far = p.1.1 }),
       (λ u. let l = u.under in (omega (arith, ints, e, l), (u.first_far, u.second_far))),
     )
 
-pub outside_is : (h : HalfArc) (vs os : List Point) → (Neighbours (AreNext h) (bays vs os) × (First (λ o. ahead_of_from h o ≤ℤ pos 0) os × Last (λ o. ahead_of_to h o ≤ℤ pos 0) os)) ↔ AreOutside h vs os
+pub outside_is : (h : HalfArc) (vs os : List Point)
+    → (Neighbours (AreNext h) (bays vs os) × (First (λ o. ahead_of_from h o ≤ℤ pos 0) os × Last (λ o. ahead_of_to h o ≤ℤ pos 0) os)) ↔ AreOutside h vs os
 outside_is h vs os = ((λ p. record { next = p.0; first = p.1.0; last = p.1.1 }), (λ a. (a.next, (a.first, a.last))))

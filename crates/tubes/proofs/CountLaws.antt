@@ -1,5 +1,7 @@
 -- Which points beside a span are inside where another one is.
-use Rattle.std.proofs.Common.{◌≡◌, ℕ, ◌+◌, ◌*◌, ◌-◌, ◌<◌, ◌≤◌, ◌^◌, Bool, true, false, cond, ℤ, pos, negsuc, ◌+ℤ◌, ◌*ℤ◌, ◌-ℤ◌, ◌<ℤ◌, ◌≤ℤ◌, [], ◌∷◌, refl, arith, ap, sym, ◌∙◌, subst}
+use Rattle.std.proofs.Common.{◌≡◌, ℕ, ◌+◌, ◌*◌, ◌-◌, ◌<◌, ◌≤◌, ◌^◌, Bool, true, false, cond, ℤ, pos}
+use Rattle.std.proofs.Common.{negsuc, ◌+ℤ◌, ◌*ℤ◌, ◌-ℤ◌, ◌<ℤ◌, ◌≤ℤ◌, [], ◌∷◌, refl, arith, ap, sym}
+use Rattle.std.proofs.Common.{◌∙◌, subst}
 use Rattle.std.proofs.lemmas.Int.{ints}
 use Rattle.std.proofs.lemmas.Nat.{mul-le}
 use Rattle.std.specs.Prelude.{unsigned_abs}
@@ -27,7 +29,8 @@ two_below l j i h k m = let p = mul-le (2 * j + 4) l (2 * i) l (omega (arith, k)
 pub three_below : (l j i : ℕ) → 4 ≤ j → j + 3 ≤ i → 2 * i ≤ l + 1 → Follows l j i
 three_below l j i h k m = let p = mul-le (2 * j + 6) l (2 * i) l (omega (arith, k)) (omega arith) in record { least = h; less = omega (arith, k); far = omega (arith, p, m) }
 
-above : (l j n t : ℕ) → 4 ≤ j → 0 < n → 3 ≤ l → 6 * (j + n) + 3 * l ≤ 2 * (n * l) + 3 → Follows l j (j + n + t)
+above : (l j n t : ℕ) → 4 ≤ j → 0 < n → 3 ≤ l → 6 * (j + n) + 3 * l ≤ 2 * (n * l) + 3
+    → Follows l j (j + n + t)
 above l j n t h k m f =
     let p = mul-le 3 t l t m (omega arith) in
     record { least = h; less = omega (arith, k); far = omega (arith, p, f) }
@@ -96,7 +99,8 @@ placed h p q n l =
     record { rx = x.0; ry = y.0; rx_least = x.1; rx_most = x.2; ry_least = y.1; ry_most = y.2; right = x.3; above = y.3 }
 
 -- the distance rounded down is not above the distance
-whole_most : (p q : Point) → (pos (whole_distance p q) *ℤ pos (whole_distance p q)) ≤ℤ dot (q.x -ℤ p.x) (q.y -ℤ p.y) (q.x -ℤ p.x) (q.y -ℤ p.y)
+whole_most : (p q : Point)
+    → (pos (whole_distance p q) *ℤ pos (whole_distance p q)) ≤ℤ dot (q.x -ℤ p.x) (q.y -ℤ p.y) (q.x -ℤ p.x) (q.y -ℤ p.y)
 unfolding distance
 whole_most p q =
     let d = dot (q.x -ℤ p.x) (q.y -ℤ p.y) (q.x -ℤ p.x) (q.y -ℤ p.y) in
@@ -106,7 +110,8 @@ whole_most p q =
     let r = (root_is (unsigned_abs (distance p q))).0 in
     most (distance p q) d (whole_distance p q) e (omega (arith, ints, a, b)) r
   where
-    square_back : (a b c d : ℤ) → ((a -ℤ b) *ℤ (a -ℤ b)) +ℤ ((c -ℤ d) *ℤ (c -ℤ d)) ≡ dot (b -ℤ a) (d -ℤ c) (b -ℤ a) (d -ℤ c)
+    square_back : (a b c d : ℤ)
+        → ((a -ℤ b) *ℤ (a -ℤ b)) +ℤ ((c -ℤ d) *ℤ (c -ℤ d)) ≡ dot (b -ℤ a) (d -ℤ c) (b -ℤ a) (d -ℤ c)
     square_back a b c d =
         ring (plus (times (minus (at 0) (at 1)) (minus (at 0) (at 1))) (times (minus (at 2) (at 3)) (minus (at 2) (at 3))))
         (plus (times (minus (at 1) (at 0)) (minus (at 1) (at 0))) (times (minus (at 3) (at 2)) (minus (at 3) (at 2)))) (vars (a ∷ b ∷ c ∷ d ∷ [])) refl
@@ -126,7 +131,8 @@ far_is l j i f =
     let k : 6 * i + (2 * (j * l) + 3 * l) ≤ 2 * (i * l) + 3 = let m = f.far in omega (arith, m) in
     omega (arith, ints, e, k)
 
-pub follows : (h : HalfArc) (p q : Point) (j i : ℕ) → 0 < whole_distance p q → Follows (whole_distance p q) j i → power h (point p) ≤ℤ pos 0 → power h (point q) ≤ℤ pos 0
+pub follows : (h : HalfArc) (p q : Point) (j i : ℕ) → 0 < whole_distance p q
+    → Follows (whole_distance p q) j i → power h (point p) ≤ℤ pos 0 → power h (point q) ≤ℤ pos 0
     → is_inside h p q i ≡ true → is_inside h p q j ≡ true
 unfolding is_inside
 follows h p q j i some f hp hq t =
@@ -146,7 +152,8 @@ follows h p q j i some f hp hq t =
     less z h = omega (arith, ints, h)
 
 -- ---- what two tests say
-not_above : (h : HalfArc) (p q : Point) (j i : ℕ) → 0 < whole_distance p q → Follows (whole_distance p q) j i → power h (point p) ≤ℤ pos 0 → power h (point q) ≤ℤ pos 0
+not_above : (h : HalfArc) (p q : Point) (j i : ℕ) → 0 < whole_distance p q
+    → Follows (whole_distance p q) j i → power h (point p) ≤ℤ pos 0 → power h (point q) ≤ℤ pos 0
     → is_inside h p q j ≡ false → is_inside h p q i ≡ false
 not_above h p q j i some f hp hq t = by_test (is_inside h p q i) refl
   where
@@ -154,7 +161,8 @@ not_above h p q j i some f hp hq t = by_test (is_inside h p q i) refl
     by_test true e = sym (follows h p q j i some f hp hq e) ∙ t
     by_test false e = refl
 
-pub window_is : (h : HalfArc) (p q : Point) (b : Bounds) (to from : ℕ) → 0 < whole_distance p q → power h (point p) ≤ℤ pos 0 → power h (point q) ≤ℤ pos 0 → AreBounds h p q b
+pub window_is : (h : HalfArc) (p q : Point) (b : Bounds) (to from : ℕ) → 0 < whole_distance p q
+    → power h (point p) ≤ℤ pos 0 → power h (point q) ≤ℤ pos 0 → AreBounds h p q b
     → ((j : ℕ) → 4 ≤ j → j ≤ to → Follows (whole_distance p q) j b.low) → ((i : ℕ) → from ≤ i → i < 2 ^ 27 → Follows (whole_distance p q) b.high i)
     → IsWindow h p q (record { bounds = b; inside_to = to; outside_from = from })
 window_is h p q b to from some hp hq k below above = record {

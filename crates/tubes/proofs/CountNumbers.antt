@@ -1,5 +1,7 @@
 -- How far the points beside the middle of two points are from them, and the count of two points by its bits.
-use Rattle.std.proofs.Common.{rules, ◌≡◌, ℕ, zero, suc, ◌+◌, ◌-◌, ◌*◌, ◌%◌, ◌<◌, ◌≤◌, ◌^◌, Bool, true, false, cond, nat_lt, None, Some, ℤ, pos, ◌+ℤ◌, ◌*ℤ◌, ◌-ℤ◌, ◌<ℤ◌, ◌≤ℤ◌, [], ◌∷◌, arith, ap, refl, sym, ◌∙◌, subst}
+use Rattle.std.proofs.Common.{rules, ◌≡◌, ℕ, zero, suc, ◌+◌, ◌-◌, ◌*◌, ◌%◌, ◌<◌, ◌≤◌, ◌^◌, Bool}
+use Rattle.std.proofs.Common.{true, false, cond, nat_lt, None, Some, ℤ, pos, ◌+ℤ◌, ◌*ℤ◌, ◌-ℤ◌, ◌<ℤ◌}
+use Rattle.std.proofs.Common.{◌≤ℤ◌, [], ◌∷◌, arith, ap, refl, sym, ◌∙◌, subst}
 use Rattle.std.proofs.lemmas.Int.{ints}
 use Rattle.std.proofs.Math.Pow.{pow_mono}
 use Rattle.std.specs.Prelude.{min, max}
@@ -17,7 +19,8 @@ use Rattle.plane.proofs.Algebra.Ring.{at, minus, ring, times, vars}
 use Rattle.arc_predicates.specs.Circles.{HasSign}
 use Rattle.arc_predicates.specs.declared.sides.Side.{Side}
 use Rattle.arc_predicates.specs.declared.sides.Side.TheVariants as side
-use Rattle.tubes.specs.HalfArcTubes.{beside, count, is_inside, turned_x, turned_y, whole_distance, with_bits}
+use Rattle.tubes.specs.HalfArcTubes.{beside, count, is_inside, turned_x, turned_y, whole_distance}
+use Rattle.tubes.specs.HalfArcTubes.{with_bits}
 use Rattle.tubes.specs.Making.{HasRoom}
 use Rattle.tubes.proofs.Means.{moved_from}
 use Rattle.tubes.proofs.SpanNumbers.{positive_false, positive_true, size_at_most}
@@ -35,14 +38,16 @@ IsSmall l w = (w ≤ℤ pos l) × ((pos 0 -ℤ w) ≤ℤ pos l)
 square_back : (a b : ℤ) → (a -ℤ b) *ℤ (a -ℤ b) ≡ (b -ℤ a) *ℤ (b -ℤ a)
 square_back a b = ring (times (minus (at 0) (at 1)) (minus (at 0) (at 1))) (times (minus (at 1) (at 0)) (minus (at 1) (at 0))) (vars (a ∷ b ∷ [])) refl
 
-difference_x : (p q : Point) → IsSmall (whole_distance p q) (p.x -ℤ q.x) × IsSmall (whole_distance p q) (q.x -ℤ p.x)
+difference_x : (p q : Point)
+    → IsSmall (whole_distance p q) (p.x -ℤ q.x) × IsSmall (whole_distance p q) (q.x -ℤ p.x)
 unfolding distance
 difference_x p q =
     let s = square_nonnegative (p.y -ℤ q.y) in
     let e = square_back q.x p.x in
     (size_at_most (p.x -ℤ q.x) (distance p q) (omega (arith, ints, s)), size_at_most (q.x -ℤ p.x) (distance p q) (omega (arith, ints, s, e)))
 
-difference_y : (p q : Point) → IsSmall (whole_distance p q) (p.y -ℤ q.y) × IsSmall (whole_distance p q) (q.y -ℤ p.y)
+difference_y : (p q : Point)
+    → IsSmall (whole_distance p q) (p.y -ℤ q.y) × IsSmall (whole_distance p q) (q.y -ℤ p.y)
 unfolding distance
 difference_y p q =
     let s = square_nonnegative (p.x -ℤ q.x) in
@@ -53,7 +58,8 @@ by_bool : (P : ℤ → Type 0) (b : Bool) (u v : ℤ) → P u → P v → P (con
 by_bool P true u v h k = h
 by_bool P false u v h k = k
 
-pub is_beside : (h : HalfArc) (p q : Point) (n : ℤ) (m : ℕ) → 0 < whole_distance p q → n ≤ℤ pos m → (pos 0 -ℤ n) ≤ℤ pos m → IsBeside m p q (beside h p q n)
+pub is_beside : (h : HalfArc) (p q : Point) (n : ℤ) (m : ℕ) → 0 < whole_distance p q → n ≤ℤ pos m
+    → (pos 0 -ℤ n) ≤ℤ pos m → IsBeside m p q (beside h p q n)
 unfolding beside
 is_beside h p q n m l nl nm =
     let dx = difference_x p q in
@@ -65,10 +71,13 @@ is_beside h p q n m l nl nm =
     record { right = x.0; left = x.1; above = y.0; below = y.1 }
 
 -- ---- how near such a point is
-near_one : (m r : ℕ) (s p q v : ℤ) → IsNear r s p → IsNear (2 ^ 28) p q → (pos 2 *ℤ v) ≤ℤ ((p +ℤ q) +ℤ pos (2 * m)) → (p +ℤ q) <ℤ ((pos 2 *ℤ v) +ℤ pos (2 * m + 2)) → IsNear (r + 2 ^ 27 + m) s v
+near_one : (m r : ℕ) (s p q v : ℤ) → IsNear r s p → IsNear (2 ^ 28) p q
+    → (pos 2 *ℤ v) ≤ℤ ((p +ℤ q) +ℤ pos (2 * m)) → (p +ℤ q) <ℤ ((pos 2 *ℤ v) +ℤ pos (2 * m + 2))
+    → IsNear (r + 2 ^ 27 + m) s v
 near_one m r s p q v h k u l = record { above = omega (arith, ints, h.above, k.above, u, l); below = omega (arith, ints, h.below, k.below, u, l) }
 
-pub beside_near : (m r : ℕ) (s p q v : Point) → AreNear r s p → AreNear (2 ^ 28) p q → IsBeside m p q v → AreNear (r + 2 ^ 27 + m) s v
+pub beside_near : (m r : ℕ) (s p q v : Point) → AreNear r s p → AreNear (2 ^ 28) p q
+    → IsBeside m p q v → AreNear (r + 2 ^ 27 + m) s v
 beside_near m r s p q v h k b = record { x = near_one m r s.x p.x q.x v.x h.x k.x b.right b.left; y = near_one m r s.y p.y q.y v.y h.y k.y b.above b.below }
 
 pub near_more : (m n : ℕ) (p q : Point) → m ≤ n → AreNear m p q → AreNear n p q
@@ -78,7 +87,9 @@ near_more m n p q l h = record {
 }
 
 -- the point that the test of k asks for
-pub tested_near : (h : HalfArc) (s p q : Point) (k : ℕ) → AreNear (2 ^ 31) s p → AreNear (2 ^ 28) p q → 0 < whole_distance p q → k < 2 ^ 27 → AreNear (2 ^ 32) s (beside h p q (pos k -ℤ pos 2))
+pub tested_near : (h : HalfArc) (s p q : Point) (k : ℕ) → AreNear (2 ^ 31) s p
+    → AreNear (2 ^ 28) p q → 0 < whole_distance p q → k < 2 ^ 27
+    → AreNear (2 ^ 32) s (beside h p q (pos k -ℤ pos 2))
 tested_near h s p q k n st l b =
     near_more (2 ^ 31 + 2 ^ 27 + 2 ^ 27) (2 ^ 32) s _ (omega arith) (beside_near (2 ^ 27) (2 ^ 31) s p q _ n st (is_beside h p q (pos k -ℤ pos 2) (2 ^ 27) l (omega (arith, ints, b)) (omega (arith, ints, b))))
 
@@ -87,7 +98,8 @@ pub has_room : (s p : Point) → IsShort s → AreNear (2 ^ 31) s p → HasRoom 
 has_room s p h n = let hx = h.x in let hy = h.y in let nx = n.x in let ny = n.y in record { x = omega (arith, ints, hx, nx); y = omega (arith, ints, hy, ny) }
 
 -- ---- the bits
-pub bits_step : (test : ℕ → Bool) (more left k : ℕ) → more ≡ suc left → with_bits test more k ≡ with_bits test left (cond (test (k + 2 ^ left)) (k + 2 ^ left) k)
+pub bits_step : (test : ℕ → Bool) (more left k : ℕ) → more ≡ suc left
+    → with_bits test more k ≡ with_bits test left (cond (test (k + 2 ^ left)) (k + 2 ^ left) k)
 unfolding with_bits
 bits_step test more left k e = ap (λ n. with_bits test n k) e
 
@@ -108,10 +120,12 @@ twice : (n : ℕ) → 2 ^ suc n ≡ 2 ^ n + 2 ^ n
 twice n = omega arith
 
 -- the number that is tested for the bit of 2 ^ left, and what is left of it
-pub tested_small : (k more left : ℕ) → more ≡ suc left → k + 2 ^ more ≤ 2 ^ 27 → (k + 2 ^ left) + 2 ^ left ≤ 2 ^ 27
+pub tested_small : (k more left : ℕ) → more ≡ suc left → k + 2 ^ more ≤ 2 ^ 27
+    → (k + 2 ^ left) + 2 ^ left ≤ 2 ^ 27
 tested_small k more left e h = let t = twice left in let f = ap (λ n. 2 ^ n) e in omega (arith, h, t, f)
 
-pub small_test : (top done k : ℕ) → top ≤ 27 → done < top → k + 2 ^ (top - done) ≤ 2 ^ 27 → k + 1 * 2 ^ (top - 1 - done) % 2 ^ 32 < 2 ^ 27
+pub small_test : (top done k : ℕ) → top ≤ 27 → done < top → k + 2 ^ (top - done) ≤ 2 ^ 27
+    → k + 1 * 2 ^ (top - 1 - done) % 2 ^ 32 < 2 ^ 27
 small_test top done k m d h =
     let left = top - 1 - done in
     let up : top - done ≡ suc left = omega (arith, d) in
@@ -120,7 +134,8 @@ small_test top done k m d h =
     subst (λ (n : ℕ). k + n < 2 ^ 27) (sym (bit_is left (omega (arith, m, d)))) (omega (arith, t, p))
 
 -- one turn of the loop over the bits
-pub preserved : (test : ℕ → Bool) (top done k more next all : ℕ) (t : Bool) → top ≤ 27 → done < top → more ≡ k + 1 * 2 ^ (top - 1 - done) % 2 ^ 32 → t ≡ test more → next ≡ cond t more k
+pub preserved : (test : ℕ → Bool) (top done k more next all : ℕ) (t : Bool) → top ≤ 27 → done < top
+    → more ≡ k + 1 * 2 ^ (top - 1 - done) % 2 ^ 32 → t ≡ test more → next ≡ cond t more k
     → with_bits test (top - done) k ≡ all → k + 2 ^ (top - done) ≤ 2 ^ 27 → (with_bits test (top - (done + 1)) next ≡ all) × (next + 2 ^ (top - (done + 1)) ≤ 2 ^ 27)
 preserved test top done k more next all t b d m e n h l =
     let rest = top - 1 - done in
@@ -132,12 +147,16 @@ preserved test top done k more next all t b d m e n h l =
       subst (λ p. next + 2 ^ p ≤ 2 ^ 27) (sym left) (by_test t next n (tested_small k (top - done) rest up l) f),
     )
   where
-    by_test : (t : Bool) (next : ℕ) → next ≡ cond t more k → (k + 2 ^ (top - 1 - done)) + 2 ^ (top - 1 - done) ≤ 2 ^ 27 → more ≡ k + 2 ^ (top - 1 - done) → next + 2 ^ (top - 1 - done) ≤ 2 ^ 27
+    by_test : (t : Bool) (next : ℕ) → next ≡ cond t more k
+        → (k + 2 ^ (top - 1 - done)) + 2 ^ (top - 1 - done) ≤ 2 ^ 27
+        → more ≡ k + 2 ^ (top - 1 - done) → next + 2 ^ (top - 1 - done) ≤ 2 ^ 27
     by_test true next e h f = omega (arith, e, h, f)
     by_test false next e h f = omega (arith, e, h, f)
 
 -- bits that are too great are not taken
-pub bits_skip : (test : ℕ → Bool) (top more : ℕ) → top + more ≤ 27 → ((i : ℕ) → 2 ^ top ≤ i → i < 2 ^ 27 → test i ≡ false) → with_bits test (top + more) 0 ≡ with_bits test top 0
+pub bits_skip : (test : ℕ → Bool) (top more : ℕ) → top + more ≤ 27
+    → ((i : ℕ) → 2 ^ top ≤ i → i < 2 ^ 27 → test i ≡ false)
+    → with_bits test (top + more) 0 ≡ with_bits test top 0
 bits_skip test top zero h f = let e : top + 0 ≡ top = omega arith in ap (λ n. with_bits test n 0) e
 bits_skip test top (suc more) h f =
     let low = pow_mono {i = top} {j = top + more} (omega arith) in
@@ -146,7 +165,8 @@ bits_skip test top (suc more) h f =
     bits_step test (top + suc more) (top + more) 0 (omega arith) ∙ ap (λ t. with_bits test (top + more) (cond t (0 + 2 ^ (top + more)) 0)) e ∙ bits_skip test top more (omega (arith, h)) f
 
 -- the width of the numbers below end
-pub width_is : (end m l w i : ℕ) → m ≡ max end 1 → m < 2 * 2 ^ l → w ≡ min (l + 1) 27 → 2 ^ w ≤ i → i < 2 ^ 27 → end ≤ i
+pub width_is : (end m l w i : ℕ) → m ≡ max end 1 → m < 2 * 2 ^ l → w ≡ min (l + 1) 27 → 2 ^ w ≤ i
+    → i < 2 ^ 27 → end ≤ i
 width_is end m l w i e h f k n =
     by_lt (l + 1) 27
     (λ (a : l + 1 < 27).
@@ -163,11 +183,13 @@ pub top_small : (top : ℕ) → top ≤ 27 → 0 + 2 ^ top ≤ 2 ^ 27
 top_small top h = let p = pow_mono {i = top} {j = 27} h in omega (arith, p)
 
 -- ---- sides as tests
-pub inside_true : (h : HalfArc) (p q v : Point) (k : ℕ) → v ≡ beside h p q (pos k -ℤ pos 2) → power h (point v) <ℤ pos 0 → true ≡ is_inside h p q k
+pub inside_true : (h : HalfArc) (p q v : Point) (k : ℕ) → v ≡ beside h p q (pos k -ℤ pos 2)
+    → power h (point v) <ℤ pos 0 → true ≡ is_inside h p q k
 unfolding is_inside
 inside_true h p q v k e l = sym (positive_true _ (let m = subst (λ v. power h (point v) <ℤ pos 0) e l in omega (arith, ints, m)))
 
-pub inside_false : (h : HalfArc) (p q v : Point) (k : ℕ) → v ≡ beside h p q (pos k -ℤ pos 2) → pos 0 ≤ℤ power h (point v) → false ≡ is_inside h p q k
+pub inside_false : (h : HalfArc) (p q v : Point) (k : ℕ) → v ≡ beside h p q (pos k -ℤ pos 2)
+    → pos 0 ≤ℤ power h (point v) → false ≡ is_inside h p q k
 unfolding is_inside
 inside_false h p q v k e l = sym (positive_false _ (let m = subst (λ v. pos 0 ≤ℤ power h (point v)) e l in omega (arith, ints, m)))
 
@@ -176,7 +198,8 @@ not_inside side.Inside z h n = absurd (n refl)
 not_inside side.On z h n = omega (arith, ints, h)
 not_inside side.Outside z h n = omega (arith, ints, h)
 
-pub count_is : (h : HalfArc) (p q : Point) → 0 < whole_distance p q → count h p q ≡ cond (is_inside h p q 0) (Some (with_bits (is_inside h p q) 27 0)) None
+pub count_is : (h : HalfArc) (p q : Point) → 0 < whole_distance p q
+    → count h p q ≡ cond (is_inside h p q 0) (Some (with_bits (is_inside h p q) 27 0)) None
 unfolding count
 count_is h p q l = ap (λ t. cond t (cond (is_inside h p q 0) (Some (with_bits (is_inside h p q) 27 0)) None) None) (positive _ l)
   where

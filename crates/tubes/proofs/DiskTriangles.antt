@@ -1,5 +1,6 @@
 -- A point of the triangle of three points of a circle's disk is strictly inside the circle where the third one is and has some weight.
-use Rattle.std.proofs.Common.{◌≡◌, ℤ, pos, ◌+ℤ◌, ◌*ℤ◌, ◌-ℤ◌, ◌<ℤ◌, ◌≤ℤ◌, [], ◌∷◌, refl, arith, ap, ◌∙◌}
+use Rattle.std.proofs.Common.{◌≡◌, ℤ, pos, ◌+ℤ◌, ◌*ℤ◌, ◌-ℤ◌, ◌<ℤ◌, ◌≤ℤ◌, [], ◌∷◌, refl, arith, ap}
+use Rattle.std.proofs.Common.{◌∙◌}
 use Rattle.std.proofs.lemmas.Int.{ints, by_lt_z}
 use Rattle.plane.specs.Forms.Vectors.{point}
 use Rattle.plane.specs.Rule.HalfArcs.{HalfArc, bend, circle_x, circle_y, power}
@@ -51,7 +52,8 @@ most : (s f : ℤ) → pos 0 ≤ℤ s → f ≤ℤ pos 0 → (s *ℤ f) ≤ℤ p
 most s f h k = let p = times_le s f (pos 0) h k in let z : s *ℤ pos 0 ≡ pos 0 = omega (arith, ints) in omega (arith, ints, p, z)
 
 -- the point z where n (z - p) = s u + t v
-form_inside : (d a b x y ux uy vx vy zx zy n s t : ℤ) → pos 0 <ℤ n → pos 0 ≤ℤ ((n -ℤ s) -ℤ t) → pos 0 ≤ℤ s → pos 0 <ℤ t
+form_inside : (d a b x y ux uy vx vy zx zy n s t : ℤ) → pos 0 <ℤ n → pos 0 ≤ℤ ((n -ℤ s) -ℤ t)
+    → pos 0 ≤ℤ s → pos 0 <ℤ t
     → n *ℤ zx ≡ (n *ℤ x) +ℤ ((s *ℤ ux) +ℤ (t *ℤ vx)) → n *ℤ zy ≡ (n *ℤ y) +ℤ ((s *ℤ uy) +ℤ (t *ℤ vy))
     → form d a b x y ≤ℤ pos 0 → form d a b (x +ℤ ux) (y +ℤ uy) ≤ℤ pos 0 → form d a b (x +ℤ vx) (y +ℤ vy) <ℤ pos 0 → form d a b zx zy <ℤ pos 0
 form_inside d a b x y ux uy vx vy zx zy n s t hn hr hs ht ex ey fp fq fv =
@@ -79,7 +81,8 @@ form_inside d a b x y ux uy vx vy zx zy n s t hn hr hs ht ex ey fp fq fv =
     below m f h k = by_lt_z f (pos 0) (λ l. l) (λ (l : pos 0 ≤ℤ f). let p = product_nonnegative m f (omega (arith, ints, h)) l in absurd (omega (arith, ints, p, k)))
 
 -- a difference seen from the circle's first point
-seen : (n f x z g : ℤ) → n *ℤ (z -ℤ x) ≡ g → n *ℤ (z -ℤ (f *ℤ pos 1)) ≡ (n *ℤ (x -ℤ (f *ℤ pos 1))) +ℤ g
+seen : (n f x z g : ℤ) → n *ℤ (z -ℤ x) ≡ g
+    → n *ℤ (z -ℤ (f *ℤ pos 1)) ≡ (n *ℤ (x -ℤ (f *ℤ pos 1))) +ℤ g
 seen n f x z g e =
     let r : n *ℤ (z -ℤ (f *ℤ pos 1)) ≡ (n *ℤ (x -ℤ (f *ℤ pos 1))) +ℤ (n *ℤ (z -ℤ x)) =
     ring (times (at 0) (minus (at 3) (times (at 1) (num (pos 1))))) (plus (times (at 0) (minus (at 2) (times (at 1) (num (pos 1))))) (times (at 0) (minus (at 3) (at 2)))) (vars (n ∷ f ∷ x ∷ z ∷ [])) refl in
@@ -89,7 +92,8 @@ far_end : (f x z : ℤ) → z -ℤ (f *ℤ pos 1) ≡ (x -ℤ (f *ℤ pos 1)) +�
 far_end f x z = omega (arith, ints)
 
 -- z is a mean of p, q and v
-pub inside_triangle : (h : HalfArc) (p q v z : Point) (n s t : ℤ) → pos 0 <ℤ n → pos 0 ≤ℤ ((n -ℤ s) -ℤ t) → pos 0 ≤ℤ s → pos 0 <ℤ t
+pub inside_triangle : (h : HalfArc) (p q v z : Point) (n s t : ℤ) → pos 0 <ℤ n
+    → pos 0 ≤ℤ ((n -ℤ s) -ℤ t) → pos 0 ≤ℤ s → pos 0 <ℤ t
     → n *ℤ (z.x -ℤ p.x) ≡ (s *ℤ (q.x -ℤ p.x)) +ℤ (t *ℤ (v.x -ℤ p.x)) → n *ℤ (z.y -ℤ p.y) ≡ (s *ℤ (q.y -ℤ p.y)) +ℤ (t *ℤ (v.y -ℤ p.y))
     → power h (point p) ≤ℤ pos 0 → power h (point q) ≤ℤ pos 0 → power h (point v) <ℤ pos 0 → power h (point z) <ℤ pos 0
 unfolding power

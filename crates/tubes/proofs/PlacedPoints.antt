@@ -1,5 +1,6 @@
 -- Points beside a span, up to the rests of two roundings, and how great these rests are along a way.
-use Rattle.std.proofs.Common.{◌≡◌, suc, ℤ, pos, negsuc, ◌+ℤ◌, ◌*ℤ◌, ◌-ℤ◌, ◌≤ℤ◌, [], ◌∷◌, refl, arith, ap, ◌∙◌}
+use Rattle.std.proofs.Common.{◌≡◌, suc, ℤ, pos, negsuc, ◌+ℤ◌, ◌*ℤ◌, ◌-ℤ◌, ◌≤ℤ◌, [], ◌∷◌, refl}
+use Rattle.std.proofs.Common.{arith, ap, ◌∙◌}
 use Rattle.std.proofs.lemmas.Int.{ints}
 use Rattle.plane.proofs.Algebra.Laws.{product_nonnegative, square_nonnegative}
 use Rattle.plane.proofs.Algebra.Ring.{Expr, at, minus, num, plus, ring, times, vars}
@@ -56,7 +57,8 @@ size_square : (z : ℤ) → (over z +ℤ under z) *ℤ (over z +ℤ under z) ≡
 size_square (pos n) = let e : pos n +ℤ pos 0 ≡ pos n = omega (arith, ints) in ap (λ (m : ℤ). m *ℤ m) e
 size_square (negsuc n) = let e : pos 0 +ℤ pos (suc n) ≡ pos (suc n) = omega (arith, ints) in ap (λ (m : ℤ). m *ℤ m) e
 
-part : (m r z : ℤ) → pos 0 ≤ℤ r → r ≤ℤ m → ((r *ℤ z) ≤ℤ (m *ℤ over z)) × ((pos 0 -ℤ (r *ℤ z)) ≤ℤ (m *ℤ under z))
+part : (m r z : ℤ) → pos 0 ≤ℤ r → r ≤ℤ m
+    → ((r *ℤ z) ≤ℤ (m *ℤ over z)) × ((pos 0 -ℤ (r *ℤ z)) ≤ℤ (m *ℤ under z))
 part m r (pos n) h k =
     let a = product_nonnegative r (pos n) h (omega (arith, ints)) in
     let b = product_nonnegative (m -ℤ r) (pos n) (omega (arith, ints, k)) (omega (arith, ints)) in
@@ -81,7 +83,8 @@ unders x y = under x +ℤ under y
 abbrev pub sizes : ℤ → ℤ → ℤ
 sizes x y = overs x y +ℤ unders x y
 
-pub parts : (m rx ry zx zy : ℤ) → pos 0 ≤ℤ rx → rx ≤ℤ m → pos 0 ≤ℤ ry → ry ≤ℤ m → (dot rx ry zx zy ≤ℤ (m *ℤ overs zx zy)) × ((pos 0 -ℤ dot rx ry zx zy) ≤ℤ (m *ℤ unders zx zy))
+pub parts : (m rx ry zx zy : ℤ) → pos 0 ≤ℤ rx → rx ≤ℤ m → pos 0 ≤ℤ ry → ry ≤ℤ m
+    → (dot rx ry zx zy ≤ℤ (m *ℤ overs zx zy)) × ((pos 0 -ℤ dot rx ry zx zy) ≤ℤ (m *ℤ unders zx zy))
 parts m rx ry zx zy a b c d =
     let x = part m rx zx a b in
     let y = part m ry zy c d in
@@ -93,7 +96,8 @@ pub sizes_least : (x y : ℤ) → pos 0 ≤ℤ sizes x y
 sizes_least x y = let a = over_least x in let b = over_least y in let c = under_least x in let d = under_least y in omega (arith, ints, a, b, c, d)
 
 -- where x x + y y is e and l is at most its root
-pub sizes_most : (l e x y : ℤ) → (l *ℤ l) ≤ℤ e → dot x y x y ≡ e → ((pos 2 *ℤ l) *ℤ sizes x y) ≤ℤ (pos 3 *ℤ e)
+pub sizes_most : (l e x y : ℤ) → (l *ℤ l) ≤ℤ e → dot x y x y ≡ e
+    → ((pos 2 *ℤ l) *ℤ sizes x y) ≤ℤ (pos 3 *ℤ e)
 sizes_most l e x y h k =
     let m = over x +ℤ under x in
     let n = over y +ℤ under y in

@@ -1,5 +1,6 @@
 -- A level settles a drawing exactly where a complete run over its edges there is settled.
-use Rattle.std.proofs.Common.{◌≡◌, ◌⊎◌, inl, inr, ℕ, suc, ◌+◌, ◌*◌, ◌<◌, ◌^◌, List, [], ◌∷◌, length, get_or, map, None, arith, add-one, ap, sym, ◌∙◌, subst}
+use Rattle.std.proofs.Common.{◌≡◌, ◌⊎◌, inl, inr, ℕ, suc, ◌+◌, ◌*◌, ◌<◌, ◌^◌, List, [], ◌∷◌, length}
+use Rattle.std.proofs.Common.{get_or, map, None, arith, add-one, ap, sym, ◌∙◌, subst}
 use Rattle.plane.specs.CurveRuns.Levels.{AreWide, IsSettledDrawing, IsSettledRun}
 use Rattle.plane.specs.CurveRuns.TubedRuns as runs
 use Rattle.plane.specs.Faces.Replays.{no_step}
@@ -15,7 +16,8 @@ use Rattle.plane.proofs.Runs.Numbered.{index_of}
 use Rattle.plane.proofs.Runs.RunLaws.{run_meets}
 use Rattle.straight_predicates.specs.EdgeEvents.{event_of}
 use Rattle.straight_predicates.specs.EdgeLists.{edge_of}
-use Rattle.tubes.specs.Settled.{HaveTubes, IsFirstForeign, IsOwnCorner, IsSettledAt, edge_at, edges_at, owned_at}
+use Rattle.tubes.specs.Settled.{HaveTubes, IsFirstForeign, IsOwnCorner, IsSettledAt, edge_at}
+use Rattle.tubes.specs.Settled.{edges_at, owned_at}
 use Rattle.tubes.specs.TubedEdges.{IsTubedList, drawn_bays}
 use Rattle.tubes.specs.declared.kinds.EdgeList.{EdgeList}
 use Rattle.tubes.proofs.LevelEdges.{bay_count}
@@ -40,7 +42,9 @@ wide d level tubes i l h =
     two (b ∷ (c ∷ bs)) l = tt
 
 -- ---- a complete run over the list, whose corners are their own
-pub tubed_run : (d : Plan) (level : ℕ) (list : EdgeList) (steps : List Step) → IsTubedList d level list → ((p : Point) → IsOwnCorner d level p) → Run (length list.edges.items) (edge_of list.edges.items) steps
+pub tubed_run : (d : Plan) (level : ℕ) (list : EdgeList) (steps : List Step)
+    → IsTubedList d level list → ((p : Point) → IsOwnCorner d level p)
+    → Run (length list.edges.items) (edge_of list.edges.items) steps
     → runs.IsTubedRun d (drawn_bays d level) (length list.edges.items) (edge_of list.edges.items) steps
 tubed_run d level list steps t own run = record {
   tube = λ i l h. tube_by_number d level i (t.tubes i (record { there = l; kind = h }));
@@ -52,7 +56,9 @@ tubed_run d level list steps t own run = record {
       (sym t.edges) (own (get_or steps k no_step).at e f);
 }
 
-pub settled_run : (d : Plan) (level : ℕ) (list : EdgeList) (steps : List Step) → IsTubedList d level list → IsSettledAt d level → Run (length list.edges.items) (edge_of list.edges.items) steps
+pub settled_run : (d : Plan) (level : ℕ) (list : EdgeList) (steps : List Step)
+    → IsTubedList d level list → IsSettledAt d level
+    → Run (length list.edges.items) (edge_of list.edges.items) steps
     → IsSettledDrawing d (drawn_bays d level) (length list.edges.items) (edge_of list.edges.items) steps
 settled_run d level list steps t s run = record {
   run = tubed_run d level list steps t s.corners run;
@@ -62,17 +68,21 @@ settled_run d level list steps t s run = record {
 
 -- ---- the other way
 -- the step of an end
-step_of_end : (m : ℕ) (E : ℕ → Edge) (steps : List Step) (e : ℕ) (p : Point) → Run m E steps → e < m → IsEnd (E e) p → (k : ℕ) × (k < length steps) × ((get_or steps k no_step).at ≡ p)
+step_of_end : (m : ℕ) (E : ℕ → Edge) (steps : List Step) (e : ℕ) (p : Point) → Run m E steps → e < m
+    → IsEnd (E e) p → (k : ℕ) × (k < length steps) × ((get_or steps k no_step).at ≡ p)
 step_of_end m E steps e p run l h = by_end h
   where
-    at_some : (q : Point) → AtSome q steps → q ≡ p → (k : ℕ) × (k < length steps) × ((get_or steps k no_step).at ≡ p)
+    at_some : (q : Point) → AtSome q steps → q ≡ p
+        → (k : ℕ) × (k < length steps) × ((get_or steps k no_step).at ≡ p)
     at_some q (s, a, b) c = let i = index_of steps s a in (i.0, i.1, ap (λ (s : Step). s.at) i.2 ∙ sym b ∙ c)
 
     by_end : IsEnd (E e) p → (k : ℕ) × (k < length steps) × ((get_or steps k no_step).at ≡ p)
     by_end (inl c) = at_some (E e).low (run.ends e l).0 c
     by_end (inr c) = at_some (E e).high (run.ends e l).1 c
 
-pub level_settled : (d : Plan) (level : ℕ) (steps : List Step) → HaveTubes d level → IsSettledDrawing d (drawn_bays d level) (length (edges_at d level)) (edge_at d level) steps → IsSettledAt d level
+pub level_settled : (d : Plan) (level : ℕ) (steps : List Step) → HaveTubes d level
+    → IsSettledDrawing d (drawn_bays d level) (length (edges_at d level)) (edge_at d level) steps
+    → IsSettledAt d level
 level_settled d level steps tubes s = record {
   tubes = tubes;
   meet = λ e f l k n. run_meets (length (edges_at d level)) (edge_at d level) steps s.run.run e f l k n;
@@ -85,12 +95,15 @@ level_settled d level steps tubes s = record {
 }
 
 -- ---- corners by events
-event_of_point : (table : List Timed) (p : Point) → Has p (map (λ (t : Timed). t.at) table) → (k : ℕ) × (k < length table) × ((event_of table k).at ≡ p)
+event_of_point : (table : List Timed) (p : Point) → Has p (map (λ (t : Timed). t.at) table)
+    → (k : ℕ) × (k < length table) × ((event_of table k).at ≡ p)
 event_of_point [] p h = absurd h
 event_of_point (t ∷ table) p (inl e) = (0, omega arith, sym e)
 event_of_point (t ∷ table) p (inr h) = let (k, l, e) = event_of_point table p h in (suc k, omega (arith, l), e)
 
-pub own_corners : (d : Plan) (level : ℕ) (table : List Timed) → IsTimetable (length (edges_at d level)) (edge_at d level) table → IsFirstForeign d level table None → (p : Point) → IsOwnCorner d level p
+pub own_corners : (d : Plan) (level : ℕ) (table : List Timed)
+    → IsTimetable (length (edges_at d level)) (edge_at d level) table
+    → IsFirstForeign d level table None → (p : Point) → IsOwnCorner d level p
 own_corners d level table h own p e f l k t a b =
     let i = event_of_point table p (by_end a) in
     subst (λ (q : Point). IsEnd (edge_at d level e) q → IsEnd (edge_at d level f) q

@@ -1,5 +1,6 @@
 -- Sums and products of numbers that are small, computed in 64 bits.
-use Rattle.std.proofs.Common.{◌≡◌, ℕ, suc, ◌+◌, ◌*◌, ◌<◌, ◌^◌, ℤ, pos, negsuc, ◌+ℤ◌, ◌*ℤ◌, ◌-ℤ◌, ◌<ℤ◌, ◌≤ℤ◌, ◌-◌, arith, refl, FitsSigned, to_z, of_z, to_z-of_z}
+use Rattle.std.proofs.Common.{◌≡◌, ℕ, suc, ◌+◌, ◌*◌, ◌<◌, ◌^◌, ℤ, pos, negsuc, ◌+ℤ◌, ◌*ℤ◌, ◌-ℤ◌}
+use Rattle.std.proofs.Common.{◌<ℤ◌, ◌≤ℤ◌, ◌-◌, arith, refl, FitsSigned, to_z, of_z, to_z-of_z}
 use Rattle.std.specs.Int.{w64}
 use Rattle.std.proofs.lemmas.Int.{ints}
 use Rattle.std.proofs.lemmas.Nat.{mul-le}
@@ -24,7 +25,8 @@ pub near_back : (m : ℕ) (a b : ℤ) → IsNear m a b → IsNear m b a
 near_back m a b h = record { above = omega (arith, ints, h.below); below = omega (arith, ints, h.above) }
 
 -- a product with factors of at most these sizes
-pub product_most : (m n : ℕ) (a b : ℤ) → a ≤ℤ pos m → (pos 0 -ℤ a) ≤ℤ pos m → b ≤ℤ pos n → (pos 0 -ℤ b) ≤ℤ pos n
+pub product_most : (m n : ℕ) (a b : ℤ) → a ≤ℤ pos m → (pos 0 -ℤ a) ≤ℤ pos m → b ≤ℤ pos n
+    → (pos 0 -ℤ b) ≤ℤ pos n
     → ((a *ℤ b) ≤ℤ pos (m * n)) × ((pos 0 -ℤ (a *ℤ b)) ≤ℤ pos (m * n))
 product_most m n (pos a) (pos b) h i j k = let p = mul-le a b m n (omega (arith, ints, h)) (omega (arith, ints, j)) in (omega (arith, ints, p), omega (arith, ints, p))
 product_most m n (pos a) (negsuc b) h i j k = let p = mul-le a (suc b) m n (omega (arith, ints, h)) (omega (arith, ints, k)) in (omega (arith, ints, p), omega (arith, ints, p))

@@ -1,5 +1,7 @@
 -- The distance of two points rounded down, and the points beside their middle.
-use Rattle.std.proofs.Common.{rules, ◌≡◌, ℕ, zero, suc, ◌+◌, ◌*◌, ◌<◌, ◌≤◌, ◌^◌, true, false, cond, ℤ, pos, negsuc, ◌+ℤ◌, ◌*ℤ◌, ◌-ℤ◌, ◌<ℤ◌, ◌≤ℤ◌, arith, ap, refl, sym, ◌∙◌, subst}
+use Rattle.std.proofs.Common.{rules, ◌≡◌, ℕ, zero, suc, ◌+◌, ◌*◌, ◌<◌, ◌≤◌, ◌^◌, true, false, cond}
+use Rattle.std.proofs.Common.{ℤ, pos, negsuc, ◌+ℤ◌, ◌*ℤ◌, ◌-ℤ◌, ◌<ℤ◌, ◌≤ℤ◌, arith, ap, refl, sym}
+use Rattle.std.proofs.Common.{◌∙◌, subst}
 use Rattle.std.specs.Int.{IsIsqrt}
 use Rattle.std.specs.Int.Signed.{lt_z}
 use Rattle.std.specs.Prelude.{unsigned_abs}
@@ -35,13 +37,15 @@ isqrt_is z r (n, e, h, k) = e ∙ ap (λ (n : ℕ). pos n) (root_only (unsigned_
 root_over : (a n : ℕ) → a * a ≤ n → a ≤ root n
 root_over a n h = by_lt (root n) a (λ l. absurd (no_less (root n) a n h (root_is n).1 l)) (λ l. l)
 
-pub size_at_most : (w z : ℤ) → (w *ℤ w) ≤ℤ z → (w ≤ℤ pos (root (unsigned_abs z))) × ((pos 0 -ℤ w) ≤ℤ pos (root (unsigned_abs z)))
+pub size_at_most : (w z : ℤ) → (w *ℤ w) ≤ℤ z
+    → (w ≤ℤ pos (root (unsigned_abs z))) × ((pos 0 -ℤ w) ≤ℤ pos (root (unsigned_abs z)))
 size_at_most (pos a) (pos n) h = let r = root_over a n (omega (arith, ints, h)) in (omega (arith, ints, r), omega (arith, ints, r))
 size_at_most (negsuc a) (pos n) h = let r = root_over (suc a) n (omega (arith, ints, h)) in (omega (arith, ints, r), omega (arith, ints, r))
 size_at_most w (negsuc n) h = let s = square_nonnegative w in absurd (omega (arith, ints, h, s))
 
 -- ---- distances
-pub distance_is : (p q : Point) (x y s : ℤ) → x ≡ p.x -ℤ q.x → y ≡ p.y -ℤ q.y → s ≡ (x *ℤ x) +ℤ (y *ℤ y) → s ≡ distance p q
+pub distance_is : (p q : Point) (x y s : ℤ) → x ≡ p.x -ℤ q.x → y ≡ p.y -ℤ q.y
+    → s ≡ (x *ℤ x) +ℤ (y *ℤ y) → s ≡ distance p q
 unfolding distance
 distance_is p q x y s e f g = cc
 
@@ -61,7 +65,8 @@ root_below n h = below (root n) n h (root_is n).0
     below : (r n : ℕ) → n < 2 ^ 57 → r * r ≤ n → r < 2 ^ 29
     below r n h k = by_lt r (2 ^ 29) (λ l. l) (λ (l : 2 ^ 29 ≤ r). let m = mul-le (2 ^ 29) (2 ^ 29) r r l l in absurd (omega (arith, h, k, m)))
 
-pub whole_within : (p q : Point) → AreNear (2 ^ 28) p q → IsWithin (2 ^ 29) (pos (whole_distance p q))
+pub whole_within : (p q : Point) → AreNear (2 ^ 28) p q
+    → IsWithin (2 ^ 29) (pos (whole_distance p q))
 whole_within p q h =
     let d = distance_within p q h in
     let r = root_below (unsigned_abs (distance p q)) (size (distance p q) d) in
@@ -85,11 +90,13 @@ positive_false (negsuc n) h = refl
 pub lt_false : (a b : ℤ) → lt_z a b ≡ false → b ≤ℤ a
 lt_false a b e = search rules
 
-pub turned_back : (h : HalfArc) (d a b r : ℤ) → d ≡ bend h → d ≤ℤ pos 0 → r ≡ a -ℤ b → r ≡ cond (is_positive (bend h)) (b -ℤ a) (a -ℤ b)
+pub turned_back : (h : HalfArc) (d a b r : ℤ) → d ≡ bend h → d ≤ℤ pos 0 → r ≡ a -ℤ b
+    → r ≡ cond (is_positive (bend h)) (b -ℤ a) (a -ℤ b)
 turned_back h d a b r e l f = f ∙ ap (λ t. cond t (b -ℤ a) (a -ℤ b)) (sym (positive_false (bend h) (subst (λ (z : ℤ). z ≤ℤ pos 0) e l)))
 
 -- ---- the point beside the middle
-pub beside_is : (h : HalfArc) (p q : Point) (n l right above x y : ℤ) → l ≡ pos (whole_distance p q) → right ≡ turned_x h p q → above ≡ turned_y h p q
+pub beside_is : (h : HalfArc) (p q : Point) (n l right above x y : ℤ) → l ≡ pos (whole_distance p q)
+    → right ≡ turned_x h p q → above ≡ turned_y h p q
     → x ≡ moved (unsigned_abs l) (p.x +ℤ q.x) right n → y ≡ moved (unsigned_abs l) (p.y +ℤ q.y) above n → record { x = x; y = y } ≡ beside h p q n
 unfolding beside
 beside_is h p q n l right above x y e f g i j =

@@ -1,14 +1,17 @@
 -- Of two points beside a span, the one that is enough below the other is in the triangle of the span's ends and that other point.
-use Rattle.std.proofs.Common.{◌≡◌, ℤ, pos, ◌+ℤ◌, ◌*ℤ◌, ◌-ℤ◌, ◌<ℤ◌, ◌≤ℤ◌, [], ◌∷◌, refl, arith, ap, ◌∙◌}
+use Rattle.std.proofs.Common.{◌≡◌, ℤ, pos, ◌+ℤ◌, ◌*ℤ◌, ◌-ℤ◌, ◌<ℤ◌, ◌≤ℤ◌, [], ◌∷◌, refl, arith, ap}
+use Rattle.std.proofs.Common.{◌∙◌}
 use Rattle.std.proofs.lemmas.Int.{ints, by_lt_z}
 use Rattle.plane.proofs.Algebra.Laws.{product_nonnegative, product_positive}
 use Rattle.plane.proofs.Algebra.Ring.{at, minus, num, plus, ring, times, vars}
 use Rattle.plane.proofs.Algebra.Scaling.{cancel_le, cancel_lt, times_le}
-use Rattle.tubes.proofs.PlacedPoints.{DOT, IsPlaced, along, dot, over_least, overs, parts, sizes, sizes_least, sizes_most, under_least, unders}
+use Rattle.tubes.proofs.PlacedPoints.{DOT, IsPlaced, along, dot, over_least, overs, parts, sizes}
+use Rattle.tubes.proofs.PlacedPoints.{sizes_least, sizes_most, under_least, unders}
 
 -- ---- the weights
 -- c and d are how far the two places are over the span, k and m bound them by e
-width : (l e s c d k m : ℤ) → pos 0 <ℤ e → pos 0 ≤ℤ s → pos 0 ≤ℤ m → ((pos 2 *ℤ l) *ℤ c) ≤ℤ (k *ℤ e) → (m *ℤ e) ≤ℤ ((pos 2 *ℤ l) *ℤ (c -ℤ d))
+width : (l e s c d k m : ℤ) → pos 0 <ℤ e → pos 0 ≤ℤ s → pos 0 ≤ℤ m → ((pos 2 *ℤ l) *ℤ c) ≤ℤ (k *ℤ e)
+    → (m *ℤ e) ≤ℤ ((pos 2 *ℤ l) *ℤ (c -ℤ d))
     → (pos 3 *ℤ k) ≤ℤ (m *ℤ l) → ((pos 2 *ℤ l) *ℤ s) ≤ℤ (pos 3 *ℤ e) → ((pos 2 *ℤ l) *ℤ (s *ℤ c)) ≤ℤ (l *ℤ (e *ℤ (c -ℤ d)))
 width l e s c d k m he hs hm hc hd hk hl =
     let e0 : pos 0 ≤ℤ e = omega (arith, ints, he) in
@@ -29,11 +32,13 @@ width l e s c d k m he hs hm hc hd hk hl =
     double : (z : ℤ) → pos 0 ≤ℤ z → pos 0 ≤ℤ (pos 2 *ℤ z)
     double z h = omega (arith, ints, h)
 
-    ended : (x y a b c d e f g i : ℤ) → a ≡ pos 6 *ℤ x → a ≤ℤ b → b ≡ c → c ≤ℤ d → d ≡ e → e ≤ℤ f → f ≡ g → g ≤ℤ i → i ≡ pos 6 *ℤ y → x ≤ℤ y
+    ended : (x y a b c d e f g i : ℤ) → a ≡ pos 6 *ℤ x → a ≤ℤ b → b ≡ c → c ≤ℤ d → d ≡ e → e ≤ℤ f
+        → f ≡ g → g ≤ℤ i → i ≡ pos 6 *ℤ y → x ≤ℤ y
     ended x y a b c d e f g i h1 h2 h3 h4 h5 h6 h7 h8 h9 = omega (arith, ints, h1, h2, h3, h4, h5, h6, h7, h8, h9)
 
 -- two rests a and b along the span, from -m g to m f, weighed by c and d
-rests : (m f g a b c d : ℤ) → pos 0 ≤ℤ m → pos 0 ≤ℤ f → pos 0 ≤ℤ g → pos 0 ≤ℤ d → d ≤ℤ c → a ≤ℤ (m *ℤ f) → (pos 0 -ℤ a) ≤ℤ (m *ℤ g) → b ≤ℤ (m *ℤ f) → (pos 0 -ℤ b) ≤ℤ (m *ℤ g)
+rests : (m f g a b c d : ℤ) → pos 0 ≤ℤ m → pos 0 ≤ℤ f → pos 0 ≤ℤ g → pos 0 ≤ℤ d → d ≤ℤ c
+    → a ≤ℤ (m *ℤ f) → (pos 0 -ℤ a) ≤ℤ (m *ℤ g) → b ≤ℤ (m *ℤ f) → (pos 0 -ℤ b) ≤ℤ (m *ℤ g)
     → (((a *ℤ c) -ℤ (b *ℤ d)) ≤ℤ (m *ℤ ((f +ℤ g) *ℤ c))) × (((b *ℤ d) -ℤ (a *ℤ c)) ≤ℤ (m *ℤ ((f +ℤ g) *ℤ c)))
 rests m f g a b c d hm hf hg hd hc af ag bf bg =
     let c0 : pos 0 ≤ℤ c = omega (arith, ints, hd, hc) in
@@ -76,7 +81,8 @@ pub record IsMean (ux uy x y u v : ℤ) : Type 0 where
 no_part : (l n e a b z c : ℤ) → a ≡ ((l *ℤ e) +ℤ (n *ℤ z)) -ℤ c → z ≡ pos 0 → a ≡ (l *ℤ e) -ℤ c
 no_part l n e a b z c h k = let f : n *ℤ z ≡ n *ℤ pos 0 = ap (λ (v : ℤ). n *ℤ v) k in let g : n *ℤ pos 0 ≡ pos 0 = omega (arith, ints) in omega (arith, ints, h, f, g)
 
-no_first : (l n e a z c y : ℤ) → a ≡ ((l *ℤ z) +ℤ (n *ℤ y)) -ℤ c → z ≡ pos 0 → y ≡ e → a ≡ (n *ℤ e) -ℤ c
+no_first : (l n e a z c y : ℤ) → a ≡ ((l *ℤ z) +ℤ (n *ℤ y)) -ℤ c → z ≡ pos 0 → y ≡ e
+    → a ≡ (n *ℤ e) -ℤ c
 no_first l n e a z c y h k m =
     let f : l *ℤ z ≡ l *ℤ pos 0 = ap (λ (v : ℤ). l *ℤ v) k in
     let g : l *ℤ pos 0 ≡ pos 0 = omega (arith, ints) in
@@ -90,7 +96,8 @@ across s ux uy = ring (DOT (times (at 0) (at 2)) (minus (num (pos 0)) (times (at
 across_back : (s ux uy : ℤ) → dot ux uy (s *ℤ uy) (pos 0 -ℤ (s *ℤ ux)) ≡ pos 0
 across_back s ux uy = ring (DOT (at 1) (at 2) (times (at 0) (at 2)) (minus (num (pos 0)) (times (at 0) (at 1)))) (num (pos 0)) (vars (s ∷ ux ∷ uy ∷ [])) refl
 
-turned_square : (s ux uy : ℤ) → s *ℤ s ≡ pos 1 → dot (s *ℤ uy) (pos 0 -ℤ (s *ℤ ux)) (s *ℤ uy) (pos 0 -ℤ (s *ℤ ux)) ≡ dot ux uy ux uy
+turned_square : (s ux uy : ℤ) → s *ℤ s ≡ pos 1
+    → dot (s *ℤ uy) (pos 0 -ℤ (s *ℤ ux)) (s *ℤ uy) (pos 0 -ℤ (s *ℤ ux)) ≡ dot ux uy ux uy
 turned_square s ux uy e =
     let x = times (at 0) (at 2) in
     let y = minus (num (pos 0)) (times (at 0) (at 1)) in
@@ -131,7 +138,8 @@ record AreHigh (l e n m c d : ℤ) : Type 0 where
   some : pos 0 <ℤ d
   less : d ≤ℤ c
 
-heights : (l e n m c d a b p q : ℤ) → pos 0 <ℤ l → pos 0 <ℤ e → pos 2 ≤ℤ m → pos 0 ≤ℤ ((pos 2 *ℤ (n -ℤ m)) -ℤ pos 3) → pos 0 ≤ℤ p → pos 0 ≤ℤ q
+heights : (l e n m c d a b p q : ℤ) → pos 0 <ℤ l → pos 0 <ℤ e → pos 2 ≤ℤ m
+    → pos 0 ≤ℤ ((pos 2 *ℤ (n -ℤ m)) -ℤ pos 3) → pos 0 ≤ℤ p → pos 0 ≤ℤ q
     → (pos 2 *ℤ l) *ℤ c ≡ ((pos 2 *ℤ n) *ℤ e) -ℤ a → (pos 2 *ℤ l) *ℤ d ≡ ((pos 2 *ℤ m) *ℤ e) -ℤ b
     → a ≤ℤ ((pos 2 *ℤ l) *ℤ p) → (pos 0 -ℤ a) ≤ℤ ((pos 2 *ℤ l) *ℤ q) → b ≤ℤ ((pos 2 *ℤ l) *ℤ p) → (pos 0 -ℤ b) ≤ℤ ((pos 2 *ℤ l) *ℤ q)
     → ((pos 2 *ℤ l) *ℤ (p +ℤ q)) ≤ℤ (pos 3 *ℤ e) → AreHigh l e n m c d
@@ -163,7 +171,8 @@ heights l e n m c d a b p q hl he hm hn hp hq ec ed ap1 aq bp bq s =
     spread a b c = ring (times (at 0) (plus (at 1) (at 2))) (plus (times (at 0) (at 1)) (times (at 0) (at 2))) (vars (a ∷ b ∷ c ∷ [])) refl
 
 -- the weights are not negative
-weights : (l e c d f g a b : ℤ) → pos 0 <ℤ l → (pos 2 *ℤ l) *ℤ f ≡ (l *ℤ e) -ℤ a → (pos 2 *ℤ l) *ℤ g ≡ (l *ℤ e) -ℤ b
+weights : (l e c d f g a b : ℤ) → pos 0 <ℤ l → (pos 2 *ℤ l) *ℤ f ≡ (l *ℤ e) -ℤ a
+    → (pos 2 *ℤ l) *ℤ g ≡ (l *ℤ e) -ℤ b
     → ((a *ℤ c) -ℤ (b *ℤ d)) ≤ℤ (l *ℤ (e *ℤ (c -ℤ d))) → ((b *ℤ d) -ℤ (a *ℤ c)) ≤ℤ (l *ℤ (e *ℤ (c -ℤ d)))
     → (pos 0 ≤ℤ ((f *ℤ c) -ℤ (d *ℤ g))) × (pos 0 ≤ℤ (((e *ℤ c) -ℤ ((f *ℤ c) -ℤ (d *ℤ g))) -ℤ (e *ℤ d)))
 weights l e c d f g a b hl ef eg u v =
@@ -187,11 +196,13 @@ weights l e c d f g a b hl ef eg u v =
     one : (z x y k : ℤ) → z ≡ pos 0 → x ≡ y -ℤ k → k ≤ℤ y → z ≤ℤ x
     one z x y k e f g = omega (arith, ints, e, f, g)
 
-    two_of : (z x y p q k : ℤ) → z ≡ pos 0 → x ≡ y -ℤ (p -ℤ q) → k ≡ (pos 2 *ℤ y) -ℤ x → (q -ℤ p) ≤ℤ y → z ≤ℤ k
+    two_of : (z x y p q k : ℤ) → z ≡ pos 0 → x ≡ y -ℤ (p -ℤ q) → k ≡ (pos 2 *ℤ y) -ℤ x
+        → (q -ℤ p) ≤ℤ y → z ≤ℤ k
     two_of z x y p q k e f g h = omega (arith, ints, e, f, g, h)
 
 -- with n and m parts, where 3 (2 n + 3) is at most (2 (n - m) - 3) l
-pub is_mean : (l s ux uy n m x y u v : ℤ) → pos 0 <ℤ l → (l *ℤ l) ≤ℤ dot ux uy ux uy → s *ℤ s ≡ pos 1 → pos 2 ≤ℤ m → m <ℤ n
+pub is_mean : (l s ux uy n m x y u v : ℤ) → pos 0 <ℤ l → (l *ℤ l) ≤ℤ dot ux uy ux uy
+    → s *ℤ s ≡ pos 1 → pos 2 ≤ℤ m → m <ℤ n
     → (pos 3 *ℤ ((pos 2 *ℤ n) +ℤ pos 3)) ≤ℤ (((pos 2 *ℤ (n -ℤ m)) -ℤ pos 3) *ℤ l)
     → IsPlaced l ux uy (s *ℤ uy) (pos 0 -ℤ (s *ℤ ux)) n x y → IsPlaced l ux uy (s *ℤ uy) (pos 0 -ℤ (s *ℤ ux)) m u v → IsMean ux uy x y u v
 is_mean l s ux uy n m x y u v hl hs e1 hm hn far i j =

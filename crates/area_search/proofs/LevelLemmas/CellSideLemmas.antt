@@ -1,5 +1,7 @@
 -- The two sides of each cell, and the run of a level's edges whose cells pair.
-use Rattle.std.proofs.Common.{◌≡◌, ◌↔◌, ◌⊎◌, inl, inr, Bool, true, false, IsTrue, ℕ, zero, suc, ◌*◌, ◌^◌, ◌<◌, ◌≤◌, Option, None, Some, List, [], ◌∷◌, length, map, get_or, refl, sym, ap, subst, ◌∙◌, arith, pos}
+use Rattle.std.proofs.Common.{◌≡◌, ◌↔◌, ◌⊎◌, inl, inr, Bool, true, false, IsTrue, ℕ, zero, suc, ◌*◌}
+use Rattle.std.proofs.Common.{◌^◌, ◌<◌, ◌≤◌, Option, None, Some, List, [], ◌∷◌, length, map, get_or}
+use Rattle.std.proofs.Common.{refl, sym, ap, subst, ◌∙◌, arith, pos}
 use Rattle.line_sweep.specs.Kinds.{gap_of, gaps_of}
 use Rattle.line_sweep.specs.declared.kinds.Cell.{Cell}
 use Rattle.plane.specs.CurveRuns.FacedTubes.{AreCellsPaired, faced}
@@ -23,17 +25,21 @@ use Rattle.area_search.specs.Settled.CaseNotes.{tag_at}
 use Rattle.area_search.specs.Settled.CaseRoots.{owner_at}
 use Rattle.area_search.specs.Settled.Cases.{IsCase}
 use Rattle.area_search.specs.Level.CellSides.{ArePaired, IsPaired, tag_over, tag_under}
-use Rattle.area_search.proofs.PlaneLaws.{across_gap, border_touches, closed_edges, gap_across, paired_settle, run_known, run_leaves_none, touches_border}
+use Rattle.area_search.proofs.PlaneLaws.{across_gap, border_touches, closed_edges, gap_across}
+use Rattle.area_search.proofs.PlaneLaws.{paired_settle, run_known, run_leaves_none, touches_border}
 use Rattle.area_search.proofs.SettledLemmas.TubeSides.{owner_count, owner_is, tag_is}
 
 -- ---- cells by number
-pub nth_cell : (cells : List Cell) (k : ℕ) (x : Cell) → k < length cells → Has (gap_of (get_or cells k x)) (gaps_of cells)
+pub nth_cell : (cells : List Cell) (k : ℕ) (x : Cell) → k < length cells
+    → Has (gap_of (get_or cells k x)) (gaps_of cells)
 nth_cell [] k x l = absurd (omega (arith, l))
 nth_cell (c ∷ cells) zero x l = inl refl
 nth_cell (c ∷ cells) (suc k) x l = inr (nth_cell cells k x (omega (arith, l)))
 
 module _ (facings : List Facing) (owners : List Owner) where
-  pub all_cells : (cells : List Cell) → ((k : ℕ) (x : Cell) → k < length cells → IsPaired facings owners (gap_of (get_or cells k x))) → ArePaired facings owners (gaps_of cells)
+  pub all_cells : (cells : List Cell)
+      → ((k : ℕ) (x : Cell) → k < length cells → IsPaired facings owners (gap_of (get_or cells k x)))
+      → ArePaired facings owners (gaps_of cells)
   all_cells [] h g m = absurd m
   all_cells (c ∷ cells) h g (inl e) = subst (IsPaired facings owners) (sym e) (h 0 c (omega arith))
   all_cells (c ∷ cells) h g (inr m) = all_cells cells (λ k x l. h (suc k) x (omega (arith, l))) g m
@@ -50,7 +56,8 @@ module _ (d : Plan) (level : ℕ) (facings : List Facing) (told : AreFacings d l
   abbrev face : Half → ℕ
   face h = faced d (drawn_bays d level) E h
 
-  within : (g : Gap) (e : ℕ) → Has g (closed_gaps vs) → ((g.lower ≡ Some e) ⊎ (g.upper ≡ Some e)) → e < m
+  within : (g : Gap) (e : ℕ) → Has g (closed_gaps vs) → ((g.lower ≡ Some e) ⊎ (g.upper ≡ Some e))
+      → e < m
   within g e h side = let w = closed_edges vs g e fit h side in run_known m E vs w.0 e run w.1 w.2
 
   tagged : (h : Half) → half_edge h < m → tag_at facings owners h ≡ face h
@@ -91,7 +98,8 @@ module _ (d : Plan) (level : ℕ) (facings : List Facing) (told : AreFacings d l
     one_tube : (g h : Half) → GapBetween vs g h → face g ≡ face h
     one_tube g h c = pairs.across g h (gap_across vs fit (run_leaves_none m E vs run) (pos 0) m E g h c)
 
-    by_sides : (g : Gap) (l u : Option ℕ) → Has g (closed_gaps vs) → g.lower ≡ l → g.upper ≡ u → tag_over facings owners l ≡ tag_under facings owners u
+    by_sides : (g : Gap) (l u : Option ℕ) → Has g (closed_gaps vs) → g.lower ≡ l → g.upper ≡ u
+        → tag_over facings owners l ≡ tag_under facings owners u
     by_sides g None None has low up = refl
     by_sides g None (Some e) has low up = sym (tagged (under e) (within g e has (inr up)) ∙ no_tube (under e) (g, has, low, up))
     by_sides g (Some e) None has low up = tagged (over e) (within g e has (inl low)) ∙ no_tube (over e) (g, has, low, up)
@@ -131,7 +139,8 @@ module _ (d : Plan) (level : ℕ) (list : EdgeList) (t : IsTubedList d level lis
   is_settled = level_settled settled
 
 -- A level that settles the drawing pairs the cells of its run.
-pub settled_pairs : (d : Plan) (level : ℕ) (list : EdgeList) → IsTubedList d level list → (facings : List Facing) → AreFacings d level facings → (vs : List Move) → Fit [] vs
+pub settled_pairs : (d : Plan) (level : ℕ) (list : EdgeList) → IsTubedList d level list
+    → (facings : List Facing) → AreFacings d level facings → (vs : List Move) → Fit [] vs
     → IsSettledDrawing d (drawn_bays d level) (length list.edges.items) (edge_of list.edges.items) (steps_from [] vs)
     → ((m : ℕ) (E : ℕ → Edge) → IsSettledDrawing d (drawn_bays d level) m E (steps_from [] vs) → AreCellsPaired d (drawn_bays d level) (replay (pos 0) m E (steps_from [] vs))) → ArePaired facings list.owners.items (closed_gaps vs)
 settled_pairs d level list t facings told vs fit settled law =
@@ -139,7 +148,8 @@ settled_pairs d level list t facings told vs fit settled law =
     gaps_paired d level facings told list.owners.items t.owners vs fit s.run.run (law (length (edges_at d level)) (edge_at d level) s)
 
 -- ---- the owners of edges have curves of the drawing
-pub curves_below : (d : Plan) (level : ℕ) (list : EdgeList) (facings : List Facing) → AreFacings d level facings → IsTubedList d level list → length d.curves < 2 ^ 30
+pub curves_below : (d : Plan) (level : ℕ) (list : EdgeList) (facings : List Facing)
+    → AreFacings d level facings → IsTubedList d level list → length d.curves < 2 ^ 30
     → ((e : ℕ) → e < length (edges_at d level) → (owned_at d level e).curve < length d.curves) → (e : ℕ) → e < length list.owners.items → (owner_at list.owners.items e).curve < 2 ^ 30
 curves_below d level list facings told t few within e l =
     let k : e < length (edges_at d level) = (let q = owner_count d level facings told list.owners.items t.owners in omega (arith, l, q)) in
@@ -147,7 +157,9 @@ curves_below d level list facings told t few within e l =
     let c = within e k in
     omega (arith, o, c, few)
 
-pub few_of : (d : Plan) (level : ℕ) (list : EdgeList) → IsTubedList d level list → length (edges_at d level) ≤ (129 * length d.curves) → length d.curves ≤ 16000000 → length list.edges.items < 2147483648
+pub few_of : (d : Plan) (level : ℕ) (list : EdgeList) → IsTubedList d level list
+    → length (edges_at d level) ≤ (129 * length d.curves) → length d.curves ≤ 16000000
+    → length list.edges.items < 2147483648
 few_of d level list t f few = let q = ap length t.edges in omega (arith, f, q, few)
 
 -- ---- answers of tests

@@ -1,5 +1,6 @@
 -- Levels that settle a drawing, and the curves of their edges.
-use Rattle.std.proofs.Common.{◌≡◌, ◌⊎◌, inl, inr, ℕ, ◌<◌, ◌≤◌, Some, List, length, arith, refl, ap, ◌∙◌, subst}
+use Rattle.std.proofs.Common.{◌≡◌, ◌⊎◌, inl, inr, ℕ, ◌<◌, ◌≤◌, Some, List, length, arith, refl, ap}
+use Rattle.std.proofs.Common.{◌∙◌, subst}
 use Rattle.plane.specs.Forms.Meets.{Bad, Disjoint, Touch}
 use Rattle.plane.specs.Rule.BadPairs.{IsBadPair}
 use Rattle.plane.specs.Rule.Plans.{Plan, curve}
@@ -27,7 +28,9 @@ by_kind {P} c f g = by c.kind f g
     by kind.Straight f g = f refl
     by kind.HalfArc f g = g refl
 
-pub none_of_both : (d : Plan) → ((i j : ℕ) → AreBothStraight (curve d i) (curve d j) → IsBadPair d i j → ⊥) → ((i j : ℕ) → IsArcPair d i j → ⊥) → (i j : ℕ) → IsBadPair d i j → ⊥
+pub none_of_both : (d : Plan)
+    → ((i j : ℕ) → AreBothStraight (curve d i) (curve d j) → IsBadPair d i j → ⊥)
+    → ((i j : ℕ) → IsArcPair d i j → ⊥) → (i j : ℕ) → IsBadPair d i j → ⊥
 none_of_both d f g i j p =
     by_kind (curve d i)
     (λ (s : (curve d i).kind ≡ kind.Straight). by_kind (curve d j)
@@ -35,10 +38,13 @@ none_of_both d f g i j p =
     (λ (t : (curve d j).kind ≡ kind.HalfArc). g i j (record { pair = p; half_arc = inr t })))
     (λ (s : (curve d i).kind ≡ kind.HalfArc). g i j (record { pair = p; half_arc = inl s }))
 
-pub straights_clear : (d : Plan) → ((i j : ℕ) → AreBothStraight (curve d i) (curve d j) → IsBadPair d i j → ⊥) → HasNoBadStraights d
+pub straights_clear : (d : Plan)
+    → ((i j : ℕ) → AreBothStraight (curve d i) (curve d j) → IsBadPair d i j → ⊥)
+    → HasNoBadStraights d
 straights_clear d f i j si sj l b = f i j (si.kind, sj.kind) (record { order = l; there = sj.there; bad = b })
 
-pub none_of_all : (d : Plan) → HasNoBadStraights d → ((i j : ℕ) → IsArcPair d i j → ⊥) → (i j : ℕ) → IsBadPair d i j → ⊥
+pub none_of_all : (d : Plan) → HasNoBadStraights d → ((i j : ℕ) → IsArcPair d i j → ⊥) → (i j : ℕ)
+    → IsBadPair d i j → ⊥
 none_of_all d f g = none_of_both d both g
   where
     both : (i j : ℕ) → AreBothStraight (curve d i) (curve d j) → IsBadPair d i j → ⊥
@@ -51,7 +57,9 @@ six_unsettled d k m none l low s = none l (omega (arith, low, m)) s
 
 -- ---- the edges at a level that settles
 module _ (d : Plan) (level : ℕ) (list : EdgeList) (edges_are : list.edges.items ≡ edges_at d level) where
-  pub never_bad : IsSettledAt d level → ((a b : Edge) → Bad a b → Disjoint a b → ⊥) → ((a b : Edge) → Bad a b → Touch a b → ⊥) → (edges : List Edge) → edges ≡ list.edges.items → (e f : ℕ) → AreBad edges e f → ⊥
+  pub never_bad : IsSettledAt d level → ((a b : Edge) → Bad a b → Disjoint a b → ⊥)
+      → ((a b : Edge) → Bad a b → Touch a b → ⊥) → (edges : List Edge) → edges ≡ list.edges.items
+      → (e f : ℕ) → AreBad edges e f → ⊥
   never_bad s apart touch edges same e f h = by (subst (λ es. AreBad es e f) (same ∙ edges_are) h)
     where
       no : (a b : Edge) → Bad a b → Disjoint a b ⊎ Touch a b → ⊥
@@ -63,7 +71,9 @@ module _ (d : Plan) (level : ℕ) (list : EdgeList) (edges_are : list.edges.item
 
 -- ---- the curves of edges
 -- the owners at a level are curves of the drawing
-pub owners_there : (d : Plan) (level : ℕ) (list : EdgeList) (owners : List Owner) → owners ≡ list.owners.items → length list.owners.items ≡ length list.edges.items → list.edges.items ≡ edges_at d level
+pub owners_there : (d : Plan) (level : ℕ) (list : EdgeList) (owners : List Owner)
+    → owners ≡ list.owners.items → length list.owners.items ≡ length list.edges.items
+    → list.edges.items ≡ edges_at d level
     → ((e : ℕ) → e < length list.edges.items → owner_at list.owners.items e ≡ owner_as (owned_at d level e)) → ((e : ℕ) → e < length (edges_at d level) → (owned_at d level e).curve < length d.curves) → AreOfCurves d owners
 owners_there d level list owners same size edges_are each there e l =
     let m : e < length list.owners.items = subst (λ (os : List Owner). e < length os) same l in
@@ -75,7 +85,9 @@ owners_there d level list owners same size edges_are each there e l =
     omega (arith, k, o, t)
 
 -- of two that are, in order
-pub pair_there : (d : Plan) (owners : List Owner) (e f a b : ℕ) (p : CurvePair) → AreOfCurves d owners → e < length owners → f < length owners → a ≡ (owner_at owners e).curve → b ≡ (owner_at owners f).curve
+pub pair_there : (d : Plan) (owners : List Owner) (e f a b : ℕ) (p : CurvePair)
+    → AreOfCurves d owners → e < length owners → f < length owners → a ≡ (owner_at owners e).curve
+    → b ≡ (owner_at owners f).curve
     → p.first < p.second → (p.second ≡ a) ⊎ (p.second ≡ b) → AreOfDrawing d (Some p)
 pair_there d owners e f a b p curves l m g h order second = (order, by second)
   where

@@ -1,5 +1,7 @@
 -- A corner of a tube at which two edges of the tube end, and no third edge, is no other curve's.
-use Rattle.std.proofs.Common.{◌≡◌, ◌⊎◌, inl, inr, ℕ, zero, suc, ◌+◌, ◌<◌, Bool, true, false, ◌&&◌, IsTrue, Option, None, Some, is_some, List, [], ◌∷◌, ◌++◌, length, length-append, get_or, refl, sym, ap, subst, ◌∙◌, arith}
+use Rattle.std.proofs.Common.{◌≡◌, ◌⊎◌, inl, inr, ℕ, zero, suc, ◌+◌, ◌<◌, Bool, true, false, ◌&&◌}
+use Rattle.std.proofs.Common.{IsTrue, Option, None, Some, is_some, List, [], ◌∷◌, ◌++◌, length}
+use Rattle.std.proofs.Common.{length-append, get_or, refl, sym, ap, subst, ◌∙◌, arith}
 use Rattle.std.proofs.lemmas.Bool.{and_parts}
 use Rattle.std.proofs.lemmas.Bool.Decides.{Decides-int_eq}
 use Rattle.std.specs.Ordering.{int_eq}
@@ -21,13 +23,15 @@ use Rattle.tubes.specs.TubedEdges.{IsTubedList, owner_as, part_of}
 use Rattle.tubes.specs.declared.kinds.EdgeList.{EdgeList}
 use Rattle.tubes.specs.declared.kinds.Owner.{Owner}
 use Rattle.area_search.specs.Settled.CaseRoots.{no_owner, owner_at}
-use Rattle.area_search.specs.Level.OwnCorners.{AreOwn, HasOwnCorners, HasTwoAt, IsOfTube, IsOtherAt, IsOwnEnd}
+use Rattle.area_search.specs.Level.OwnCorners.{AreOwn, HasOwnCorners, HasTwoAt, IsOfTube, IsOtherAt}
+use Rattle.area_search.specs.Level.OwnCorners.{IsOwnEnd}
 use Rattle.area_search.proofs.SettledLemmas.CaseEdges.{get_same, nth_curve_is}
 use Rattle.area_search.proofs.PlaneLaws.{has_back, has_front}
 use Rattle.area_search.proofs.Small.{less_or}
 
 -- ---- points that a program finds equal
-pub same_point : (p q : Point) (r : Bool) → r ≡ (int_eq p.x q.x && int_eq p.y q.y) → IsTrue r → p ≡ q
+pub same_point : (p q : Point) (r : Bool) → r ≡ (int_eq p.x q.x && int_eq p.y q.y) → IsTrue r
+    → p ≡ q
 same_point p q r e h =
     let w = and_parts (int_eq p.x q.x) (int_eq p.y q.y) (sym e ∙ h) in
     let x = (Decides-int_eq p.x q.x).0 w.0 in
@@ -40,10 +44,12 @@ nth_move [] k l = absurd (omega (arith, l))
 nth_move (v ∷ vs) zero l = inl refl
 nth_move (v ∷ vs) (suc k) l = inr (nth_move vs k (omega (arith, l)))
 
-pub one_own : (d : Plan) (list : EdgeList) (vs : List Move) (n : ℕ) → AreOwn d list vs n → HasOwnCorners d list vs n → AreOwn d list vs (n + 1)
+pub one_own : (d : Plan) (list : EdgeList) (vs : List Move) (n : ℕ) → AreOwn d list vs n
+    → HasOwnCorners d list vs n → AreOwn d list vs (n + 1)
 one_own d list vs n h k e l = less_or e n (HasOwnCorners d list vs e) l (h e) (λ q. subst (HasOwnCorners d list vs) (sym q) k)
 
-two_of : (xs : List ℕ) (a b c : ℕ) → length xs ≡ 2 → Has a xs → Has b xs → Has c xs → (a ≡ b → ⊥) → (c ≡ a) ⊎ (c ≡ b)
+two_of : (xs : List ℕ) (a b c : ℕ) → length xs ≡ 2 → Has a xs → Has b xs → Has c xs → (a ≡ b → ⊥)
+    → (c ≡ a) ⊎ (c ≡ b)
 two_of [] a b c n g h k d = absurd g
 two_of (x ∷ []) a b c n g h k d = absurd (omega (arith, n))
 two_of (x ∷ (y ∷ (z ∷ xs))) a b c n g h k d = absurd (omega (arith, n))
@@ -70,13 +76,15 @@ record IsMoveOf (t : Timed) (v : Move) : Type 0 where
   ending : v.ending ≡ length t.ending
   starting : v.starting ≡ t.starting
 
-timed_move : (table : List Timed) (ps : List ℕ) (v : Move) → Has v (moves_at table ps) → (t : Timed) × Has t table × IsMoveOf t v
+timed_move : (table : List Timed) (ps : List ℕ) (v : Move) → Has v (moves_at table ps)
+    → (t : Timed) × Has t table × IsMoveOf t v
 timed_move [] ps v h = absurd h
 timed_move (t ∷ table) [] v h = absurd h
 timed_move (t ∷ table) (p ∷ ps) v (inl e) = (t, inl refl, record { at = ap (λ (w : Move). w.at) e; ending = ap (λ (w : Move). w.ending) e; starting = ap (λ (w : Move). w.starting) e })
 timed_move (t ∷ table) (p ∷ ps) v (inr h) = let (u, k, a) = timed_move table ps v h in (u, inr k, a)
 
-edge_at_event : (m : ℕ) (E : ℕ → Edge) (t : Timed) (e : ℕ) → IsTimed m E t → e < m → IsEnd (E e) t.at → Has e (t.starting ++ t.ending)
+edge_at_event : (m : ℕ) (E : ℕ → Edge) (t : Timed) (e : ℕ) → IsTimed m E t → e < m
+    → IsEnd (E e) t.at → Has e (t.starting ++ t.ending)
 edge_at_event m E t e h l (inl q) = has_front e t.starting t.ending ((h.starting e).1 (l, q))
 edge_at_event m E t e h l (inr q) = has_back e t.starting t.ending ((h.ending e).1 (l, q))
 
@@ -102,7 +110,9 @@ module _ (d : Plan) (level : ℕ) (list : EdgeList) (t : IsTubedList d level lis
   curve_is : (e : ℕ) → e < m → (owner_at list.owners.items e).curve ≡ (owned_at d level e).curve
   curve_is e l = ap (λ (o : Owner). o.curve) (own e l)
 
-  pub end_of_curve : (vs : List Move) (e : ℕ) (o : Owner) (c : Curve) (p : Point) → length list.owners.items ≡ m → e < m → o ≡ get_or list.owners.items e o → o.curve < length d.curves → c ≡ get_or d.curves o.curve c → IsEndOf c p
+  pub end_of_curve : (vs : List Move) (e : ℕ) (o : Owner) (c : Curve) (p : Point)
+      → length list.owners.items ≡ m → e < m → o ≡ get_or list.owners.items e o
+      → o.curve < length d.curves → c ≡ get_or d.curves o.curve c → IsEndOf c p
       → IsOwnEnd d list vs e p
   end_of_curve vs e o c p n l q k r h =
       let same : o ≡ owner_at list.owners.items e = q ∙ get_same list.owners.items e o no_owner (omega (arith, l, n)) in
@@ -110,26 +120,33 @@ module _ (d : Plan) (level : ℕ) (list : EdgeList) (t : IsTubedList d level lis
 
   -- ---- an end of another edge of the curve
   module _ (half : (e : ℕ) → e < m → (runs.IsOfTube (owned_at d level e).part → IsHalfArc d (owned_at d level e).curve) × (IsHalfArc d (owned_at d level e).curve → runs.IsOfTube (owned_at d level e).part)) where
-    same_tube : (e o : ℕ) → e < m → o < m → (owner_at list.owners.items o).curve ≡ (owner_at list.owners.items e).curve → IsOfTube (owner_at list.owners.items e).part → IsOfTube (owner_at list.owners.items o).part
+    same_tube : (e o : ℕ) → e < m → o < m
+        → (owner_at list.owners.items o).curve ≡ (owner_at list.owners.items e).curve
+        → IsOfTube (owner_at list.owners.items e).part
+        → IsOfTube (owner_at list.owners.items o).part
     same_tube e o l k q h =
         let of : runs.IsOfTube (owned_at d level e).part = tube_part _ (subst (λ (w : Owner). IsOfTube w.part) (own e l) h) in
         let arc = subst (IsHalfArc d) (sym (curve_is e l) ∙ sym q ∙ curve_is o k) ((half e l).0 of) in
         subst (λ (w : Owner). IsOfTube w.part) (sym (own o k)) (part_tube _ ((half o k).1 arc))
 
-    pub earlier_end : (vs : List Move) (e o : ℕ) (p : Point) → e < m → IsOfTube (owner_at list.owners.items e).part → IsOtherAt list e o p → HasOwnCorners d list vs o → IsOwnEnd d list vs e p
+    pub earlier_end : (vs : List Move) (e o : ℕ) (p : Point) → e < m
+        → IsOfTube (owner_at list.owners.items e).part → IsOtherAt list e o p
+        → HasOwnCorners d list vs o → IsOwnEnd d list vs e p
     earlier_end vs e o p l h n k = by_end n.ends (k (same_tube e o l n.there n.same h))
       where
         moved : IsOwnEnd d list vs o p → IsOwnEnd d list vs e p
         moved (inl q) = inl (subst (λ (i : ℕ). IsEndOf (curve d i) p) n.same q)
         moved (inr q) = inr ((o, n), q.1)
 
-        by_end : IsEnd (E o) p → IsOwnEnd d list vs o (E o).low × IsOwnEnd d list vs o (E o).high → IsOwnEnd d list vs e p
+        by_end : IsEnd (E o) p → IsOwnEnd d list vs o (E o).low × IsOwnEnd d list vs o (E o).high
+            → IsOwnEnd d list vs e p
         by_end (inl q) w = moved (subst (IsOwnEnd d list vs o) q w.0)
         by_end (inr q) w = moved (subst (IsOwnEnd d list vs o) q w.1)
 
   -- ---- all corners
   module _ (vs : List Move) (timed : HasTimetable list.edges.items vs) where
-    only_two : (p : Point) (e o f : ℕ) → HasTwoAt vs p → e < m → o < m → f < m → IsEnd (E e) p → IsEnd (E o) p → IsEnd (E f) p → (e ≡ o → ⊥) → (f ≡ e) ⊎ (f ≡ o)
+    only_two : (p : Point) (e o f : ℕ) → HasTwoAt vs p → e < m → o < m → f < m → IsEnd (E e) p
+        → IsEnd (E o) p → IsEnd (E f) p → (e ≡ o → ⊥) → (f ≡ e) ⊎ (f ≡ o)
     only_two p e o f two l j k a b c n =
         let (u, has, is) = timed_move timed.table _ two.v (subst (Has two.v) timed.is two.has) in
         let at : p ≡ u.at = sym two.at ∙ is.at in
@@ -180,25 +197,32 @@ module _ (d : Plan) (level : ℕ) (list : EdgeList) (t : IsTubedList d level lis
 
 -- ---- the events of all ends
 -- what the search of these says, by the lists as they are lent
-pub found_is : (d : Plan) (level : ℕ) (list : EdgeList) (table : List Timed) (es fs : List Edge) (low high lows highs : List ℕ) (events : ℕ) (found : Option ℕ) → IsTubedList d level list
+pub found_is : (d : Plan) (level : ℕ) (list : EdgeList) (table : List Timed) (es fs : List Edge) (low high lows highs : List ℕ) (events : ℕ) (found : Option ℕ)
+    → IsTubedList d level list
     → ((level : ℕ) (table : List Timed) → IsTubedList d level list → IsTimetable (length list.edges.items) (edge_of list.edges.items) table → AreEventsOf list.edges.items table lows highs → length table ≡ events → IsFirstForeign d level table found)
     → es ≡ list.edges.items → IsTimetable (length es) (edge_of es) table → fs ≡ list.edges.items → AreEventsOf fs table low high → lows ≡ low → highs ≡ high → events ≡ length table → IsFirstForeign d level table found
 found_is d level list table es fs low high lows highs events found l f e t g a p q n =
     f level table l (subst (λ es. IsTimetable (length es) (edge_of es) table) e t)
     (subst (λ ls. AreEventsOf list.edges.items table ls highs) (sym p) (subst (λ hs. AreEventsOf list.edges.items table low hs) (sym q) (subst (λ es. AreEventsOf es table low high) g a))) (sym n)
 
-pub table_at : (d : Plan) (level : ℕ) (list : EdgeList) (table : List Timed) (es : List Edge) → IsTubedList d level list → es ≡ list.edges.items → IsTimetable (length es) (edge_of es) table → IsTimetable (length (edges_at d level)) (edge_at d level) table
+pub table_at : (d : Plan) (level : ℕ) (list : EdgeList) (table : List Timed) (es : List Edge)
+    → IsTubedList d level list → es ≡ list.edges.items → IsTimetable (length es) (edge_of es) table
+    → IsTimetable (length (edges_at d level)) (edge_at d level) table
 table_at d level list table es l e t = subst (λ es. IsTimetable (length es) (edge_of es) table) (e ∙ l.edges) t
 
 -- no corner is found, or one is
-pub none_found : {P : Type 0} (d : Plan) (level : ℕ) (table : List Timed) (found : Option ℕ) (b : Bool) → IsFirstForeign d level table found → b ≡ is_some found → b ≡ false → (IsFirstForeign d level table None → P) → P
+pub none_found : {P : Type 0} (d : Plan) (level : ℕ) (table : List Timed) (found : Option ℕ) (b : Bool)
+    → IsFirstForeign d level table found → b ≡ is_some found → b ≡ false
+    → (IsFirstForeign d level table None → P) → P
 none_found d level table None b h q e f = f h
 none_found d level table (Some k) b h q e f = clash (sym q ∙ e)
   where
     clash : {P : Type 0} → true ≡ false → P
     clash e = cc
 
-pub one_found : {P : Type 0} (d : Plan) (level : ℕ) (table : List Timed) (found : Option ℕ) (b : Bool) → IsFirstForeign d level table found → b ≡ is_some found → IsTrue b → ((k : ℕ) → IsFirstForeign d level table (Some k) → P) → P
+pub one_found : {P : Type 0} (d : Plan) (level : ℕ) (table : List Timed) (found : Option ℕ) (b : Bool)
+    → IsFirstForeign d level table found → b ≡ is_some found → IsTrue b
+    → ((k : ℕ) → IsFirstForeign d level table (Some k) → P) → P
 one_found d level table None b h q t f = clash (subst IsTrue q t)
   where
     clash : {P : Type 0} → IsTrue false → P

@@ -11,7 +11,8 @@ use Rattle.plane.specs.Tubes.Bays.{Bay, IsTube}
 use Rattle.plane.specs.declared.kinds.Curve.{Curve}
 use Rattle.plane.specs.declared.kinds.CurveKind.TheVariants as kind
 use Rattle.plane.specs.declared.kinds.Point.{Point}
-use Rattle.area_search.proofs.PlaneLaws.{hits_alone, positive_factor, same_refl, segment_same, triangle_places, triangles_cover, tube_has_sides}
+use Rattle.area_search.proofs.PlaneLaws.{hits_alone, positive_factor, same_refl, segment_same}
+use Rattle.area_search.proofs.PlaneLaws.{triangle_places, triangles_cover, tube_has_sides}
 
 -- (x - f) n < k n leaves x - f < k, and so for f - x
 below : (n x f k z : ℤ) → pos 0 <ℤ n → z ≡ x *ℤ n → (z -ℤ (f *ℤ n)) <ℤ (k *ℤ n) → (x -ℤ f) <ℤ k
@@ -20,7 +21,8 @@ below n x f k z p e l =
     let r = positive_factor n ((k -ℤ x) +ℤ f) p (omega (arith, ints, q, e, l)) in
     omega (arith, ints, r)
 
-above : (n x f k z : ℤ) → pos 0 <ℤ n → z ≡ x *ℤ n → (pos 0 -ℤ (z -ℤ (f *ℤ n))) <ℤ (k *ℤ n) → (pos 0 -ℤ (x -ℤ f)) <ℤ k
+above : (n x f k z : ℤ) → pos 0 <ℤ n → z ≡ x *ℤ n → (pos 0 -ℤ (z -ℤ (f *ℤ n))) <ℤ (k *ℤ n)
+    → (pos 0 -ℤ (x -ℤ f)) <ℤ k
 above n x f k z p e l =
     let q = ring (times (at 0) (minus (plus (at 3) (at 1)) (at 2))) (plus (times (at 3) (at 0)) (minus (times (at 1) (at 0)) (times (at 2) (at 0)))) (vars (n ∷ x ∷ f ∷ k ∷ [])) refl in
     let r = positive_factor n ((k +ℤ x) -ℤ f) p (omega (arith, ints, q, e, l)) in
@@ -29,7 +31,8 @@ above n x f k z p e l =
 one : (x : ℤ) → x *ℤ pos 1 ≡ x
 one x = omega (arith, ints)
 
-pub same_side : (h : HalfArc) (z : Vector) (v : Point) → Place z → Same z (point v) → HasSide h z → HasSide h (point v)
+pub same_side : (h : HalfArc) (z : Vector) (v : Point) → Place z → Same z (point v) → HasSide h z
+    → HasSide h (point v)
 same_side h z v p e s =
     let ex : z.x ≡ v.x *ℤ z.n = (let a = e.x in omega (arith, ints, a)) in
     let ey : z.y ≡ v.y *ℤ z.n = (let a = e.y in omega (arith, ints, a)) in
@@ -45,7 +48,8 @@ same_side h z v p e s =
       below = omega (arith, ints, b);
     }
 
-pub arc_points_have_sides : (c : Curve) (bs : List Bay) (v : Point) → c.kind ≡ kind.HalfArc → HasCircle (arc c) → IsTube (arc c) bs
+pub arc_points_have_sides : (c : Curve) (bs : List Bay) (v : Point) → c.kind ≡ kind.HalfArc
+    → HasCircle (arc c) → IsTube (arc c) bs
     → Each (λ (b : Bay). AreNear (2 ^ 28) (arc c).from b.outer × AreNear (2 ^ 28) (arc c).from b.inner) bs → IsOn c (point v) → HasSide (arc c) (point v)
 arc_points_have_sides c bs v e circle tube near on =
     let P : Place (point v) = omega (arith, ints) in

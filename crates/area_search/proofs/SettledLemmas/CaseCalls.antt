@@ -1,5 +1,7 @@
 -- What the calls that write a certificate ask of a settled drawing.
-use Rattle.std.proofs.Common.{◌≡◌, inl, inr, ℕ, ◌*◌, ◌^◌, ◌<◌, ◌≤◌, true, false, Option, Some, None, List, [], ◌++◌, length, map, take, slice_index, slice_index_or, refl, sym, ap, subst, ◌∙◌, arith, append_assoc}
+use Rattle.std.proofs.Common.{◌≡◌, inl, inr, ℕ, ◌*◌, ◌^◌, ◌<◌, ◌≤◌, true, false, Option, Some, None}
+use Rattle.std.proofs.Common.{List, [], ◌++◌, length, map, take, slice_index, slice_index_or, refl}
+use Rattle.std.proofs.Common.{sym, ap, subst, ◌∙◌, arith, append_assoc}
 use Rattle.std.proofs.lemmas.List.{get_or_default}
 use Rattle.half_edges.specs.HalfEdges.{HalfEdges, size}
 use Rattle.faces.specs.Ranking.{AreNotes, AreRooted, no_note}
@@ -20,7 +22,8 @@ use Rattle.area_search.specs.declared.settled.case.Spot.TheVariants as spot
 use Rattle.area_search.specs.Settled.CaseNotes.{label_by, spot_place}
 use Rattle.area_search.specs.Settled.CaseOwners.{HaveOwners}
 use Rattle.area_search.specs.Settled.CaseRoots.{AreCaseRoots, IsSmallSpot, IsSpotIn, owner_at}
-use Rattle.area_search.specs.Settled.Cases.{ArePlacedOff, HasRunFaces, IsCase, IsRunMesh, IsSpot, no_spot, spot_at}
+use Rattle.area_search.specs.Settled.Cases.{ArePlacedOff, HasRunFaces, IsCase, IsRunMesh, IsSpot}
+use Rattle.area_search.specs.Settled.Cases.{no_spot, spot_at}
 use Rattle.faces.specs.Joins.{IsSmall}
 use Rattle.area_search.proofs.SettledLemmas.CaseNames.{Labelling}
 use Rattle.area_search.proofs.SettledLemmas.CaseRootLists.{Rooting, rooted, roots_within}
@@ -30,10 +33,13 @@ use Rattle.area_search.proofs.SettledLemmas.TubedLaws.{owner_is as owned_is}
 use Rattle.area_search.proofs.SettledLemmas.TubeSides.{owner_count, owner_is}
 
 -- ---- lists that are the same
-pub joined_lists : (a b c w x y z : List ℕ) → w ≡ [] → x ≡ w ++ a → y ≡ x ++ b → z ≡ y ++ c → z ≡ a ++ (b ++ c)
+pub joined_lists : (a b c w x y z : List ℕ) → w ≡ [] → x ≡ w ++ a → y ≡ x ++ b → z ≡ y ++ c
+    → z ≡ a ++ (b ++ c)
 joined_lists a b c w x y z p q r t = t ∙ ap (λ (l : List ℕ). l ++ c) (r ∙ ap (λ (l : List ℕ). l ++ b) (q ∙ ap (λ (l : List ℕ). l ++ a) p)) ∙ append_assoc a b c
 
-pub roots_as : (facings : List Facing) (os : List Owner) (n n2 : ℕ) (gs : List Gap) (spots : List Spot) (rs rs2 : List ℕ) → n ≡ n2 → rs2 ≡ rs → AreCaseRoots facings os n gs spots rs → AreCaseRoots facings os n2 gs spots rs2
+pub roots_as : (facings : List Facing) (os : List Owner) (n n2 : ℕ) (gs : List Gap) (spots : List Spot) (rs rs2 : List ℕ)
+    → n ≡ n2 → rs2 ≡ rs → AreCaseRoots facings os n gs spots rs
+    → AreCaseRoots facings os n2 gs spots rs2
 roots_as facings os n n2 gs spots rs rs2 e f h = subst (AreCaseRoots facings os n2 gs spots) (sym f) (subst (λ (x : ℕ). AreCaseRoots facings os x gs spots rs) e h)
 
 module _ (d : Plan) (level : ℕ) (edges : List Edge) (edge_owners : List Owner) (facings : List Facing) (vs : List Move) (case : IsCase d level edges edge_owners facings vs) where
@@ -43,7 +49,8 @@ module _ (d : Plan) (level : ℕ) (edges : List Edge) (edge_owners : List Owner)
   pub owner_size : length edge_owners ≡ length facings
   owner_size = owner_count d level facings case.facings_are edge_owners case.owners_are ∙ sym case.facings_are.count
 
-  pub owners_known : (e : ℕ) → e < length edge_owners → (owner_at edge_owners e).curve < length d.curves
+  pub owners_known : (e : ℕ) → e < length edge_owners
+      → (owner_at edge_owners e).curve < length d.curves
   owners_known e l =
       let k : e < m = (let q = owner_count d level facings case.facings_are edge_owners case.owners_are in omega (arith, l, q)) in
       let o = ap (λ (x : Owner). x.curve) (owner_is d level facings case.facings_are edge_owners case.owners_are e k) in
@@ -60,10 +67,12 @@ module _ (d : Plan) (level : ℕ) (edges : List Edge) (edge_owners : List Owner)
     in_run : (k e : ℕ) → k ≤ length vs → Has e (live_from [] (take k vs)) → e < m
     in_run k e l h = run_known m (edge_at d level) vs k e case.settled.run.run l h
 
-    low_small : (es : List ℕ) (i : ℕ) (o : Option ℕ) → ((e : ℕ) → Has e es → e < m) → o ≡ edge_before es i → IsSmall o
+    low_small : (es : List ℕ) (i : ℕ) (o : Option ℕ) → ((e : ℕ) → Has e es → e < m)
+        → o ≡ edge_before es i → IsSmall o
     low_small es i o f q = known_small o (λ e w. f e (before_has es i e (sym q ∙ w)))
 
-    high_small : (es : List ℕ) (i : ℕ) (o : Option ℕ) → ((e : ℕ) → Has e es → e < m) → o ≡ edge_over es i → IsSmall o
+    high_small : (es : List ℕ) (i : ℕ) (o : Option ℕ) → ((e : ℕ) → Has e es → e < m)
+        → o ≡ edge_over es i → IsSmall o
     high_small es i o f q = known_small o (λ e w. f e (at_has es i e (sym q ∙ w)))
 
     spot_small : (j : ℕ) (x : Spot) → IsSpot d level vs (object d j) x → IsSmallSpot x
@@ -86,7 +95,8 @@ module _ (d : Plan) (level : ℕ) (edges : List Edge) (edge_owners : List Owner)
     pub small_spots : (k : ℕ) (p : Spot) → k < length spots → IsSmallSpot (slice_index_or spots k p)
     small_spots k p l = subst IsSmallSpot (get_or_default spots k no_spot p l) (spot_small k (spot_at spots k) (own_spot k l))
 
-    pub spots_in : (k : ℕ) (p : Spot) → k < length spots → IsSpotIn (length d.curves) (slice_index_or spots k p)
+    pub spots_in : (k : ℕ) (p : Spot) → k < length spots
+        → IsSpotIn (length d.curves) (slice_index_or spots k p)
     spots_in k p l = subst (IsSpotIn (length d.curves)) (get_or_default spots k no_spot p l) (spot_in k (spot_at spots k) (own_spot k l))
 
   -- ---- of the mesh and its notes
@@ -102,7 +112,8 @@ module _ (d : Plan) (level : ℕ) (edges : List Edge) (edge_owners : List Owner)
       pub notes_size : length notes ≡ 2 * length facings
       notes_size = let a = told.size_is in let b = on.turned.count in let c = case.facings_are.count in omega (arith, a, b, c)
 
-      pub faces_known : (h : ℕ) → h < length notes → (slice_index_or notes h no_note).label < length owners
+      pub faces_known : (h : ℕ) → h < length notes
+          → (slice_index_or notes h no_note).label < length owners
       faces_known h l =
           let k : h < size mesh = (let e = told.size_is in omega (arith, l, e)) in
           let a = told.label h k in

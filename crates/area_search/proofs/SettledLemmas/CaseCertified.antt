@@ -1,12 +1,14 @@
 -- What is written of a settled drawing gives a run, labels, places and links that certify it.
-use Rattle.std.proofs.Common.{◌≡◌, inl, inr, ℕ, ◌<◌, List, [], length, map, slice_index, refl, sym, ap, subst, ◌∙◌, arith, pos}
+use Rattle.std.proofs.Common.{◌≡◌, inl, inr, ℕ, ◌<◌, List, [], length, map, slice_index, refl, sym}
+use Rattle.std.proofs.Common.{ap, subst, ◌∙◌, arith, pos}
 use Rattle.std.proofs.lemmas.List.{length-map}
 use Rattle.half_edges.specs.HalfEdges.{HalfEdges, next_of, prev_of, size}
 use Rattle.certificate.specs.declared.notes.HalfNote.{HalfNote}
 use Rattle.certificate.specs.declared.notes.Link.{Link}
 use Rattle.certificate.specs.declared.notes.Link.TheVariants as link
 use Rattle.certificate.specs.declared.notes.PointPlace.{PointPlace}
-use Rattle.certificate_checker.specs.Certifying.{Certifies, Says, says_across, says_next, says_previous, says_root}
+use Rattle.certificate_checker.specs.Certifying.{Certifies, Says, says_across, says_next}
+use Rattle.certificate_checker.specs.Certifying.{says_previous, says_root}
 use Rattle.certificate_checker.specs.Rules.{HasCounts}
 use Rattle.certificate_checker.specs.Subjects.{Claims, labels_in, note_in}
 use Rattle.certificate_checker.specs.Verdicts.{IsTableOf, subject_of}
@@ -35,19 +37,24 @@ use Rattle.tubes.specs.TubedEdges.{drawn_bays}
 use Rattle.tubes.specs.declared.kinds.Facing.{Facing}
 use Rattle.tubes.specs.declared.kinds.Owner.{Owner}
 use Rattle.area_search.specs.declared.settled.case.Spot.{Spot}
-use Rattle.area_search.specs.Settled.CaseNotes.{AreNamed, label_by, named_by, note_of, spot_place, tag_at}
+use Rattle.area_search.specs.Settled.CaseNotes.{AreNamed, label_by, named_by, note_of, spot_place}
+use Rattle.area_search.specs.Settled.CaseNotes.{tag_at}
 use Rattle.area_search.specs.Settled.CaseOwners.{HaveOwners}
 use Rattle.area_search.specs.Settled.CaseRoots.{AreCaseRoots}
 use Rattle.area_search.specs.Settled.Cases.{ArePlacedOff, HasRunFaces, IsCase, IsRunMesh}
 use Rattle.area_search.specs.Settled.CaseSides.{first_at}
 use Rattle.area_search.specs.Settled.Writing.{positions_of}
-use Rattle.area_search.proofs.SettledLemmas.CaseNames.{Labelling, inside, named_faces, numbers_are, outside, r}
+use Rattle.area_search.proofs.SettledLemmas.CaseNames.{Labelling, inside, named_faces, numbers_are}
+use Rattle.area_search.proofs.SettledLemmas.CaseNames.{outside, r}
 use Rattle.area_search.proofs.SettledLemmas.CasePlaces.{placed, told as told_place}
 use Rattle.area_search.proofs.SettledLemmas.CaseRootLists.{Root, Rooting, listed_root}
 use Rattle.area_search.proofs.SettledLemmas.CaseCurves.{straight_first}
-use Rattle.area_search.proofs.SettledLemmas.CertifiedMoves.{RootAt, CertifiesRun, HasTwoSidesAt, certifies_claims, rank_in}
-use Rattle.area_search.proofs.PlaneLaws.{arc_cut_by_faces, half_number, number_half, straight_cut_by_faces}
-use Rattle.area_search.proofs.SettledLemmas.RunFaces.{either_across, number_within, to_next, within as half_within_mesh}
+use Rattle.area_search.proofs.SettledLemmas.CertifiedMoves.{RootAt, CertifiesRun, HasTwoSidesAt}
+use Rattle.area_search.proofs.SettledLemmas.CertifiedMoves.{certifies_claims, rank_in}
+use Rattle.area_search.proofs.PlaneLaws.{arc_cut_by_faces, half_number, number_half}
+use Rattle.area_search.proofs.PlaneLaws.{straight_cut_by_faces}
+use Rattle.area_search.proofs.SettledLemmas.RunFaces.{either_across, number_within, to_next}
+use Rattle.area_search.proofs.SettledLemmas.RunFaces.{within as half_within_mesh}
 use Rattle.area_search.proofs.SettledLemmas.TubedLaws.{certified}
 use Rattle.area_search.proofs.SettledLemmas.TubeSides.{tag_is}
 
@@ -81,16 +88,19 @@ module _ (d : Plan) (level : ℕ) (edges : List Edge) (edge_owners : List Owner)
   in_drawing k l = half_within_mesh (pos 0) m E vs mesh case.settled.run.run case.fit on.turned on.known k l
 
   -- ---- the notes
-  note_is : (h : Half) → edge_of h < m → note_in ns h ≡ named_by (length d.points) (tag_at facings edge_owners h) owners (note_of notes h)
+  note_is : (h : Half) → edge_of h < m
+      → note_in ns h ≡ named_by (length d.points) (tag_at facings edge_owners h) owners (note_of notes h)
   note_is h l = named.named h (let k = case.facings_are.count in omega (arith, l, k))
 
   abbrev name : Half → ℕ
   name h = (note_in ns h).label
 
-  face_label : (h : Half) → edge_of h < m → (note_of notes h).label ≡ slice_index mesh.face (number h)
+  face_label : (h : Half) → edge_of h < m
+      → (note_of notes h).label ≡ slice_index mesh.face (number h)
   face_label h l = told.label (number h) (in_mesh h l)
 
-  pub name_is : (h : Half) → edge_of h < m → name h ≡ label_by (length d.points) (faced d (drawn_bays d level) E h) (slice_index owners (slice_index mesh.face (number h)))
+  pub name_is : (h : Half) → edge_of h < m
+      → name h ≡ label_by (length d.points) (faced d (drawn_bays d level) E h) (slice_index owners (slice_index mesh.face (number h)))
   name_is h l =
       ap (λ (n : HalfNote). n.label) (note_is h l)
       ∙ ap (λ (t : ℕ). label_by (length d.points) t (slice_index owners (note_of notes h).label)) (tag_is d level facings case.facings_are edge_owners case.owners_are h l)
@@ -149,7 +159,9 @@ module _ (d : Plan) (level : ℕ) (edges : List Edge) (edge_owners : List Owner)
   root_at : (h : Half) → edge_of h < m → slice_index told.ranks (number h) ≡ 0 → Root s g h
   root_at h l z = listed_root s g h (subst (Has (number h)) listed.roots_are ((told.are_ranks.root (number h) (in_mesh h l)).0 z))
 
-  found_by : (h : Half) → edge_of h < m → (k : Link) → IsLink mesh (closed_gaps vs) told.ranks (number h) k → FoundLead (r s) (rank_in ns) (IsFaceRoot d (drawn_bays d level) (r s) name) h (lead_of mesh (number h) k)
+  found_by : (h : Half) → edge_of h < m → (k : Link)
+      → IsLink mesh (closed_gaps vs) told.ranks (number h) k
+      → FoundLead (r s) (rank_in ns) (IsFaceRoot d (drawn_bays d level) (r s) name) h (lead_of mesh (number h) k)
   found_by h l link.Root i = (root_at h l i).2
   found_by h l link.Next i =
       let e = rank_at (next_of mesh (number h)) (on.mesh_is.next_within (number h) (in_mesh h l)) in
@@ -174,13 +186,15 @@ module _ (d : Plan) (level : ℕ) (edges : List Edge) (edge_owners : List Owner)
         omega (arith, e, q, i),
       )
 
-  found : (h : Half) → edge_of h < m → FoundLead (r s) (rank_in ns) (IsFaceRoot d (drawn_bays d level) (r s) name) h (lead h)
+  found : (h : Half) → edge_of h < m
+      → FoundLead (r s) (rank_in ns) (IsFaceRoot d (drawn_bays d level) (r s) name) h (lead h)
   found h l = found_by h l (note_of notes h).link (told.link_is (number h) (in_mesh h l))
 
   links_certify : CertifiedCurves d (drawn_bays d level) (r s) (numbers name) (runs.half_within d (drawn_bays d level) E) (inside s) (outside s) (rank_in ns) lead
   links_certify = certified (pos 0) d (drawn_bays d level) m E (steps_from [] vs) name case.settled.run case.settled.wide case.settled.settled (named_faces s) (numbers_are s) (placed s places written) (rank_in ns) lead found
 
-  says_by : (h : Half) → edge_of h < m → (k : Link) → (note_of notes h).link ≡ k → Says (note_in ns h) (lead_of mesh (number h) k)
+  says_by : (h : Half) → edge_of h < m → (k : Link) → (note_of notes h).link ≡ k
+      → Says (note_in ns h) (lead_of mesh (number h) k)
   says_by h l link.Root e =
       let i : slice_index told.ranks (number h) ≡ 0 = subst (IsLink mesh (closed_gaps vs) told.ranks (number h)) e (told.link_is (number h) (in_mesh h l)) in
       says_root (ap (λ (n : HalfNote). n.link) (note_is h l) ∙ e) (rank_is h l ∙ i)
@@ -188,7 +202,8 @@ module _ (d : Plan) (level : ℕ) (edges : List Edge) (edge_owners : List Owner)
   says_by h l link.Prev e = says_previous (half_of (prev_of mesh (number h))) (ap (λ (n : HalfNote). n.link) (note_is h l) ∙ e)
   says_by h l (link.Across x) e = says_across (half_of x) (ap (λ (n : HalfNote). n.link) (note_is h l) ∙ e ∙ ap link.Across (sym (number_half x)))
 
-  told_root : (h : Half) → edge_of h < m → lead h ≡ root → RootAt d level (r s) (numbers name) places h
+  told_root : (h : Half) → edge_of h < m → lead h ≡ root
+      → RootAt d level (r s) (numbers name) places h
   told_root h l e =
       let q = root_link mesh (number h) (note_of notes h).link e in
       let i : slice_index told.ranks (number h) ≡ 0 = subst (IsLink mesh (closed_gaps vs) told.ranks (number h)) q (told.link_is (number h) (in_mesh h l)) in
@@ -199,7 +214,8 @@ module _ (d : Plan) (level : ℕ) (edges : List Edge) (edge_owners : List Owner)
   mark_is (under e) = refl
   mark_is (over e) = refl
 
-  sides_differ : (i : ℕ) → i < length d.curves → (t : CurveKind) → (curve d i).kind ≡ t → HasTwoSidesAt d level ns i t
+  sides_differ : (i : ℕ) → i < length d.curves → (t : CurveKind) → (curve d i).kind ≡ t
+      → HasTwoSidesAt d level ns i t
   sides_differ i l kind.Straight e = λ q.
       let a = straight_first d level edges edge_owners facings vs case i (record { there = l; kind = e }) in
       let c = straight_cut_by_faces d (drawn_bays d level) m E (steps_from [] vs) case.settled.run case.settled.wide case.settled.settled (pos 0) name (named_faces s) (first_at d level i) a.there a.part in

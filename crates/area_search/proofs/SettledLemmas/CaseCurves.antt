@@ -1,6 +1,9 @@
 -- The edges of each curve of a settled drawing: where they begin, how many they are, and what the first of each chain is.
-use Rattle.std.proofs.Common.{◌≡◌, ℕ, zero, suc, ◌+◌, ◌*◌, ◌%◌, ◌<◌, ◌≤◌, ◌^◌, Bool, true, false, List, [], ◌∷◌, length, get_or, slice_index, refl, sym, ap, subst, ◌∙◌, arith}
-use Rattle.plane.specs.CurveRuns.TubedRuns.{IsOfTube, edges_of, first_edge, half_within, inner, outer, whole}
+use Rattle.std.proofs.Common.{◌≡◌, ℕ, zero, suc, ◌+◌, ◌*◌, ◌%◌, ◌<◌, ◌≤◌, ◌^◌, Bool, true, false}
+use Rattle.std.proofs.Common.{List, [], ◌∷◌, length, get_or, slice_index, refl, sym, ap, subst, ◌∙◌}
+use Rattle.std.proofs.Common.{arith}
+use Rattle.plane.specs.CurveRuns.TubedRuns.{IsOfTube, edges_of, first_edge, half_within, inner}
+use Rattle.plane.specs.CurveRuns.TubedRuns.{outer, whole}
 use Rattle.plane.specs.Faces.Halves.{number, twin}
 use Rattle.plane.specs.Forms.Segments.{IsEdgeOf}
 use Rattle.plane.specs.Forms.Vectors.{Before}
@@ -17,10 +20,12 @@ use Rattle.tubes.specs.declared.kinds.Facing.{Facing}
 use Rattle.tubes.specs.declared.kinds.Owner.{Owner}
 use Rattle.area_search.specs.Settled.Cases.{IsCase}
 use Rattle.area_search.specs.declared.settled.case_sides.Beside.{Beside}
-use Rattle.area_search.specs.Settled.CaseSides.{IsBeside, IsBesideKind, IsFaceOn, edges_of_kind, first_at}
+use Rattle.area_search.specs.Settled.CaseSides.{IsBeside, IsBesideKind, IsFaceOn, edges_of_kind}
+use Rattle.area_search.specs.Settled.CaseSides.{first_at}
 use Rattle.area_search.specs.Settled.Sides.{IsOnSide}
 use Rattle.area_search.proofs.PlaneLaws.{arc_length, group_fits, no_curve, run_edges, straight_edge}
-use Rattle.area_search.proofs.SettledLemmas.CaseEdges.{bay_count as tube_bays, edges_size, list_size}
+use Rattle.area_search.proofs.SettledLemmas.CaseEdges.{bay_count as tube_bays, edges_size}
+use Rattle.area_search.proofs.SettledLemmas.CaseEdges.{list_size}
 
 pub small_power : (l : ℕ) → l ≤ 5 → (2 * 2 ^ l) % 2 ^ 32 ≡ 2 ^ (l + 1)
 small_power zero h = refl
@@ -77,19 +82,23 @@ module _ (d : Plan) (level : ℕ) (edges : List Edge) (owners : List Owner) (fac
   pub bay_size : (i : ℕ) → IsHalfArc d i → length (bays i) ≡ 2 ^ (level + 1)
   bay_size i h = tube_bays d level i (is.tubes i h)
 
-  group_size : (i : ℕ) → i < length d.curves → length (edges_of i (curve d i).kind (curve d i) (bays i)) ≡ edges_of_kind (curve d i).kind level
+  group_size : (i : ℕ) → i < length d.curves
+      → length (edges_of i (curve d i).kind (curve d i) (bays i)) ≡ edges_of_kind (curve d i).kind level
   group_size i l = by_kind (curve d i).kind refl
     where
-      by_kind : (k : CurveKind) → (curve d i).kind ≡ k → length (edges_of i k (curve d i) (bays i)) ≡ edges_of_kind k level
+      by_kind : (k : CurveKind) → (curve d i).kind ≡ k
+          → length (edges_of i k (curve d i) (bays i)) ≡ edges_of_kind k level
       by_kind kind.Straight e = refl
       by_kind kind.HalfArc e = (let a = arc_length i (curve d i) (bays i) in let b = bay_size i (record { there = l; kind = e }) in omega (arith, a, b))
 
-  pub next_first : (i : ℕ) → i < length d.curves → first_at d level (i + 1) ≡ first_at d level i + edges_of_kind (curve d i).kind level
+  pub next_first : (i : ℕ) → i < length d.curves
+      → first_at d level (i + 1) ≡ first_at d level i + edges_of_kind (curve d i).kind level
   next_first i l =
       let n : i + 1 ≡ suc i = omega arith in
       ap (first_at d level) n ∙ first_next bays 0 d.curves i i l (omega arith) ∙ ap (λ (k : ℕ). first_at d level i + k) (group_size i l)
 
-  pub edges_fit : (i : ℕ) → i < length d.curves → (first_at d level i + edges_of_kind (curve d i).kind level) ≤ m
+  pub edges_fit : (i : ℕ) → i < length d.curves
+      → (first_at d level i + edges_of_kind (curve d i).kind level) ≤ m
   edges_fit i l =
       let a = group_fits bays no_curve 0 d.curves i i l (omega arith) in
       let b = group_size i l in
@@ -103,7 +112,8 @@ module _ (d : Plan) (level : ℕ) (edges : List Edge) (owners : List Owner) (fac
     pub curve_is : (owned_at d level (first_at d level i)).curve ≡ i
     pub part : (owned_at d level (first_at d level i)).part ≡ whole
 
-  pub straight_only : (e : ℕ) → e < m → IsStraight d (owned_at d level e).curve → e ≡ first_at d level (owned_at d level e).curve
+  pub straight_only : (e : ℕ) → e < m → IsStraight d (owned_at d level e).curve
+      → e ≡ first_at d level (owned_at d level e).curve
   straight_only e l s = (run_edges d bays m E (steps_from [] vs) is.settled.run is.settled.wide).straight_only e l s
 
   pub straight_first : (i : ℕ) → IsStraight d i → IsFirstOfStraight i
@@ -134,19 +144,24 @@ module _ (d : Plan) (level : ℕ) (edges : List Edge) (owners : List Owner) (fac
     straight_rises : c.kind ≡ kind.Straight → Before (E first).low (E first).high
     straight_rises e = is.settled.run.run.edges first (let a = (straight_first i (straight_is e)).there in omega (arith, a, f))
 
-    pub inner_there : (IsHalfArc d i → AreFirstOfArc d level i) → c.kind ≡ kind.HalfArc → first < length edges
+    pub inner_there : (IsHalfArc d i → AreFirstOfArc d level i) → c.kind ≡ kind.HalfArc
+        → first < length edges
     inner_there t e = let a = (t (arc_is e)).inner_there in let b = edges_size d level edges owners facings vs is in omega (arith, a, b, f)
 
-    pub inner_is : (IsHalfArc d i → AreFirstOfArc d level i) → c.kind ≡ kind.HalfArc → IsOfTube (owned_at d level first).part
+    pub inner_is : (IsHalfArc d i → AreFirstOfArc d level i) → c.kind ≡ kind.HalfArc
+        → IsOfTube (owned_at d level first).part
     inner_is t e = subst (λ (n : ℕ). IsOfTube (owned_at d level n).part) (sym f) (subst IsOfTube (sym (t (arc_is e)).inner_part) tt)
 
-    pub outer_at : (k : ℕ) → k ≡ 2 ^ (level + 1) → c.kind ≡ kind.HalfArc → first + k ≡ first_at d level i + length (bays i)
+    pub outer_at : (k : ℕ) → k ≡ 2 ^ (level + 1) → c.kind ≡ kind.HalfArc
+        → first + k ≡ first_at d level i + length (bays i)
     outer_at k h e = let a = bay_size i (arc_is e) in omega (arith, a, h, f)
 
-    pub outer_there : (IsHalfArc d i → AreFirstOfArc d level i) → (k : ℕ) → k ≡ 2 ^ (level + 1) → c.kind ≡ kind.HalfArc → (first + k) < length edges
+    pub outer_there : (IsHalfArc d i → AreFirstOfArc d level i) → (k : ℕ) → k ≡ 2 ^ (level + 1)
+        → c.kind ≡ kind.HalfArc → (first + k) < length edges
     outer_there t k h e = let a = (t (arc_is e)).outer_there in let b = edges_size d level edges owners facings vs is in let n = outer_at k h e in omega (arith, a, b, n)
 
-    pub outer_is : (IsHalfArc d i → AreFirstOfArc d level i) → (k : ℕ) → k ≡ 2 ^ (level + 1) → c.kind ≡ kind.HalfArc → IsOfTube (owned_at d level (first + k)).part
+    pub outer_is : (IsHalfArc d i → AreFirstOfArc d level i) → (k : ℕ) → k ≡ 2 ^ (level + 1)
+        → c.kind ≡ kind.HalfArc → IsOfTube (owned_at d level (first + k)).part
     outer_is t k h e = subst (λ (n : ℕ). IsOfTube (owned_at d level n).part) (sym (outer_at k h e)) (subst IsOfTube (sym (t (arc_is e)).outer_part) tt)
 
     pub next_is : (n : ℕ) → n ≡ edges_of_kind c.kind level → first + n ≡ first_at d level (i + 1)
@@ -171,7 +186,9 @@ module _ (d : Plan) (level : ℕ) (edges : List Edge) (owners : List Owner) (fac
         subst (λ (k : CurveKind). IsBesideKind k d level faces i b) (sym (straight_is e).kind)
         (moved true b.first (x (E first) (straight_rises e) (straight_ends e)), moved false b.second (y (E first) (straight_rises e) (straight_ends e)))
       where
-        moved : (left : Bool) (n : ℕ) → ((h : ℕ) × IsOnSide (E first) c first left h × (n ≡ slice_index faces h)) → IsFaceOn d level faces i left n
+        moved : (left : Bool) (n : ℕ)
+            → ((h : ℕ) × IsOnSide (E first) c first left h × (n ≡ slice_index faces h))
+            → IsFaceOn d level faces i left n
         moved left n z =
             subst (λ (k : ℕ). (h : ℕ) × IsOnSide (E k) (curve d i) k left h × (n ≡ slice_index faces h)) f
             (subst (λ (x : Curve). (h : ℕ) × IsOnSide (E first) x first left h × (n ≡ slice_index faces h)) q z)
@@ -179,7 +196,9 @@ module _ (d : Plan) (level : ℕ) (edges : List Edge) (owners : List Owner) (fac
     abbrev outside_at : List ℕ → ℕ → ℕ
     outside_at faces e = slice_index faces (number (twin (half_within d bays E e)))
 
-    pub arc_beside : (faces : List ℕ) (b : Beside) (k : ℕ) → k ≡ 2 ^ (level + 1) → c.kind ≡ kind.HalfArc → b.first ≡ outside_at faces first → b.second ≡ outside_at faces (first + k) → IsBeside d level faces i b
+    pub arc_beside : (faces : List ℕ) (b : Beside) (k : ℕ) → k ≡ 2 ^ (level + 1)
+        → c.kind ≡ kind.HalfArc → b.first ≡ outside_at faces first
+        → b.second ≡ outside_at faces (first + k) → IsBeside d level faces i b
     arc_beside faces b k h e x y =
         subst (λ (t : CurveKind). IsBesideKind t d level faces i b) (sym (arc_is e).kind)
         (x ∙ ap (outside_at faces) f, y ∙ ap (outside_at faces) (outer_at k h e))

@@ -1,5 +1,6 @@
 -- A curve of a settled drawing has one face on both sides exactly where the two faces beside it are one.
-use Rattle.std.proofs.Common.{◌≡◌, ◌↔◌, inl, inr, ℕ, ◌+◌, ◌*◌, ◌<◌, true, false, Some, None, List, [], length, slice_index, refl, sym, ap, subst, ◌∙◌, arith, pos}
+use Rattle.std.proofs.Common.{◌≡◌, ◌↔◌, inl, inr, ℕ, ◌+◌, ◌*◌, ◌<◌, true, false, Some, None, List}
+use Rattle.std.proofs.Common.{[], length, slice_index, refl, sym, ap, subst, ◌∙◌, arith, pos}
 use Rattle.half_edges.specs.HalfEdges.{HalfEdges}
 use Rattle.plane.specs.Faces.Halves.{Half, number, over, under}
 use Rattle.plane.specs.Forms.Segments.{IsEdgeOf}
@@ -20,7 +21,8 @@ use Rattle.area_search.specs.declared.kinds.AreaAnswer.TheVariants.{Fault}
 use Rattle.area_search.specs.declared.kinds.AreaFinding.TheVariants.{Cut}
 use Rattle.area_search.specs.Answers.{AreFilled, IsAnswer, IsSettled, cut}
 use Rattle.area_search.specs.Settled.Cases.{HasRunFaces, IsCase}
-use Rattle.area_search.specs.Settled.CaseSides.{AreBeside, IsBeside, IsBesideKind, IsFirstOneFaced, IsOneFaced, beside_at, first_at}
+use Rattle.area_search.specs.Settled.CaseSides.{AreBeside, IsBeside, IsBesideKind, IsFirstOneFaced}
+use Rattle.area_search.specs.Settled.CaseSides.{IsOneFaced, beside_at, first_at}
 use Rattle.area_search.specs.Settled.Sides.{IsOnSide, back, forth}
 use Rattle.area_search.proofs.SettledLemmas.CaseCurves.{straight_first}
 use Rattle.area_search.proofs.PlaneLaws.{arc_cut_by_faces, never, straight_cut_by_faces}
@@ -64,13 +66,16 @@ module _ (d : Plan) (level : ℕ) (edges : List Edge) (owners : List Owner) (fac
     at_under : (h : ℕ) → h ≡ 2 * x → slice_index mesh.face h ≡ face (under x)
     at_under h e = let q : h ≡ number (under x) = omega (arith, e) in ap (slice_index mesh.face) q
 
-    by_sides : (g h : ℕ) → IsOnSide (E x) (curve d i) x true g → IsOnSide (E x) (curve d i) x false h → (face (over x) ≡ face (under x)) ↔ (slice_index mesh.face g ≡ slice_index mesh.face h)
+    by_sides : (g h : ℕ) → IsOnSide (E x) (curve d i) x true g
+        → IsOnSide (E x) (curve d i) x false h
+        → (face (over x) ≡ face (under x)) ↔ (slice_index mesh.face g ≡ slice_index mesh.face h)
     by_sides g h (forth a p) (forth b q) = ((λ e. at_over g p ∙ e ∙ sym (at_under h q)), (λ e. sym (at_over g p) ∙ e ∙ at_under h q))
     by_sides g h (back a p) (back b q) = ((λ e. at_under g p ∙ sym e ∙ sym (at_over h q)), (λ e. sym (sym (at_under g p) ∙ e ∙ at_over h q)))
     by_sides g h (forth a p) (back b q) = one_end a b
     by_sides g h (back a p) (forth b q) = one_end b a
 
-    straight_cut : (b : Beside) → IsBesideKind kind.Straight d level mesh.face i b → IsCut d i ↔ (b.first ≡ b.second)
+    straight_cut : (b : Beside) → IsBesideKind kind.Straight d level mesh.face i b
+        → IsCut d i ↔ (b.first ≡ b.second)
     straight_cut b ((g, o, p), (h, u, q)) =
         let t = by_sides g h o u in (
           (λ c. p ∙ t.0 (by_edge.0 c) ∙ sym q),
@@ -78,7 +83,8 @@ module _ (d : Plan) (level : ℕ) (edges : List Edge) (owners : List Owner) (fac
         )
 
   -- ---- a half arc
-  arc_cut : (i : ℕ) → IsHalfArc d i → (b : Beside) → IsBesideKind kind.HalfArc d level mesh.face i b → IsCut d i ↔ (b.first ≡ b.second)
+  arc_cut : (i : ℕ) → IsHalfArc d i → (b : Beside) → IsBesideKind kind.HalfArc d level mesh.face i b
+      → IsCut d i ↔ (b.first ≡ b.second)
   arc_cut i h b (p, q) =
       let t = arc_cut_by_faces d (drawn_bays d level) m E (steps_from [] vs) is.settled.run is.settled.wide is.settled.settled (pos 0) face f.faces i h.there h.kind in (
         (λ c. p ∙ t.0 c ∙ sym q),
@@ -86,10 +92,12 @@ module _ (d : Plan) (level : ℕ) (edges : List Edge) (owners : List Owner) (fac
       )
 
   -- ---- any curve
-  cut_is : (i : ℕ) → i < length d.curves → (b : Beside) → IsBeside d level mesh.face i b → IsCut d i ↔ (b.first ≡ b.second)
+  cut_is : (i : ℕ) → i < length d.curves → (b : Beside) → IsBeside d level mesh.face i b
+      → IsCut d i ↔ (b.first ≡ b.second)
   cut_is i l b = by_kind (curve d i).kind refl
     where
-      by_kind : (t : CurveKind) → (curve d i).kind ≡ t → IsBesideKind t d level mesh.face i b → IsCut d i ↔ (b.first ≡ b.second)
+      by_kind : (t : CurveKind) → (curve d i).kind ≡ t → IsBesideKind t d level mesh.face i b
+          → IsCut d i ↔ (b.first ≡ b.second)
       by_kind kind.Straight e k = straight_cut i (record { there = l; kind = e }) b k
       by_kind kind.HalfArc e k = arc_cut i (record { there = l; kind = e }) b k
 
@@ -100,7 +108,8 @@ module _ (d : Plan) (level : ℕ) (edges : List Edge) (owners : List Owner) (fac
     there : (i : ℕ) → i < length besides → i < length d.curves
     there i l = let s = are.size in omega (arith, l, s)
 
-    pub cut_answer : (i : ℕ) → AreFilled d → IsSettled d → IsFirstOneFaced besides (Some i) → IsAnswer d (Fault (Cut i))
+    pub cut_answer : (i : ℕ) → AreFilled d → IsSettled d → IsFirstOneFaced besides (Some i)
+        → IsAnswer d (Fault (Cut i))
     cut_answer i filled settled (l, one, none) = cut i filled settled (record {
       there = there i l;
       cut = (one_faced i (there i l)).1 one;

@@ -1,5 +1,6 @@
 -- The edges of a settled drawing by number: their owners, their facings, and how they lie to points.
-use Rattle.std.proofs.Common.{◌≡◌, ℕ, zero, suc, ◌+◌, ◌<◌, ◌^◌, List, [], ◌∷◌, map, length, get_or, refl, sym, ap, subst, ◌∙◌, arith, All}
+use Rattle.std.proofs.Common.{◌≡◌, ℕ, zero, suc, ◌+◌, ◌<◌, ◌^◌, List, [], ◌∷◌, map, length, get_or}
+use Rattle.std.proofs.Common.{refl, sym, ap, subst, ◌∙◌, arith, All}
 use Rattle.std.proofs.lemmas.List.{length-map}
 use Rattle.plane.specs.CurveRuns.TubedRuns as runs
 use Rattle.plane.specs.Lists.{Each}
@@ -30,18 +31,21 @@ use Rattle.area_search.specs.Settled.Cases.{IsCase}
 use Rattle.area_search.specs.Settled.CaseSides.{IsTurnable}
 use Rattle.area_search.proofs.PlaneLaws.{bad_not_apart, settled_apart}
 
-pub nth_map : {X Y : Type 0} (f : X → Y) (xs : List X) (i : ℕ) (x : X) (y : Y) → i < length xs → get_or (map f xs) i y ≡ f (get_or xs i x)
+pub nth_map : {X Y : Type 0} (f : X → Y) (xs : List X) (i : ℕ) (x : X) (y : Y) → i < length xs
+    → get_or (map f xs) i y ≡ f (get_or xs i x)
 nth_map f [] i x y l = absurd (omega (arith, l))
 nth_map f (z ∷ xs) zero x y l = refl
 nth_map f (z ∷ xs) (suc i) x y l = nth_map f xs i x y (omega (arith, l))
 
-pub get_same : {X : Type 0} (xs : List X) (i : ℕ) (x y : X) → i < length xs → get_or xs i x ≡ get_or xs i y
+pub get_same : {X : Type 0} (xs : List X) (i : ℕ) (x y : X) → i < length xs
+    → get_or xs i x ≡ get_or xs i y
 get_same [] i x y l = absurd (omega (arith, l))
 get_same (z ∷ xs) zero x y l = refl
 get_same (z ∷ xs) (suc i) x y l = get_same xs i x y (omega (arith, l))
 
 -- a curve of the drawing, as its list gives it
-pub nth_curve_is : (d : Plan) (i : ℕ) (c : Curve) → i < length d.curves → c ≡ get_or d.curves i c → c ≡ curve d i
+pub nth_curve_is : (d : Plan) (i : ℕ) (c : Curve) → i < length d.curves → c ≡ get_or d.curves i c
+    → c ≡ curve d i
 nth_curve_is d i c l e = e ∙ get_same d.curves i c _ l
 
 -- what an owner's part says of the edge's
@@ -56,7 +60,8 @@ tube_part runs.inner n = tt
 tube_part runs.outer n = tt
 
 -- ---- tubes of half arcs that have one
-pub tube_circle : (d : Plan) (level i : ℕ) → HasTube (arc (curve d i)) level → HasCircle (arc (curve d i))
+pub tube_circle : (d : Plan) (level i : ℕ) → HasTube (arc (curve d i)) level
+    → HasCircle (arc (curve d i))
 tube_circle d level i (vs, os, t) = t.circle
 
 pub corners_near : (d : Plan) (level i : ℕ) → HasTube (arc (curve d i)) level
@@ -65,11 +70,14 @@ corners_near d level i (vs, os, t) =
     subst (Each (λ (b : Bay). AreNear (2 ^ 28) (arc (curve d i)).from b.outer × AreNear (2 ^ 28) (arc (curve d i)).from b.inner)) (sym (bays_are (arc (curve d i)) level vs os t))
     (tube_near (arc (curve d i)) level vs os t)
 
-pub bay_count : (d : Plan) (level i : ℕ) → HasTube (arc (curve d i)) level → length (drawn_bays d level i) ≡ 2 ^ (level + 1)
+pub bay_count : (d : Plan) (level i : ℕ) → HasTube (arc (curve d i)) level
+    → length (drawn_bays d level i) ≡ 2 ^ (level + 1)
 bay_count d level i (vs, os, t) = ap length (bays_are (arc (curve d i)) level vs os t) ∙ tube_count (arc (curve d i)) level vs os t
 
 -- ---- turns at the points of curves
-pub curves_turn : (d : Plan) (w : Window2) → d.window ≡ w → All (λ (c : Curve). IsDrawn w.low w.high c) d.curves → (cs : List Curve) → cs ≡ d.curves → (i : ℕ) → i < length cs → IsTurnable (nth_curve cs i)
+pub curves_turn : (d : Plan) (w : Window2) → d.window ≡ w
+    → All (λ (c : Curve). IsDrawn w.low w.high c) d.curves → (cs : List Curve) → cs ≡ d.curves
+    → (i : ℕ) → i < length cs → IsTurnable (nth_curve cs i)
 curves_turn d w e drawn cs q i l =
     let k : i < length d.curves = subst (λ (xs : List Curve). i < length xs) q l in
     subst (λ (xs : List Curve). IsTurnable (nth_curve xs i)) (sym q) (turned (fit w (curve d i) (drawn i _ k)))
@@ -106,7 +114,8 @@ module _ (d : Plan) (level : ℕ) (edges : List Edge) (owners : List Owner) (fac
   pub run_is : Run (length edges) (edge_of edges) steps
   run_is = subst (λ (es : List Edge). Run (length es) (edge_of es) steps) (sym is.edges_are) is.settled.run.run
 
-  pub are_usable : All (λ (c : Curve). IsDrawn d.window.low d.window.high c) d.curves → All (λ (p : Placed). IsInside d.window.low d.window.high p.at) d.points → AreUsable d edges
+  pub are_usable : All (λ (c : Curve). IsDrawn d.window.low d.window.high c) d.curves
+      → All (λ (p : Placed). IsInside d.window.low d.window.high p.at) d.points → AreUsable d edges
   are_usable drawn points = usable d level edges drawn points is.tubes is.edges_are
 
   pub no_bad_pair : HasNoBadPair d

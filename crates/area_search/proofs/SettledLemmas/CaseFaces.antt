@@ -1,5 +1,6 @@
 -- The faces of the points of a settled drawing, and what they say of points outside and of points in one face.
-use Rattle.std.proofs.Common.{◌≡◌, ◌↔◌, ℕ, zero, suc, ◌<◌, Some, None, List, [], ◌∷◌, map, length, slice_index, refl, sym, ap, subst, ◌∙◌, arith, pos}
+use Rattle.std.proofs.Common.{◌≡◌, ◌↔◌, ℕ, zero, suc, ◌<◌, Some, None, List, [], ◌∷◌, map, length}
+use Rattle.std.proofs.Common.{slice_index, refl, sym, ap, subst, ◌∙◌, arith, pos}
 use Rattle.std.proofs.lemmas.List.{length-map}
 use Rattle.half_edges.specs.HalfEdges.{HalfEdges}
 use Rattle.plane.specs.CurveRuns.FacePlaces.{PointHasFace}
@@ -18,8 +19,10 @@ use Rattle.area_search.specs.declared.settled.case.Spot.{Spot}
 use Rattle.area_search.specs.declared.kinds.AreaAnswer.TheVariants.{Fault}
 use Rattle.area_search.specs.declared.kinds.AreaFinding.TheVariants.{Outside, Two}
 use Rattle.area_search.specs.declared.settled.owners.Shared.{Shared}
-use Rattle.area_search.specs.Answers.{AreAlone, AreClear, AreInside, IsAnswer, IsSettled, outside, two}
-use Rattle.area_search.specs.Settled.Cases.{ArePlacedOff, HasRunFaces, IsCase, IsOffCurves, IsSpot, spot_at, spot_face, spot_faces}
+use Rattle.area_search.specs.Answers.{AreAlone, AreClear, AreInside, IsAnswer, IsSettled, outside}
+use Rattle.area_search.specs.Answers.{two}
+use Rattle.area_search.specs.Settled.Cases.{ArePlacedOff, HasRunFaces, IsCase, IsOffCurves, IsSpot}
+use Rattle.area_search.specs.Settled.Cases.{spot_at, spot_face, spot_faces}
 use Rattle.area_search.specs.Faults.{AreTwo}
 use Rattle.area_search.specs.Settled.Owners.{AreShared, IsLeastShare, Share}
 use Rattle.area_search.specs.Settled.PointFaces.{IsFirstOutside}
@@ -28,7 +31,8 @@ use Rattle.area_search.proofs.SettledLemmas.RunFaces.{face_in}
 use Rattle.area_search.proofs.SettledLemmas.CaseSpots.{clear_spots}
 use Rattle.area_search.proofs.SettledLemmas.SpotFaces.{spot_has_face}
 
-pub nth_spot_face : (f : Spot → ℕ) (ss : List Spot) (j : ℕ) → j < length ss → slice_index (map f ss) j ≡ f (spot_at ss j)
+pub nth_spot_face : (f : Spot → ℕ) (ss : List Spot) (j : ℕ) → j < length ss
+    → slice_index (map f ss) j ≡ f (spot_at ss j)
 nth_spot_face f [] j l = absurd (omega (arith, l))
 nth_spot_face f (s ∷ ss) zero l = refl
 nth_spot_face f (s ∷ ss) (suc j) l = nth_spot_face f ss j (omega (arith, l))
@@ -57,7 +61,8 @@ module _ (d : Plan) (level : ℕ) (edges : List Edge) (owners : List Owner) (fac
   HasFace v k = PointHasFace d (drawn_bays d level) r (face_in mesh.face) v k
 
   -- ---- the face of a point by its spot
-  pub by_spot : (v : Point) (s : Spot) → IsSpot d level vs v s → IsOffCurves s → HasFace v (spot_face d level mesh.face s)
+  pub by_spot : (v : Point) (s : Spot) → IsSpot d level vs v s → IsOffCurves s
+      → HasFace v (spot_face d level mesh.face s)
   by_spot v s h o = spot_has_face d level edges owners facings vs is mesh.face v s h o
 
   pub own_face : (j : ℕ) → j < length d.points → HasFace (object d j) (slice_index fs j)
@@ -68,7 +73,8 @@ module _ (d : Plan) (level : ℕ) (edges : List Edge) (owners : List Owner) (fac
   outer : (j : ℕ) → j < length d.points → IsOuter d (point (object d j)) ↔ (slice_index fs j ≡ 0)
   outer j l = outer_point d (drawn_bays d level) m E (steps_from [] vs) is.settled.run is.settled.wide is.settled.settled (pos 0) (face_in mesh.face) f.faces (object d j) (slice_index fs j) (own_face j l)
 
-  joined : (i j : ℕ) → i < length d.points → j < length d.points → Joined d (point (object d i)) (point (object d j)) ↔ (slice_index fs i ≡ slice_index fs j)
+  joined : (i j : ℕ) → i < length d.points → j < length d.points
+      → Joined d (point (object d i)) (point (object d j)) ↔ (slice_index fs i ≡ slice_index fs j)
   joined i j k l =
       joined_points d (drawn_bays d level) m E (steps_from [] vs) is.settled.run is.settled.wide is.settled.settled (pos 0) (face_in mesh.face) f.faces (object d i) (object d j) (slice_index fs i) (slice_index fs j) (own_face i k) (own_face j l)
 
@@ -76,7 +82,8 @@ module _ (d : Plan) (level : ℕ) (edges : List Edge) (owners : List Owner) (fac
   clear = clear_spots d level edges owners facings vs is spots placed.spots_are placed.off
 
   -- ---- faults
-  pub outside_answer : (p : ℕ) → IsSettled d → IsFirstOutside fs (Some p) → IsAnswer d (Fault (Outside p))
+  pub outside_answer : (p : ℕ) → IsSettled d → IsFirstOutside fs (Some p)
+      → IsAnswer d (Fault (Outside p))
   outside_answer p s (l, z, first) =
       let k : p < length d.points = omega (arith, l, fs_size) in
       outside p clear s (record { outside = record { there = k; outer = (outer p k).1 z }; none = λ j m o. first j m ((outer j o.there).0 o.outer) })
@@ -90,7 +97,8 @@ module _ (d : Plan) (level : ℕ) (edges : List Edge) (owners : List Owner) (fac
       let b = t.there in
       record { order = a; there = omega (arith, b, fs_size); one = (joined i j (omega (arith, a, b)) b).0 t.joined }
 
-  pub two_answer : (s : Shared) → IsSettled d → IsFirstOutside fs None → IsLeastShare fs (length fs) s.first s.second → IsAnswer d (Fault (Two s.first s.second))
+  pub two_answer : (s : Shared) → IsSettled d → IsFirstOutside fs None
+      → IsLeastShare fs (length fs) s.first s.second → IsAnswer d (Fault (Two s.first s.second))
   two_answer s settled none h =
       let a = h.share.there in
       let b = h.share.order in

@@ -1,12 +1,16 @@
 -- What the faces beside the curves of a settled drawing say of their sides.
-use Rattle.std.proofs.Common.{◌≡◌, ◌↔◌, ◌⊎◌, inl, inr, ℕ, ◌+◌, ◌<◌, Bool, true, false, not, Option, Some, None, List, [], length, slice_index, refl, sym, ap, subst, ◌∙◌, arith, pos}
+use Rattle.std.proofs.Common.{◌≡◌, ◌↔◌, ◌⊎◌, inl, inr, ℕ, ◌+◌, ◌<◌, Bool, true, false, not, Option}
+use Rattle.std.proofs.Common.{Some, None, List, [], length, slice_index, refl, sym, ap, subst, ◌∙◌}
+use Rattle.std.proofs.Common.{arith, pos}
 use Rattle.half_edges.specs.HalfEdges.{HalfEdges, size}
 use Rattle.plane.specs.CurveRuns.Levels.{AreFacesOfTubes, beside_inner, beside_outer}
-use Rattle.plane.specs.CurveRuns.TubedRuns.{IsOfTube, Part, half_within, inner, outer, third_is_left, whole}
+use Rattle.plane.specs.CurveRuns.TubedRuns.{IsOfTube, Part, half_within, inner, outer}
+use Rattle.plane.specs.CurveRuns.TubedRuns.{third_is_left, whole}
 use Rattle.plane.specs.Faces.Halves.{Half, edge_of, number, over, twin, under}
 use Rattle.plane.specs.Forms.Segments.{IsEdgeOf}
 use Rattle.plane.specs.Forms.Vectors.{Before}
-use Rattle.plane.specs.Rule.CrossedCurves.{CrossesHalfArc, IsEmptyAbove, IsEmptyBelow, IsEmptyInside, IsEmptyOutside, IsLost, IsUnnamed}
+use Rattle.plane.specs.Rule.CrossedCurves.{CrossesHalfArc, IsEmptyAbove, IsEmptyBelow}
+use Rattle.plane.specs.Rule.CrossedCurves.{IsEmptyInside, IsEmptyOutside, IsLost, IsUnnamed}
 use Rattle.plane.specs.Rule.CurveCrossings.{Crosses}
 use Rattle.plane.specs.Rule.Places.{Vector}
 use Rattle.plane.specs.Rule.Plans.{IsHalfArc, IsStraight, Plan, curve, object}
@@ -27,15 +31,22 @@ use Rattle.area_search.specs.declared.settled.sides.Side.{Side}
 use Rattle.area_search.specs.Answers.{AreFilled, IsAnswer, IsSettled, empty}
 use Rattle.area_search.specs.Settled.CaseOwners.{IsClearHalf}
 use Rattle.area_search.specs.declared.settled.case.Spot.TheVariants as spot
-use Rattle.area_search.specs.Settled.Cases.{ArePlacedOff, HasRunFaces, IsCase, IsOffCurves, IsSpot, face_over, spot_at, spot_face}
-use Rattle.area_search.specs.Settled.CaseSides.{AreBeside, BoundsFreeAt, HasNoFree, IsBeside, IsBesideIn, IsBesideKind, IsFaceOn, IsFreeFace, IsLeastFree, beside_at, face_on, first_at, is_first, is_first_kind}
+use Rattle.area_search.specs.Settled.Cases.{ArePlacedOff, HasRunFaces, IsCase, IsOffCurves, IsSpot}
+use Rattle.area_search.specs.Settled.Cases.{face_over, spot_at, spot_face}
+use Rattle.area_search.specs.Settled.CaseSides.{AreBeside, BoundsFreeAt, HasNoFree, IsBeside}
+use Rattle.area_search.specs.Settled.CaseSides.{IsBesideIn, IsBesideKind, IsFaceOn, IsFreeFace}
+use Rattle.area_search.specs.Settled.CaseSides.{IsLeastFree, beside_at, face_on, first_at, is_first}
+use Rattle.area_search.specs.Settled.CaseSides.{is_first_kind}
 use Rattle.area_search.specs.Faults.{IsEmptySide, end_on, half_arc, is_inward, straight}
 use Rattle.area_search.specs.Settled.Owners.{AreOwners, AreShared}
 use Rattle.area_search.specs.Settled.PointFaces.{IsFirstOutside, IsOver}
 use Rattle.area_search.specs.Settled.Sides.{IsOnSide, IsUnowned, back, forth, half_over}
-use Rattle.area_search.proofs.PlaneLaws.{above_empty, below_empty, edge_twin, edge_within, faces_to, inside_empty, never, not_faced, number_below, outside_empty, owner_is, run_faces, run_weight}
+use Rattle.area_search.proofs.PlaneLaws.{above_empty, below_empty, edge_twin, edge_within, faces_to}
+use Rattle.area_search.proofs.PlaneLaws.{inside_empty, never, not_faced, number_below}
+use Rattle.area_search.proofs.PlaneLaws.{outside_empty, owner_is, run_faces, run_weight}
 use Rattle.area_search.proofs.SettledLemmas.RunFaces.{face_in}
-use Rattle.area_search.proofs.SettledLemmas.CaseCurves.{AreFirstOfArc, straight_first, straight_only}
+use Rattle.area_search.proofs.SettledLemmas.CaseCurves.{AreFirstOfArc, straight_first}
+use Rattle.area_search.proofs.SettledLemmas.CaseCurves.{straight_only}
 use Rattle.area_search.proofs.SettledLemmas.CaseFaces.{alone, fs, fs_size, nth_spot_face, own_face}
 use Rattle.area_search.proofs.SettledLemmas.CaseSpots.{cell_in}
 use Rattle.area_search.proofs.SettledLemmas.TurnedCrossings.{crosses_forth, crosses_turned}
@@ -128,7 +139,8 @@ module _ (d : Plan) (level : ℕ) (edges : List Edge) (owners : List Owner) (fac
     empty_of left (p, q, c, l) = straight p q s c l
 
     -- the half-edge on a side
-    side_is : (left : Bool) (h : ℕ) → IsOnSide (E x) (curve d i) x left h → Sided left ↔ IsUnnamed d k (slice_index mesh.face h)
+    side_is : (left : Bool) (h : ℕ) → IsOnSide (E x) (curve d i) x left h
+        → Sided left ↔ IsUnnamed d k (slice_index mesh.face h)
     side_is true h (forth e q) = (
       (λ y. subst (λ (z : ℕ). IsUnnamed d k (slice_index mesh.face z)) (over_number ∙ sym q) (above_is.0 (y.0, y.1, (crosses_forth d (E x) i y.0 y.1 e (forth_ends e)).0 y.2, y.3))),
       (λ u. let w = above_is.1 (subst (λ (z : ℕ). IsUnnamed d k (slice_index mesh.face z)) (q ∙ sym over_number) u) in (w.0, w.1, (crosses_forth d (E x) i w.0 w.1 e (forth_ends e)).1 w.2, w.3)),
@@ -146,14 +158,16 @@ module _ (d : Plan) (level : ℕ) (edges : List Edge) (owners : List Owner) (fac
       (λ u. let w = above_is.1 (subst (λ (z : ℕ). IsUnnamed d k (slice_index mesh.face z)) (q ∙ sym over_number) u) in (w.1, w.0, (crosses_turned d (E x) i w.1 w.0 e (back_ends e)).1 w.2, w.3)),
     )
 
-    pub straight_side : (left : Bool) (v : ℕ) → IsFaceOn d level mesh.face i left v → IsEmptySide d i left ↔ IsUnnamed d k v
+    pub straight_side : (left : Bool) (v : ℕ) → IsFaceOn d level mesh.face i left v
+        → IsEmptySide d i left ↔ IsUnnamed d k v
     straight_side left v (h, o, e) = (
       (λ y. subst (IsUnnamed d k) (sym e) ((side_is left h o).0 (sided left y))),
       (λ u. empty_of left ((side_is left h o).1 (subst (IsUnnamed d k) e u))),
     )
 
     -- each of its two half-edges is on a side
-    pub side_of : (h : Half) → edge_of h ≡ x → (left : Bool) × IsOnSide (E x) (curve d i) x left (number h)
+    pub side_of : (h : Half) → edge_of h ≡ x
+        → (left : Bool) × IsOnSide (E x) (curve d i) x left (number h)
     side_of (over e) q = elim ends [
       | inl p ↦ (true, forth p.0 (omega (arith, q)))
       | inr p ↦ (false, back p.0 (omega (arith, q)))
@@ -163,7 +177,8 @@ module _ (d : Plan) (level : ℕ) (edges : List Edge) (owners : List Owner) (fac
       | inr p ↦ (true, back p.0 (omega (arith, q)))
     ]
 
-    pub one_side : (left : Bool) (g h : ℕ) → IsOnSide (E x) (curve d i) x left g → IsOnSide (E x) (curve d i) x left h → g ≡ h
+    pub one_side : (left : Bool) (g h : ℕ) → IsOnSide (E x) (curve d i) x left g
+        → IsOnSide (E x) (curve d i) x left h → g ≡ h
     one_side left g h (forth e p) (forth o q) = p ∙ sym q
     one_side left g h (back e p) (back o q) = p ∙ sym q
     one_side left g h (forth e p) (back o q) = absurd (two_ends (sym e ∙ o))
@@ -200,15 +215,18 @@ module _ (d : Plan) (level : ℕ) (edges : List Edge) (owners : List Owner) (fac
     abbrev Ended : Bool → Type 0
     Ended w = (p : Vector) × (q : Vector) × CrossesHalfArc d i p q × IsLost d (end_on w p q)
 
-    ended_is : (w : Bool) (b : Beside) → b.first ≡ inner_face i → b.second ≡ outer_face i → Ended w ↔ IsUnnamed d k (face_on w b)
+    ended_is : (w : Bool) (b : Beside) → b.first ≡ inner_face i → b.second ≡ outer_face i
+        → Ended w ↔ IsUnnamed d k (face_on w b)
     ended_is true b e g = ((λ y. subst (IsUnnamed d k) (sym e) (inside_is.0 y)), (λ u. inside_is.1 (subst (IsUnnamed d k) e u)))
     ended_is false b e g = ((λ y. subst (IsUnnamed d k) (sym g) (outside_is.0 y)), (λ u. outside_is.1 (subst (IsUnnamed d k) g u)))
 
-    arc_ended : (left : Bool) → IsEmptySide d i left → Ended (is_inward (third_is_left (curve d i)) left)
+    arc_ended : (left : Bool) → IsEmptySide d i left
+        → Ended (is_inward (third_is_left (curve d i)) left)
     arc_ended left (straight p q t c l) = absurd (kinds_differ (curve d i).kind t.kind h.kind)
     arc_ended left (half_arc p q t c l) = (p, q, c, l)
 
-    pub arc_side : (left : Bool) (b : Beside) → b.first ≡ inner_face i → b.second ≡ outer_face i → IsEmptySide d i left ↔ IsUnnamed d k (face_on (is_inward (third_is_left (curve d i)) left) b)
+    pub arc_side : (left : Bool) (b : Beside) → b.first ≡ inner_face i → b.second ≡ outer_face i
+        → IsEmptySide d i left ↔ IsUnnamed d k (face_on (is_inward (third_is_left (curve d i)) left) b)
     arc_side left b e g =
         let w = ended_is (is_inward (third_is_left (curve d i)) left) b e g in
         ((λ y. w.0 (arc_ended left y)), (λ u. let y = w.1 u in half_arc y.0 y.1 h y.2 y.3))
@@ -223,10 +241,14 @@ module _ (d : Plan) (level : ℕ) (edges : List Edge) (owners : List Owner) (fac
     outer_known =
         known (twin (half_within d (drawn_bays d level) E (first_at d level i + length (drawn_bays d level i)))) (twin_there (first_at d level i + length (drawn_bays d level i)) (chains i h).outer_there)
 
-    pub inner_same : (e : ℕ) → e < m → (owned_at d level e).curve ≡ i → (owned_at d level e).part ≡ inner → face (twin (half_within d (drawn_bays d level) E e)) ≡ inner_face i
+    pub inner_same : (e : ℕ) → e < m → (owned_at d level e).curve ≡ i
+        → (owned_at d level e).part ≡ inner
+        → face (twin (half_within d (drawn_bays d level) E e)) ≡ inner_face i
     inner_same e l o p = (let a = chains i h in tube_faces.inner_chain e (first_at d level i) l a.inner_there p a.inner_part (o ∙ sym a.inner_curve))
 
-    pub outer_same : (e : ℕ) → e < m → (owned_at d level e).curve ≡ i → (owned_at d level e).part ≡ outer → face (twin (half_within d (drawn_bays d level) E e)) ≡ outer_face i
+    pub outer_same : (e : ℕ) → e < m → (owned_at d level e).curve ≡ i
+        → (owned_at d level e).part ≡ outer
+        → face (twin (half_within d (drawn_bays d level) E e)) ≡ outer_face i
     outer_same e l o p =
         (let a = chains i h in tube_faces.outer_chain e (first_at d level i + length (drawn_bays d level i)) l a.outer_there p a.outer_part (o ∙ sym a.outer_curve))
 
@@ -235,7 +257,8 @@ module _ (d : Plan) (level : ℕ) (edges : List Edge) (owners : List Owner) (fac
   over_known None h = f.some
   over_known (Some e) h = known (over e) h
 
-  pub spot_known : (v : Point) (s : Spot) → IsSpot d level vs v s → spot_face d level mesh.face s < n
+  pub spot_known : (v : Point) (s : Spot) → IsSpot d level vs v s
+      → spot_face d level mesh.face s < n
   spot_known v (spot.On c) h = f.some
   spot_known v (spot.InTube c true) h = inner_known c (record { there = h.0.there; kind = h.0.bent })
   spot_known v (spot.InTube c false) h = outer_known c (record { there = h.0.there; kind = h.0.bent })
@@ -252,14 +275,17 @@ module _ (d : Plan) (level : ℕ) (edges : List Edge) (owners : List Owner) (fac
     beside_here : (i : ℕ) → i < length d.curves → IsBeside d level mesh.face i (beside_at besides i)
     beside_here i l = are.each i l
 
-    straight_faces : (i : ℕ) → IsStraight d i → (left : Bool) → IsFaceOn d level mesh.face i left (face_on left (beside_at besides i))
+    straight_faces : (i : ℕ) → IsStraight d i → (left : Bool)
+        → IsFaceOn d level mesh.face i left (face_on left (beside_at besides i))
     straight_faces i s left = by_side left (subst (λ (t : CurveKind). IsBesideKind t d level mesh.face i (beside_at besides i)) s.kind (beside_here i s.there))
       where
-        by_side : (b : Bool) → IsBesideKind kind.Straight d level mesh.face i (beside_at besides i) → IsFaceOn d level mesh.face i b (face_on b (beside_at besides i))
+        by_side : (b : Bool) → IsBesideKind kind.Straight d level mesh.face i (beside_at besides i)
+            → IsFaceOn d level mesh.face i b (face_on b (beside_at besides i))
         by_side true t = t.0
         by_side false t = t.1
 
-    arc_faces : (i : ℕ) → IsHalfArc d i → ((beside_at besides i).first ≡ inner_face i) × ((beside_at besides i).second ≡ outer_face i)
+    arc_faces : (i : ℕ) → IsHalfArc d i
+        → ((beside_at besides i).first ≡ inner_face i) × ((beside_at besides i).second ≡ outer_face i)
     arc_faces i h = subst (λ (t : CurveKind). IsBesideKind t d level mesh.face i (beside_at besides i)) h.kind (beside_here i h.there)
 
     decide : (i : ℕ) → i < length d.curves → IsStraight d i ⊎ IsHalfArc d i
@@ -275,10 +301,12 @@ module _ (d : Plan) (level : ℕ) (edges : List Edge) (owners : List Owner) (fac
     straight_first_is : (i : ℕ) (left : Bool) → IsStraight d i → is_first (curve d i) left ≡ left
     straight_first_is i left s = ap (λ (t : CurveKind). is_first_kind t (curve d i) left) s.kind
 
-    arc_first_is : (i : ℕ) (left : Bool) → IsHalfArc d i → is_first (curve d i) left ≡ is_inward (third_is_left (curve d i)) left
+    arc_first_is : (i : ℕ) (left : Bool) → IsHalfArc d i
+        → is_first (curve d i) left ≡ is_inward (third_is_left (curve d i)) left
     arc_first_is i left h = ap (λ (t : CurveKind). is_first_kind t (curve d i) left) h.kind
 
-    pub side_empty : (i : ℕ) (left : Bool) → i < length d.curves → IsEmptySide d i left ↔ IsUnnamed d k (face_at i left)
+    pub side_empty : (i : ℕ) (left : Bool) → i < length d.curves
+        → IsEmptySide d i left ↔ IsUnnamed d k (face_at i left)
     side_empty i left l = elim (decide i l) [
       | inl s ↦ subst (λ (b : Bool). IsEmptySide d i left ↔ IsUnnamed d k (face_on b (beside_at besides i))) (sym (straight_first_is i left s)) (straight_side i s left (face_on left (beside_at besides i)) (straight_faces i s left))
       | inr h ↦ (let b = arc_faces i h in
@@ -295,7 +323,8 @@ module _ (d : Plan) (level : ℕ) (edges : List Edge) (owners : List Owner) (fac
     face_at_known : (i : ℕ) (left : Bool) → i < length d.curves → face_at i left < n
     face_at_known i left l = by_bool (is_first (curve d i) left) (besides_known i l)
       where
-        by_bool : (b : Bool) → IsBesideIn n (beside_at besides i) → face_on b (beside_at besides i) < n
+        by_bool : (b : Bool) → IsBesideIn n (beside_at besides i)
+            → face_on b (beside_at besides i) < n
         by_bool true t = t.first
         by_bool false t = t.second
 
@@ -319,7 +348,8 @@ module _ (d : Plan) (level : ℕ) (edges : List Edge) (owners : List Owner) (fac
         ];
       }
 
-      free_is : (i : ℕ) (left : Bool) → i < length d.curves → IsEmptySide d i left ↔ BoundsFreeAt d.curves besides names i left
+      free_is : (i : ℕ) (left : Bool) → i < length d.curves
+          → IsEmptySide d i left ↔ BoundsFreeAt d.curves besides names i left
       free_is i left l = (
         (λ y. from_unnamed (face_at i left) (face_at_known i left l) ((side_empty i left l).0 y)),
         (λ u. (side_empty i left l).1 (to_unnamed (face_at i left) (face_at_known i left l) u)),
@@ -329,7 +359,10 @@ module _ (d : Plan) (level : ℕ) (edges : List Edge) (owners : List Owner) (fac
       empty_there i left (straight p q s c l) = s.there
       empty_there i left (half_arc p q h c l) = h.there
 
-      pub empty_answer : (s : Side) → IsSettled d → IsFirstOutside faces_here None → AreShared faces_here (length faces_here) None → IsLeastFree d.curves besides names s.curve s.left → IsAnswer d (Fault (Empty s.curve s.left))
+      pub empty_answer : (s : Side) → IsSettled d → IsFirstOutside faces_here None
+          → AreShared faces_here (length faces_here) None
+          → IsLeastFree d.curves besides names s.curve s.left
+          → IsAnswer d (Fault (Empty s.curve s.left))
       empty_answer s settled none single h =
           empty s.curve s.left (alone d level edges owners facings vs is spots placed mesh n f none single) settled (record {
             empty = (free_is s.curve s.left h.there).1 h.free;
@@ -337,7 +370,8 @@ module _ (d : Plan) (level : ℕ) (edges : List Edge) (owners : List Owner) (fac
             no_left = λ e y. h.no_left e ((free_is s.curve true h.there).0 y);
           })
 
-      pub filled : IsFirstOutside faces_here None → AreShared faces_here (length faces_here) None → HasNoFree d.curves besides names (length d.curves) → AreFilled d
+      pub filled : IsFirstOutside faces_here None → AreShared faces_here (length faces_here) None
+          → HasNoFree d.curves besides names (length d.curves) → AreFilled d
       filled none single free = record {
         alone = alone d level edges owners facings vs is spots placed mesh n f none single;
         none = λ i left y. free i left (empty_there i left y) ((free_is i left (empty_there i left y)).0 y);
@@ -347,7 +381,8 @@ module _ (d : Plan) (level : ℕ) (edges : List Edge) (owners : List Owner) (fac
       free_face : (v w : ℕ) → v ≡ w → (w ≡ 0 → ⊥) → slice_index names w ≡ 0 → IsFreeFace names v
       free_face v w e a b = record { inner = λ z. a (sym e ∙ z); none = ap (slice_index names) e ∙ b }
 
-      pub all_owned : HasNoFree d.curves besides names (length d.curves) → (h : Half) → IsClearHalf d level h → IsUnowned mesh.face names (number h) → ⊥
+      pub all_owned : HasNoFree d.curves besides names (length d.curves) → (h : Half)
+          → IsClearHalf d level h → IsUnowned mesh.face names (number h) → ⊥
       all_owned none h clear u = elim (owner_is d (drawn_bays d level) m E (steps_from [] vs) is.settled.run (edge_of h) clear.there) [
         | inl s ↦
             let t : IsStraight d s.index = record { there = s.fits; kind = s.straight } in
@@ -359,7 +394,9 @@ module _ (d : Plan) (level : ℕ) (edges : List Edge) (owners : List Owner) (fac
         | inr a ↦ by_part a.index a.fits a.bent a.number (owned_at d level (edge_of h)).part refl a.part
       ]
         where
-          by_part : (i : ℕ) → i < length d.curves → (curve d i).kind ≡ kind.HalfArc → (owned_at d level (edge_of h)).curve ≡ i → (p : Part) → (owned_at d level (edge_of h)).part ≡ p → IsOfTube p → ⊥
+          by_part : (i : ℕ) → i < length d.curves → (curve d i).kind ≡ kind.HalfArc
+              → (owned_at d level (edge_of h)).curve ≡ i → (p : Part)
+              → (owned_at d level (edge_of h)).part ≡ p → IsOfTube p → ⊥
           by_part i l b c whole e t = absurd t
           by_part i l b c inner e t =
               let r : IsHalfArc d i = record { there = l; kind = b } in

@@ -1,5 +1,6 @@
 -- The labelled mesh of a settled drawing: its faces are those of the run, and faces do not matter to what is turned.
-use Rattle.std.proofs.Common.{◌≡◌, ℕ, zero, suc, ◌*◌, ◌^◌, ◌<◌, List, [], ◌∷◌, length, slice_index, refl, sym, subst, ◌∙◌, arith, pos}
+use Rattle.std.proofs.Common.{◌≡◌, ℕ, zero, suc, ◌*◌, ◌^◌, ◌<◌, List, [], ◌∷◌, length, slice_index}
+use Rattle.std.proofs.Common.{refl, sym, subst, ◌∙◌, arith, pos}
 use Rattle.event_mesh.specs.Turned.{IsTurned}
 use Rattle.faces.specs.Joined.{AreKnown}
 use Rattle.faces.specs.Labels.{AreFaces, greatest}
@@ -36,7 +37,8 @@ module _ (d : Plan) (level : ℕ) (edges : List Edge) (owners : List Owner) (fac
   same_size : length edges ≡ m
   same_size = edges_size d level edges owners facings vs is
 
-  pub known_cells : (cells : List Gap) (mesh : HalfEdges) → cells ≡ closed_gaps vs → size mesh ≡ 2 * length edges → AreKnown (size mesh) cells
+  pub known_cells : (cells : List Gap) (mesh : HalfEdges) → cells ≡ closed_gaps vs
+      → size mesh ≡ 2 * length edges → AreKnown (size mesh) cells
   known_cells cells mesh e s g c h side =
       let w = closed_edges vs g c is.fit (subst (Has g) e h) side in
       let k = run_known m E vs w.0 c is.settled.run.run w.1 w.2 in
@@ -53,7 +55,8 @@ module _ (d : Plan) (level : ℕ) (edges : List Edge) (owners : List Owner) (fac
     pub owner_edges : HasEdges n (steps_from [] vs)
     owner_edges = (E, subst (λ (k : ℕ). Run k E (steps_from [] vs)) (sym counted) is.settled.run.run)
 
-    pub owner_mesh : (mesh : HalfEdges) → ((F : ℕ → Edge) → Run n F (steps_from [] vs) → IsTurned n F (steps_from [] vs) mesh (length (steps_from [] vs)))
+    pub owner_mesh : (mesh : HalfEdges)
+        → ((F : ℕ → Edge) → Run n F (steps_from [] vs) → IsTurned n F (steps_from [] vs) mesh (length (steps_from [] vs)))
         → IsTurned m E (steps_from [] vs) mesh (length (steps_from [] vs))
     unfolding owner_edges
     owner_mesh mesh f = subst (λ (k : ℕ). IsTurned k E (steps_from [] vs) mesh (length (steps_from [] vs))) counted (f E owner_edges.1)
@@ -86,7 +89,9 @@ module _ (d : Plan) (level : ℕ) (edges : List Edge) (owners : List Owner) (fac
         known = known_cells (closed_gaps vs) (with_faces mesh faces) refl (let k = turned_here.count in omega (arith, k, same_size));
       }
 
-      pub has_run_faces : (cells : List Gap) (n : ℕ) → cells ≡ closed_gaps vs → AreFaces mesh cells faces → n ≡ suc (greatest faces) → HasRunFaces d level vs (with_faces mesh faces) n
+      pub has_run_faces : (cells : List Gap) (n : ℕ) → cells ≡ closed_gaps vs
+          → AreFaces mesh cells faces → n ≡ suc (greatest faces)
+          → HasRunFaces d level vs (with_faces mesh faces) n
       has_run_faces cells n e a c =
           let own : AreFaces mesh (closed_gaps vs) faces = subst (λ (gs : List Gap). AreFaces mesh gs faces) e a in
           let known = known_cells (closed_gaps vs) mesh refl (let k = turned_here.count in omega (arith, k, same_size)) in

@@ -1,9 +1,11 @@
 -- The labels of a settled drawing: they are face numbers of its run, and those of a certificate.
-use Rattle.std.proofs.Common.{◌≡◌, ◌⊎◌, inl, inr, ℕ, zero, suc, ◌<◌, ◌≤◌, List, [], ◌∷◌, length, slice_index, refl, sym, ap, subst, ◌∙◌, arith, pos}
+use Rattle.std.proofs.Common.{◌≡◌, ◌⊎◌, inl, inr, ℕ, zero, suc, ◌<◌, ◌≤◌, List, [], ◌∷◌, length}
+use Rattle.std.proofs.Common.{slice_index, refl, sym, ap, subst, ◌∙◌, arith, pos}
 use Rattle.std.proofs.lemmas.List.{length-map}
 use Rattle.half_edges.specs.HalfEdges.{HalfEdges}
 use Rattle.plane.specs.CurveRuns.FacedTubes.{AreCellsPaired, faced}
-use Rattle.plane.specs.CurveRuns.Levels.{AreCertificateNumbers, AreFacesOfTubes, IsSettledDrawing, beside_inner, beside_outer}
+use Rattle.plane.specs.CurveRuns.Levels.{AreCertificateNumbers, AreFacesOfTubes, IsSettledDrawing}
+use Rattle.plane.specs.CurveRuns.Levels.{beside_inner, beside_outer}
 use Rattle.plane.specs.CurveRuns.TubedRuns.{AreTubeLabels, IsOfTube, half_within, owned, tube_label}
 use Rattle.plane.specs.Faces.Classes.{Across, IsFaces, Touches, numbers}
 use Rattle.plane.specs.Faces.Halves.{Half, edge_of, number, twin}
@@ -18,11 +20,16 @@ use Rattle.tubes.specs.TubedEdges.{drawn_bays}
 use Rattle.area_search.specs.declared.settled.case.Spot.{Spot}
 use Rattle.area_search.specs.Settled.CaseNotes.{label_by}
 use Rattle.area_search.specs.Settled.CaseOwners.{HaveOwners}
-use Rattle.area_search.specs.Settled.Cases.{ArePlacedOff, HasRunFaces, spot_at, spot_face, spot_faces}
+use Rattle.area_search.specs.Settled.Cases.{ArePlacedOff, HasRunFaces, spot_at, spot_face}
+use Rattle.area_search.specs.Settled.Cases.{spot_faces}
 use Rattle.area_search.proofs.SettledLemmas.ListPlaces.{less_equal_or}
 use Rattle.area_search.proofs.PlaneLaws.{number_below}
 use Rattle.area_search.proofs.SettledLemmas.RunFaces.{face_in}
-use Rattle.area_search.proofs.SettledLemmas.TubedLaws.{across_to, beside_fits, cells_paired, edge_twin, edge_within, faced_is, faced_twin, faced_within, faces_to, labels_to, run_faces, run_labels, run_weight, swept_whole, touches_to}
+use Rattle.area_search.proofs.SettledLemmas.TubedLaws.{across_to, beside_fits, cells_paired}
+use Rattle.area_search.proofs.SettledLemmas.TubedLaws.{edge_twin, edge_within, faced_is, faced_twin}
+use Rattle.area_search.proofs.SettledLemmas.TubedLaws.{faced_within, faces_to, labels_to, run_faces}
+use Rattle.area_search.proofs.SettledLemmas.TubedLaws.{run_labels, run_weight, swept_whole}
+use Rattle.area_search.proofs.SettledLemmas.TubedLaws.{touches_to}
 
 -- Half-edges of a settled run with faces, points and their owners, and a label for each half-edge: that of the tube that it faces, or
 -- the owner of its face.
@@ -40,9 +47,12 @@ pub record Labelling : Type 0 where
   pub placed : ArePlacedOff d level vs spots
   pub faces : HasRunFaces d level vs mesh count
   pub own : HaveOwners d level mesh.face spots count owners
-  pub name_is : (h : Half) → edge_of h < length (edges_at d level) → name h ≡ label_by (length d.points) (faced d (drawn_bays d level) (edge_at d level) h) (slice_index owners (face_in mesh.face h))
+  pub name_is : (h : Half) → edge_of h < length (edges_at d level)
+      → name h ≡ label_by (length d.points) (faced d (drawn_bays d level) (edge_at d level) h) (slice_index owners (face_in mesh.face h))
 
-pub nth_face : (d : Plan) (level : ℕ) (faces : List ℕ) (spots : List Spot) (j : ℕ) → j < length spots → slice_index (spot_faces d level faces spots) j ≡ spot_face d level faces (spot_at spots j)
+pub nth_face : (d : Plan) (level : ℕ) (faces : List ℕ) (spots : List Spot) (j : ℕ)
+    → j < length spots
+    → slice_index (spot_faces d level faces spots) j ≡ spot_face d level faces (spot_at spots j)
 nth_face d level faces [] j l = absurd (omega (arith, l))
 nth_face d level faces (s ∷ spots) zero l = refl
 nth_face d level faces (s ∷ spots) (suc j) l = nth_face d level faces spots j (omega (arith, l))
@@ -106,7 +116,8 @@ module _ (s : Labelling) where
   fs_size = length-map spots (spot_face d level mesh.face) ∙ points
 
   -- ---- owners
-  pub own_name : (j : ℕ) → j < length d.points → slice_index fs j < length s.owners → slice_index s.owners (slice_index fs j) ≡ suc j
+  pub own_name : (j : ℕ) → j < length d.points → slice_index fs j < length s.owners
+      → slice_index s.owners (slice_index fs j) ≡ suc j
   own_name j l k = elim (s.own.owners_are (slice_index fs j) k) [
     | inl z ↦ absurd (z.1 j (omega (arith, l, points)) refl)
     | inr (i, e, first) ↦ less_equal_or i j (slice_index s.owners (slice_index fs j) ≡ suc j)
@@ -145,7 +156,8 @@ module _ (s : Labelling) where
       by_value zero q = q
       by_value (suc v) q = absurd (s.own.owned h (record { there = l; clear = c }) (record { inner = λ z. absurd (omega (arith, q, z)); none = e }))
 
-  same_face : (g h : Half) → edge_of g < m → edge_of h < m → faced d bays E g ≡ 0 → faced d bays E h ≡ 0 → owner g ≡ owner h → F g ≡ F h
+  same_face : (g h : Half) → edge_of g < m → edge_of h < m → faced d bays E g ≡ 0
+      → faced d bays E h ≡ 0 → owner g ≡ owner h → F g ≡ F h
   same_face g h k l c b e = elim (s.own.owners_are (F g) (known g k)) [
     | inl z ↦ free_zero g k c z.0 ∙ sym (free_zero h l b (sym e ∙ z.0))
     | inr (i, p, first) ↦ elim (s.own.owners_are (F h) (known h l)) [
@@ -169,7 +181,8 @@ module _ (s : Labelling) where
   pub clear_least : (h : Half) → edge_of h < m → faced d bays E h ≡ 0 → name h ≤ length d.points
   clear_least h l c = let a = owner_least h l in let b = clear_name h l c in omega (arith, a, b)
 
-  pub tube_name : (h : Half) (i : ℕ) → edge_of h < m → faced d bays E h ≡ suc i → name h ≡ tube_label d i
+  pub tube_name : (h : Half) (i : ℕ) → edge_of h < m → faced d bays E h ≡ suc i
+      → name h ≡ tube_label d i
   tube_name h i l c = s.name_is h l ∙ ap (λ (t : ℕ). label_by (length d.points) t (owner h)) c
 
   one_face : (g h : Half) → edge_of g < m → edge_of h < m → name g ≡ name h → F g ≡ F h
@@ -231,7 +244,8 @@ module _ (s : Labelling) where
     rest = λ h l. by_tag h l (faced d bays E h) refl;
   }
     where
-      by_tag : (h : Half) → edge_of h < m → (a : ℕ) → faced d bays E h ≡ a → (name h ≤ length d.points) ⊎ ((e : ℕ) × (e < m) × IsOfTube (owned d bays e).part × (name h ≡ name (within e)))
+      by_tag : (h : Half) → edge_of h < m → (a : ℕ) → faced d bays E h ≡ a
+          → (name h ≤ length d.points) ⊎ ((e : ℕ) × (e < m) × IsOfTube (owned d bays e).part × (name h ≡ name (within e)))
       by_tag h l zero p = inl (let a = owner_least h l in let b = clear_name h l p in omega (arith, a, b))
       by_tag h l (suc i) p = (let q = faced_is d bays E h i p in inr (edge_of h, l, q.part, ap name q.is))
 

@@ -1,5 +1,7 @@
 -- The places of a settled drawing's points: cells and tubes with the labels of their numbers.
-use Rattle.std.proofs.Common.{◌≡◌, ◌⊎◌, inl, inr, ℕ, zero, suc, ◌+◌, ◌<◌, ◌≤◌, true, false, pos, ◌<ℤ◌, Option, Some, None, List, [], ◌∷◌, length, map, take, slice_index, refl, sym, ap, subst, ◌∙◌, arith}
+use Rattle.std.proofs.Common.{◌≡◌, ◌⊎◌, inl, inr, ℕ, zero, suc, ◌+◌, ◌<◌, ◌≤◌, true, false, pos}
+use Rattle.std.proofs.Common.{◌<ℤ◌, Option, Some, None, List, [], ◌∷◌, length, map, take}
+use Rattle.std.proofs.Common.{slice_index, refl, sym, ap, subst, ◌∙◌, arith}
 use Rattle.certificate.specs.declared.notes.PointPlace.{PointPlace}
 use Rattle.plane.specs.CurveRuns.CertifiedCurves.{ArePlaced, IsInCell, IsInTube}
 use Rattle.plane.specs.CurveRuns.FacedTubes.{LiesInTube, faced}
@@ -20,14 +22,21 @@ use Rattle.tubes.specs.Settled.{edges_at}
 use Rattle.area_search.specs.declared.settled.case.Spot.{Spot}
 use Rattle.area_search.specs.declared.settled.case.Spot.TheVariants as spot
 use Rattle.area_search.specs.Settled.CaseNotes.{spot_place}
-use Rattle.area_search.specs.Settled.Cases.{IsClearOver, IsOffCurves, IsSpot, face_over, spot_at, spot_face}
-use Rattle.area_search.proofs.SettledLemmas.CaseNames.{E, F, Labelling, bays, beside_name, clear_name, d, fs, fs_size, inside, known, level, m, mesh, name, named_faces, nth_face, outside, own_name, owner, points, r, spots, steps, twin_fits, vs, within}
+use Rattle.area_search.specs.Settled.Cases.{IsClearOver, IsOffCurves, IsSpot, face_over, spot_at}
+use Rattle.area_search.specs.Settled.Cases.{spot_face}
+use Rattle.area_search.proofs.SettledLemmas.CaseNames.{E, F, Labelling, bays, beside_name}
+use Rattle.area_search.proofs.SettledLemmas.CaseNames.{clear_name, d, fs, fs_size, inside, known}
+use Rattle.area_search.proofs.SettledLemmas.CaseNames.{level, m, mesh, name, named_faces, nth_face}
+use Rattle.area_search.proofs.SettledLemmas.CaseNames.{outside, own_name, owner, points, r, spots}
+use Rattle.area_search.proofs.SettledLemmas.CaseNames.{steps, twin_fits, vs, within}
 use Rattle.area_search.proofs.SettledLemmas.CertifiedMoves.{CellAt, TubeAt, place_in}
-use Rattle.area_search.proofs.SettledLemmas.ListPlaces.{at_has, at_is, before_has, before_is, less_equal_or, some_edge}
+use Rattle.area_search.proofs.SettledLemmas.ListPlaces.{at_has, at_is, before_has, before_is}
+use Rattle.area_search.proofs.SettledLemmas.ListPlaces.{less_equal_or, some_edge}
 use Rattle.area_search.proofs.PlaneLaws.{list_is, run_known}
 use Rattle.area_search.proofs.SettledLemmas.TubedLaws.{below_m}
 
-pub nth_place : (spots : List Spot) (j : ℕ) → j < length spots → place_in (map spot_place spots) j ≡ spot_place (spot_at spots j)
+pub nth_place : (spots : List Spot) (j : ℕ) → j < length spots
+    → place_in (map spot_place spots) j ≡ spot_place (spot_at spots j)
 nth_place [] j h = absurd (omega (arith, h))
 nth_place (p ∷ spots) zero h = refl
 nth_place (p ∷ spots) (suc j) h = nth_place spots j (omega (arith, h))
@@ -53,7 +62,8 @@ module _ (s : Labelling) where
     inner_face e = s.own.outside j (let a = fs_size s in omega (arith, l, a)) e
 
     -- a half-edge that has the face of the point and faces no tube has the label of the point
-    pub own_label : (h : Half) → edge_of h < m s → slice_index (fs s) j ≡ F s h → name s h ≡ owner s h → name s h ≡ suc j
+    pub own_label : (h : Half) → edge_of h < m s → slice_index (fs s) j ≡ F s h
+        → name s h ≡ owner s h → name s h ≡ suc j
     own_label h k e c = (let b = known s h k in c ∙ ap (slice_index s.owners) (sym e) ∙ own_name s j l (omega (arith, e, b)))
 
     -- ---- in a cell
@@ -130,15 +140,18 @@ module _ (s : Labelling) where
       in_cell = record { strip = cell.events; index = i; placed = is_placed; lower_label = low_name; upper_label = up_name }
 
     -- ---- in a tube
-    first_fits : (c : ℕ) → LiesInTube (d s) (bays s) c v → (k : ℕ) → k ≤ length (bays s c) → (first_edge (bays s) 0 (d s).curves c + k) < m s
+    first_fits : (c : ℕ) → LiesInTube (d s) (bays s) c v → (k : ℕ) → k ≤ length (bays s c)
+        → (first_edge (bays s) 0 (d s).curves c + k) < m s
     first_fits c h k b = below_m (d s) (bays s) (m s) (E s) (steps s) s.settled.run c h.there h.bent (first_edge (bays s) 0 (d s).curves c + k) (omega arith, omega (arith, b))
 
-    pub inner_label : (c : ℕ) → LiesInTube (d s) (bays s) c v → spot_at (spots s) j ≡ spot.InTube c true → inside s c ≡ suc j
+    pub inner_label : (c : ℕ) → LiesInTube (d s) (bays s) c v
+        → spot_at (spots s) j ≡ spot.InTube c true → inside s c ≡ suc j
     inner_label c h is =
         let k : first_edge (bays s) 0 (d s).curves c < m s = (let b = first_fits c h 0 (omega arith) in omega (arith, b)) in
         own_label (twin (within s (first_edge (bays s) 0 (d s).curves c))) (twin_fits s (first_edge (bays s) 0 (d s).curves c) k) (face_is (spot.InTube c true) is) (beside_name s (first_edge (bays s) 0 (d s).curves c) k)
 
-    pub outer_label : (c : ℕ) → LiesInTube (d s) (bays s) c v → spot_at (spots s) j ≡ spot.InTube c false → outside s c ≡ suc j
+    pub outer_label : (c : ℕ) → LiesInTube (d s) (bays s) c v
+        → spot_at (spots s) j ≡ spot.InTube c false → outside s c ≡ suc j
     outer_label c h is =
         let k = first_fits c h (length (bays s c)) (omega arith) in
         own_label (twin (within s (first_edge (bays s) 0 (d s).curves c + length (bays s c)))) (twin_fits s (first_edge (bays s) 0 (d s).curves c + length (bays s c)) k) (face_is (spot.InTube c false) is)
@@ -159,11 +172,14 @@ module _ (s : Labelling) where
       unfolding in_cell in_inner in_outer
       told = by_spot (spot_at (spots s) j) refl own_spot own_off
         where
-          by_spot : (x : Spot) → spot_at (spots s) j ≡ x → IsSpot (d s) (level s) (vs s) v x → IsOffCurves x → CellAt (d s) (r s) (numbers (name s)) places j ⊎ TubeAt (d s) (level s) (inside s) (outside s) places j
+          by_spot : (x : Spot) → spot_at (spots s) j ≡ x → IsSpot (d s) (level s) (vs s) v x
+              → IsOffCurves x
+              → CellAt (d s) (r s) (numbers (name s)) places j ⊎ TubeAt (d s) (level s) (inside s) (outside s) places j
           by_spot (spot.On c) e h o = absurd o
           by_spot (spot.Cell i lo up) e h o = inl (record { cell = in_cell i lo up e h.0 h.1; names_place = place_is (spot.Cell i lo up) e })
           by_spot (spot.InTube c true) e h o = inr (record { tube = in_inner c h.0 h.1 e; is_inside = true; side = h.1; names_place = place_is (spot.InTube c true) e })
           by_spot (spot.InTube c false) e h o = inr (record { tube = in_outer c h.0 h.1 e; is_inside = false; side = h.1; names_place = place_is (spot.InTube c false) e })
 
-  pub placed : (places : List PointPlace) → places ≡ map spot_place (spots s) → ArePlaced (d s) (bays s) (r s) (numbers (name s)) (inside s) (outside s)
+  pub placed : (places : List PointPlace) → places ≡ map spot_place (spots s)
+      → ArePlaced (d s) (bays s) (r s) (numbers (name s)) (inside s) (outside s)
   placed places written j l = elim (told j l places written) [ inl c ↦ inl c.cell | inr t ↦ inr t.tube ]

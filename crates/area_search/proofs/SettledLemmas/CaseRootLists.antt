@@ -1,5 +1,7 @@
 -- The half-edges that are listed are the roots of a settled drawing, and each half-edge leads to one.
-use Rattle.std.proofs.Common.{◌≡◌, ◌⊎◌, inl, inr, ℕ, zero, suc, ◌<◌, Bool, true, false, Option, Some, List, [], ◌∷◌, ◌++◌, length, map, slice_index_or, refl, sym, ap, subst, ◌∙◌, arith, pos}
+use Rattle.std.proofs.Common.{◌≡◌, ◌⊎◌, inl, inr, ℕ, zero, suc, ◌<◌, Bool, true, false, Option}
+use Rattle.std.proofs.Common.{Some, List, [], ◌∷◌, ◌++◌, length, map, slice_index_or, refl, sym, ap}
+use Rattle.std.proofs.Common.{subst, ◌∙◌, arith, pos}
 use Rattle.std.specs.List.{flat_map}
 use Rattle.certificate.specs.declared.notes.PointPlace.{PointPlace}
 use Rattle.certificate.specs.declared.notes.PointPlace.TheVariants as point_place
@@ -14,7 +16,8 @@ use Rattle.plane.specs.CurveRuns.FacedTubes.{LiesInTube, faced}
 use Rattle.plane.specs.CurveRuns.TubedRuns as runs
 use Rattle.plane.specs.Faces.Cells.{position}
 use Rattle.plane.specs.Faces.Classes.{Connected, Touches, numbers}
-use Rattle.plane.specs.Faces.Halves.{Beside, Half, edge_of, half_of, mark, number, over, twin, under}
+use Rattle.plane.specs.Faces.Halves.{Beside, Half, edge_of, half_of, mark, number, over, twin}
+use Rattle.plane.specs.Faces.Halves.{under}
 use Rattle.plane.specs.Lists.{Has}
 use Rattle.plane.specs.Rule.Plans.{object}
 use Rattle.plane.specs.Runs.Gaps.{Gap, closed_gaps, edge_at}
@@ -27,27 +30,41 @@ use Rattle.area_search.specs.declared.settled.case.Spot.{Spot}
 use Rattle.area_search.specs.declared.settled.case.Spot.TheVariants as spot
 use Rattle.area_search.specs.declared.settled.case_roots.Chains.{Chains}
 use Rattle.area_search.specs.Settled.CaseNotes.{spot_place}
-use Rattle.area_search.specs.Settled.CaseRoots.{AreChains, case_roots, is_marked, spot_roots, tube_roots, tube_sides}
-use Rattle.area_search.specs.Settled.Cases.{IsClearOver, IsOffCurves, IsRunMesh, IsSpot, no_spot, spot_at}
+use Rattle.area_search.specs.Settled.CaseRoots.{AreChains, case_roots, is_marked, spot_roots}
+use Rattle.area_search.specs.Settled.CaseRoots.{tube_roots, tube_sides}
+use Rattle.area_search.specs.Settled.Cases.{IsClearOver, IsOffCurves, IsRunMesh, IsSpot, no_spot}
+use Rattle.area_search.specs.Settled.Cases.{spot_at}
 use Rattle.area_search.specs.Settled.Writing.{over_some, under_some}
-use Rattle.area_search.proofs.SettledLemmas.CaseNames.{E, Labelling, bays, clear_least, d, inside, labels_are, level, m, mesh, name, named_faces, outside, points, r, spots, steps, touches_fits, twin_fits, vs, within}
-use Rattle.area_search.proofs.SettledLemmas.CasePlaces.{at_up, before_low, in_cell, in_inner, in_outer, inner_label, is_placed, low_fits, low_name, lower_some, now, outer_label, place_is, up_fits, up_name, upper_some}
+use Rattle.area_search.proofs.SettledLemmas.CaseNames.{E, Labelling, bays, clear_least, d, inside}
+use Rattle.area_search.proofs.SettledLemmas.CaseNames.{labels_are, level, m, mesh, name}
+use Rattle.area_search.proofs.SettledLemmas.CaseNames.{named_faces, outside, points, r, spots}
+use Rattle.area_search.proofs.SettledLemmas.CaseNames.{steps, touches_fits, twin_fits, vs, within}
+use Rattle.area_search.proofs.SettledLemmas.CasePlaces.{at_up, before_low, in_cell, in_inner}
+use Rattle.area_search.proofs.SettledLemmas.CasePlaces.{in_outer, inner_label, is_placed, low_fits}
+use Rattle.area_search.proofs.SettledLemmas.CasePlaces.{low_name, lower_some, now, outer_label}
+use Rattle.area_search.proofs.SettledLemmas.CasePlaces.{place_is, up_fits, up_name, upper_some}
 use Rattle.area_search.proofs.SettledLemmas.CertifiedMoves.{RootAt}
-use Rattle.area_search.proofs.PlaneLaws.{has_append, has_at, has_back, has_front, half_number, number_half, number_one}
+use Rattle.area_search.proofs.PlaneLaws.{has_append, has_at, has_back, has_front, half_number}
+use Rattle.area_search.proofs.PlaneLaws.{number_half, number_one}
 use Rattle.faces.proofs.FlatLists.{flat_has, has_flat}
-use Rattle.area_search.proofs.SettledLemmas.RunFaces.{from_touches, joined, number_within, to_touches, within as half_within_mesh}
-use Rattle.area_search.proofs.SettledLemmas.TubedLaws.{edge_twin, edge_within, number_is, owner_is as owned_is, some_inner, some_outer}
-use Rattle.area_search.proofs.SettledLemmas.TubeSides.{has_to, listed_side, roots_are, tag_is, tag_listed, to_has, twin_listed}
+use Rattle.area_search.proofs.SettledLemmas.RunFaces.{from_touches, joined, number_within}
+use Rattle.area_search.proofs.SettledLemmas.RunFaces.{to_touches, within as half_within_mesh}
+use Rattle.area_search.proofs.SettledLemmas.TubedLaws.{edge_twin, edge_within, number_is}
+use Rattle.area_search.proofs.SettledLemmas.TubedLaws.{owner_is as owned_is, some_inner, some_outer}
+use Rattle.area_search.proofs.SettledLemmas.TubeSides.{has_to, listed_side, roots_are, tag_is}
+use Rattle.area_search.proofs.SettledLemmas.TubeSides.{tag_listed, to_has, twin_listed}
 
 -- ---- from a half-edge to one that is joined with it, or to one at the border
 abbrev pub Reaches : HalfEdges → List Gap → ℕ → ℕ → Type 0
 Reaches mesh cells g t = Leads mesh cells g t ⊎ ((b : ℕ) × AtBorder cells b × Leads mesh cells g b)
 
-further : (M : HalfEdges) (cs : List Gap) (g h t : ℕ) → ((b : ℕ) → Leads M cs h b → Leads M cs g b) → Reaches M cs h t → Reaches M cs g t
+further : (M : HalfEdges) (cs : List Gap) (g h t : ℕ) → ((b : ℕ) → Leads M cs h b → Leads M cs g b)
+    → Reaches M cs h t → Reaches M cs g t
 further M cs g h t f (inl l) = inl (f t l)
 further M cs g h t f (inr (b, at, l)) = inr (b, at, f b l)
 
-pub walk : (M : HalfEdges) (cs : List Gap) → IsMesh M → (g t : ℕ) → Joined M cs g t → Reaches M cs g t
+pub walk : (M : HalfEdges) (cs : List Gap) → IsMesh M → (g t : ℕ) → Joined M cs g t
+    → Reaches M cs g t
 walk M cs ok g t (same _ _ e) = inl (there g t e)
 walk M cs ok g t (onward _ h _ l e j) = further M cs g h t (λ b k. step g h b (inl e) k) (walk M cs ok h t j)
 walk M cs ok g t (back _ h _ l e j) = further M cs g h t (λ b k. step g h b (inr (inl (ap (prev_of M) (sym e) ∙ ok.prev_next h l))) k) (walk M cs ok h t j)
@@ -92,7 +109,8 @@ module _ (s : Labelling) (g : Rooting s) where
   count : length g.facings ≡ m s
   count = g.facings_are.count
 
-  pub curve_known : (c : ℕ) → c < length (d s).curves → (c < length g.chains.inner.items) × (c < length g.chains.outer.items)
+  pub curve_known : (c : ℕ) → c < length (d s).curves
+      → (c < length g.chains.inner.items) × (c < length g.chains.outer.items)
   curve_known c l = (let a = g.chains_are.inner_size in omega (arith, a, l), let a = g.chains_are.outer_size in omega (arith, a, l))
 
   -- the curve of an edge of a tube
@@ -109,13 +127,17 @@ module _ (s : Labelling) (g : Rooting s) where
   pub border_listed : (x : ℕ) → AtBorder cells x → Has x roots
   border_listed x h = has_back x _ _ (has_front x g.border (flat_map spot_roots (spots s)) ((g.border_is x).1 h))
 
-  pub spot_listed : (x j : ℕ) → j < length (spots s) → Has x (spot_roots (spot_at (spots s) j)) → Has x roots
+  pub spot_listed : (x j : ℕ) → j < length (spots s) → Has x (spot_roots (spot_at (spots s) j))
+      → Has x roots
   spot_listed x j l h = has_back x _ _ (has_back x g.border (flat_map spot_roots (spots s)) (has_flat spot_roots (spots s) (spot_at (spots s) j) x (has_at (spots s) j no_spot l) h))
 
-  pub tube_listed : (h : Half) (i : ℕ) → edge_of h < m s → faced (d s) (bays s) (E s) h ≡ suc i → Has (number h) roots
+  pub tube_listed : (h : Half) (i : ℕ) → edge_of h < m s → faced (d s) (bays s) (E s) h ≡ suc i
+      → Has (number h) roots
   tube_listed h i l e = edge_listed (edge_of h) (number h) l (tag_listed _ _ i h _ (tag_is (d s) (level s) g.facings g.facings_are g.edge_owners g.owners_are h l ∙ e))
 
-  pub chain_listed : (e : ℕ) → e < m s → runs.IsOfTube (own e).part → is_marked g.chains (own e).curve (part_of (own e).part) ≡ true → Has (number (twin (within s e))) roots
+  pub chain_listed : (e : ℕ) → e < m s → runs.IsOfTube (own e).part
+      → is_marked g.chains (own e).curve (part_of (own e).part) ≡ true
+      → Has (number (twin (within s e))) roots
   chain_listed e l o marked =
       edge_listed e (number (twin (within s e))) l
       (subst (Has (number (twin (within s e)))) (sym (roots_are (d s) (level s) g.facings g.facings_are g.edge_owners g.owners_are g.chains e l))
@@ -130,7 +152,9 @@ module _ (s : Labelling) (g : Rooting s) where
     spot_there : j < length (spots s)
     spot_there = let e = points s in omega (arith, l, e)
 
-    in_cell_named : (i : ℕ) (lo up : Option ℕ) → spot_at (spots s) j ≡ spot.Cell i lo up → IsCell (edges_at (d s) (level s)) (vs s) (object (d s) j) i lo up → IsClearOver (d s) (level s) lo → Named
+    in_cell_named : (i : ℕ) (lo up : Option ℕ) → spot_at (spots s) j ≡ spot.Cell i lo up
+        → IsCell (edges_at (d s) (level s)) (vs s) (object (d s) j) i lo up
+        → IsClearOver (d s) (level s) lo → Named
     in_cell_named i lo up is cell clear =
         let low = lower_some s j l i lo up is cell clear in (
           over low.0,
@@ -140,7 +164,8 @@ module _ (s : Labelling) (g : Rooting s) where
               (subst (λ (x : Spot). Has (number (over low.0)) (spot_roots x)) (sym is) (has_front (number (over low.0)) (over_some lo) (under_some up) (subst (λ (o : Option ℕ). Has (number (over low.0)) (over_some o)) (sym low.1) (inl (omega arith))))),
         )
 
-    in_inner_named : (c : ℕ) → LiesInTube (d s) (bays s) c (object (d s) j) → spot_at (spots s) j ≡ spot.InTube c true → Named
+    in_inner_named : (c : ℕ) → LiesInTube (d s) (bays s) c (object (d s) j)
+        → spot_at (spots s) j ≡ spot.InTube c true → Named
     in_inner_named c h is =
         let x = some_inner (d s) (bays s) (m s) (E s) (steps s) s.settled.run c h.there h.bent in
         let k = (curve_known c h.there).0 in
@@ -152,7 +177,8 @@ module _ (s : Labelling) (g : Rooting s) where
           chain_listed x.0 x.1 o (ap (λ (p : runs.Part). is_marked g.chains (own x.0).curve (part_of p)) x.3 ∙ ap (λ (y : ℕ). slice_index_or g.chains.inner.items y false) x.2 ∙ marked),
         )
 
-    in_outer_named : (c : ℕ) → LiesInTube (d s) (bays s) c (object (d s) j) → spot_at (spots s) j ≡ spot.InTube c false → Named
+    in_outer_named : (c : ℕ) → LiesInTube (d s) (bays s) c (object (d s) j)
+        → spot_at (spots s) j ≡ spot.InTube c false → Named
     in_outer_named c h is =
         let x = some_outer (d s) (bays s) (m s) (E s) (steps s) s.settled.run c h.there h.bent in
         let k = (curve_known c h.there).1 in
@@ -168,7 +194,8 @@ module _ (s : Labelling) (g : Rooting s) where
     named : Named
     named = by_spot (spot_at (spots s) j) refl (s.placed.spots_are.each j l) (s.placed.off j spot_there)
       where
-        by_spot : (x : Spot) → spot_at (spots s) j ≡ x → IsSpot (d s) (level s) (vs s) (object (d s) j) x → IsOffCurves x → Named
+        by_spot : (x : Spot) → spot_at (spots s) j ≡ x
+            → IsSpot (d s) (level s) (vs s) (object (d s) j) x → IsOffCurves x → Named
         by_spot (spot.On c) e h o = absurd o
         by_spot (spot.Cell i lo up) e h o = in_cell_named i lo up e h.0 h.1
         by_spot (spot.InTube c true) e h o = in_inner_named c h.0 e
@@ -177,7 +204,8 @@ module _ (s : Labelling) (g : Rooting s) where
   abbrev Rooted : ℕ → Type 0
   Rooted x = (t : ℕ) × Has t roots × Leads (mesh s) cells x t
 
-  reached : (h t : Half) → edge_of h < m s → Connected (r s) h t → Has (number t) roots → Rooted (number h)
+  reached : (h t : Half) → edge_of h < m s → Connected (r s) h t → Has (number t) roots
+      → Rooted (number h)
   reached h t l c k = elim (walk (mesh s) cells g.mesh_is.mesh_is (number h) (number t) (joined (pos 0) (m s) (E s) (vs s) (mesh s) s.settled.run.run s.fit turned g.mesh_is.known h t l c)) [
     | inl w ↦ (number t, k, w)
     | inr (b, at, w) ↦ (b, border_listed b at, w)
@@ -226,14 +254,17 @@ module _ (s : Labelling) (g : Rooting s) where
     same_edge : (h : Half) → edge_of h ≡ e → (h ≡ within s e) → Root h
     same_edge h q w = (subst (λ (x : ℕ). x < m s) (sym q) l, inl (record { of_tube = subst (λ (x : ℕ). runs.IsOfTube (own x).part) (sym q) o; is = w ∙ ap (within s) (sym q) }), inl (e, l, o, w))
 
-    in_tube : (j : ℕ) → j < length (d s).points → (x : Spot) → spot_at (spots s) j ≡ x → IsSpot (d s) (level s) (vs s) (object (d s) j) x
+    in_tube : (j : ℕ) → j < length (d s).points → (x : Spot) → spot_at (spots s) j ≡ x
+        → IsSpot (d s) (level s) (vs s) (object (d s) j) x
     in_tube j n x is = subst (IsSpot (d s) (level s) (vs s) (object (d s) j)) is (s.placed.spots_are.each j n)
 
-    beside_root : (h : Half) → edge_of h ≡ e → h ≡ twin (within s e) → is_marked g.chains (own e).curve (part_of (own e).part) ≡ true → Root h
+    beside_root : (h : Half) → edge_of h ≡ e → h ≡ twin (within s e)
+        → is_marked g.chains (own e).curve (part_of (own e).part) ≡ true → Root h
     unfolding in_inner in_outer
     beside_root h q w marked = by_part (own e).part refl o marked
       where
-        by_part : (p : runs.Part) → (own e).part ≡ p → runs.IsOfTube p → is_marked g.chains (own e).curve (part_of p) ≡ true → Root h
+        by_part : (p : runs.Part) → (own e).part ≡ p → runs.IsOfTube p
+            → is_marked g.chains (own e).curve (part_of p) ≡ true → Root h
         by_part runs.whole is t k = absurd t
         by_part runs.inner is t k =
             let (j, k2, at) = (g.chains_are.inner (own e).curve (curve_known (own e).curve (curve_fits e l)).0).0 k in
@@ -286,7 +317,8 @@ module _ (s : Labelling) (g : Rooting s) where
 
   -- of a point
   module _ (j : ℕ) (l : j < length (d s).points) (i : ℕ) (lo up : Option ℕ) (is : spot_at (spots s) j ≡ spot.Cell i lo up) (cell : IsCell (edges_at (d s) (level s)) (vs s) (object (d s) j) i lo up) (clear : IsClearOver (d s) (level s) lo) where
-    told : (h : Half) → edge_of h < m s → name s h ≡ suc j → Beside (r s) h (position cell.events i) → Root h
+    told : (h : Half) → edge_of h < m s → name s h ≡ suc j → Beside (r s) h (position cell.events i)
+        → Root h
     unfolding in_cell
     told h k e b = (
       k,
@@ -327,7 +359,8 @@ module _ (s : Labelling) (g : Rooting s) where
             subst Root (sym (number_one h (under high.0) q)) (told (under high.0) (up_fits s j l i lo up is cell clear) (up_name s j l i lo up is cell clear) (at_up s j l i lo up is cell clear)))
         by_up (inr e) = absurd e
 
-  spot_root : (h : Half) (j : ℕ) → j < length (d s).points → (x : Spot) → spot_at (spots s) j ≡ x → IsSpot (d s) (level s) (vs s) (object (d s) j) x → Has (number h) (spot_roots x) → Root h
+  spot_root : (h : Half) (j : ℕ) → j < length (d s).points → (x : Spot) → spot_at (spots s) j ≡ x
+      → IsSpot (d s) (level s) (vs s) (object (d s) j) x → Has (number h) (spot_roots x) → Root h
   spot_root h j l (spot.On c) is q w = absurd w
   spot_root h j l (spot.InTube c side) is q w = absurd w
   spot_root h j l (spot.Cell i lo up) is q w = cell_sides j l i lo up is q.0 q.1 h w

@@ -1,5 +1,6 @@
 -- On which side of a curve its first face is.
-use Rattle.std.proofs.Common.{◌≡◌, zero, suc, Bool, true, false, ℤ, pos, negsuc, refl, sym, ap, subst, ◌∙◌, arith}
+use Rattle.std.proofs.Common.{◌≡◌, zero, suc, Bool, true, false, ℤ, pos, negsuc, refl, sym, ap}
+use Rattle.std.proofs.Common.{subst, ◌∙◌, arith}
 use Rattle.std.proofs.lemmas.Int.{ints}
 use Rattle.plane.specs.CurveRuns.TubedRuns.{third_is_left}
 use Rattle.plane.specs.Faces.Cells.{is_positive}
@@ -19,7 +20,8 @@ bend_is : (c : Curve) → cross c.from c.to c.third ≡ bend (arc c)
 unfolding bend
 bend_is c = refl
 
-by_sign : (z : ℤ) (t : Turn) (b : Bool) → HasSign t z → (b ≡ true → t ≡ turn.Left) → (b ≡ false → t ≡ turn.Left → ⊥) → b ≡ is_positive z
+by_sign : (z : ℤ) (t : Turn) (b : Bool) → HasSign t z → (b ≡ true → t ≡ turn.Left)
+    → (b ≡ false → t ≡ turn.Left → ⊥) → b ≡ is_positive z
 by_sign (pos zero) turn.Left b h y n = absurd (omega (arith, ints, h))
 by_sign (pos (suc k)) turn.Left true h y n = refl
 by_sign (pos (suc k)) turn.Left false h y n = absurd (n refl refl)
@@ -36,7 +38,9 @@ inward_left : (b : Bool) → is_inward b true ≡ b
 inward_left true = refl
 inward_left false = refl
 
-pub left_first : (c : Curve) (t : Turn) (b : Bool) → c.kind ≡ kind.HalfArc → HasSign t (cross c.from c.to c.third) → (b ≡ true → t ≡ turn.Left) → (b ≡ false → t ≡ turn.Left → ⊥) → b ≡ is_first c true
+pub left_first : (c : Curve) (t : Turn) (b : Bool) → c.kind ≡ kind.HalfArc
+    → HasSign t (cross c.from c.to c.third) → (b ≡ true → t ≡ turn.Left)
+    → (b ≡ false → t ≡ turn.Left → ⊥) → b ≡ is_first c true
 left_first c t b e h y n =
     by_sign (bend (arc c)) t b (subst (HasSign t) (bend_is c) h) y n
     ∙ sym (inward_left (third_is_left c))

@@ -1,5 +1,7 @@
 -- Where the points of a settled drawing lie, by their places among its edges.
-use Rattle.std.proofs.Common.{◌≡◌, ℕ, ◌+◌, ◌<◌, Option, Some, None, List, [], ◌∷◌, ◌++◌, map, length, take, get_or, slice_index_or, refl, sym, ap, subst, ◌∙◌, arith, pos, true, false}
+use Rattle.std.proofs.Common.{◌≡◌, ℕ, ◌+◌, ◌<◌, Option, Some, None, List, [], ◌∷◌, ◌++◌, map}
+use Rattle.std.proofs.Common.{length, take, get_or, slice_index_or, refl, sym, ap, subst, ◌∙◌}
+use Rattle.std.proofs.Common.{arith, pos, true, false}
 use Rattle.std.proofs.lemmas.Int.{ints}
 use Rattle.std.proofs.lemmas.List.{length-map}
 use Rattle.plane.specs.CurveRuns.FacedTubes.{IsFirstOn, LiesInTube, faced}
@@ -19,7 +21,8 @@ use Rattle.arc_predicates.specs.declared.sides.Side.{Side}
 use Rattle.arc_predicates.specs.declared.sides.Side.TheVariants as side
 use Rattle.plane.specs.declared.kinds.Placed.{Placed}
 use Rattle.point_location.specs.declared.places.Place.{Place}
-use Rattle.point_location.specs.Places.{ArePlaces, IsCell, IsLeastOn as IsLeastEdge, IsPlaceOf, no_place}
+use Rattle.point_location.specs.Places.{ArePlaces, IsCell, IsLeastOn as IsLeastEdge, IsPlaceOf}
+use Rattle.point_location.specs.Places.{no_place}
 use Rattle.straight_predicates.specs.EdgeLists.{IsCloseToAll, no_point}
 use Rattle.tubes.specs.Settled.{edge_at, edges_at, owned_at}
 use Rattle.tubes.specs.TubedEdges.{AreUsable, drawn_bays, owner_as}
@@ -34,16 +37,21 @@ use Rattle.area_search.specs.declared.kinds.AreaFinding.TheVariants.{On}
 use Rattle.area_search.specs.Answers.{AreClear, IsAnswer, on}
 use Rattle.area_search.specs.Settled.CaseSides.{IsSpotOf}
 use Rattle.area_search.specs.Settled.CaseRoots.{no_owner, owner_at}
-use Rattle.area_search.specs.Settled.Cases.{AreOffCurves, ArePlacedOff, AreSpots, AreSpotsOf, IsCase, IsClearOver, IsOffCurves, IsSpot, no_spot, spot_at}
+use Rattle.area_search.specs.Settled.Cases.{AreOffCurves, ArePlacedOff, AreSpots, AreSpotsOf}
+use Rattle.area_search.specs.Settled.Cases.{IsCase, IsClearOver, IsOffCurves, IsSpot, no_spot}
+use Rattle.area_search.specs.Settled.Cases.{spot_at}
 use Rattle.area_search.specs.Unsettled.CurvePoints.{IsFirstOnCurve}
 use Rattle.area_search.specs.Faults.{LiesOn}
 use Rattle.area_search.specs.Settled.PointFaces.{IsOver}
 use Rattle.area_search.specs.Settled.Spots.{IsFirstSpotOn, IsTubeOver}
-use Rattle.area_search.proofs.PlaneLaws.{cell_in_tube, cell_off_curves, list_is, on_chain, on_straight, run_known, tube_has_sides}
+use Rattle.area_search.proofs.PlaneLaws.{cell_in_tube, cell_off_curves, list_is, on_chain}
+use Rattle.area_search.proofs.PlaneLaws.{on_straight, run_known, tube_has_sides}
 use Rattle.area_search.proofs.SettledLemmas.ListPlaces.{before_has, before_is, is_before, nth_point}
 use Rattle.area_search.proofs.SettledLemmas.ArcReach.{arc_points_have_sides}
 use Rattle.area_search.proofs.Small.{one_more}
-use Rattle.area_search.proofs.SettledLemmas.CaseEdges.{corners_near, edges_size, get_same, no_bad_pair, nth_owner, tube_circle, tube_part, whole_part}
+use Rattle.area_search.proofs.SettledLemmas.CaseEdges.{corners_near, edges_size, get_same}
+use Rattle.area_search.proofs.SettledLemmas.CaseEdges.{no_bad_pair, nth_owner, tube_circle}
+use Rattle.area_search.proofs.SettledLemmas.CaseEdges.{tube_part, whole_part}
 
 a_place : (p : Point) → IsPlace (point p)
 a_place p = omega (arith, ints)
@@ -62,10 +70,12 @@ module _ (d : Plan) (level : ℕ) (edges : List Edge) (owners : List Owner) (fac
   least_at : (v : Point) (e : ℕ) → IsLeastEdge edges v e → IsLeastEdge (edges_at d level) v e
   least_at v e h = subst (λ (es : List Edge). IsLeastEdge es v e) is.edges_are h
 
-  pub straight_spot : (v : Point) (e : ℕ) → IsLeastEdge edges v e → (owned_at d level e).part ≡ whole → IsFirstOn d (owned_at d level e).curve (point v)
+  pub straight_spot : (v : Point) (e : ℕ) → IsLeastEdge edges v e
+      → (owned_at d level e).part ≡ whole → IsFirstOn d (owned_at d level e).curve (point v)
   straight_spot v e h p = let k = least_at v e h in on_straight d (drawn_bays d level) m E (steps_from [] vs) is.settled.run is.settled.wide is.settled.settled v e k.known k.on k.least p
 
-  pub chain_tube : (v : Point) (e : ℕ) → IsLeastEdge edges v e → IsOfTube (owned_at d level e).part → LiesInTube d (drawn_bays d level) (owned_at d level e).curve v
+  pub chain_tube : (v : Point) (e : ℕ) → IsLeastEdge edges v e → IsOfTube (owned_at d level e).part
+      → LiesInTube d (drawn_bays d level) (owned_at d level e).curve v
   chain_tube v e h p = let k = least_at v e h in on_chain d (drawn_bays d level) m E (steps_from [] vs) is.settled.run is.settled.wide is.settled.settled v e k.known k.on k.least p
 
   module _ (v : Point) (e : ℕ) (h : IsLeastEdge edges v e) (o : Owner) (q : o ≡ owner_at owners e) where
@@ -83,28 +93,35 @@ module _ (d : Plan) (level : ℕ) (edges : List Edge) (owners : List Owner) (fac
         (chain_tube v e h (tube_part (owned_at d level e).part (λ p. n (ap (λ (x : Owner). x.part) owner_here ∙ p))))
 
   -- ---- in a cell
-  pub cell_here : (v : Point) (i : ℕ) (l u : Option ℕ) → IsCell edges vs v i l u → IsCell (edges_at d level) vs v i l u
+  pub cell_here : (v : Point) (i : ℕ) (l u : Option ℕ) → IsCell edges vs v i l u
+      → IsCell (edges_at d level) vs v i l u
   cell_here v i l u c = subst (λ (es : List Edge). IsCell es vs v i l u) is.edges_are c
 
-  pub before_cell : (v : Point) (i e : ℕ) (l u : Option ℕ) (c : IsCell (edges_at d level) vs v i l u) → l ≡ Some e → AtBefore (r.list c.events) i e
+  pub before_cell : (v : Point) (i e : ℕ) (l u : Option ℕ) (c : IsCell (edges_at d level) vs v i l u)
+      → l ≡ Some e → AtBefore (r.list c.events) i e
   before_cell v i e l u c q = subst (λ (es : List ℕ). AtBefore es i e) (sym (list_is [] vs c.events c.known)) (before_is (live_from [] (take c.events vs)) i e (sym c.lower_is ∙ q))
 
-  pub lower_at : (v : Point) (i e : ℕ) (l u : Option ℕ) (c : IsCell (edges_at d level) vs v i l u) → AtBefore (r.list c.events) i e → l ≡ Some e
+  pub lower_at : (v : Point) (i e : ℕ) (l u : Option ℕ) (c : IsCell (edges_at d level) vs v i l u)
+      → AtBefore (r.list c.events) i e → l ≡ Some e
   lower_at v i e l u c b = c.lower_is ∙ is_before (live_from [] (take c.events vs)) i e (subst (λ (es : List ℕ). AtBefore es i e) (list_is [] vs c.events c.known) b)
 
-  pub cell_tube : (v : Point) (i c : ℕ) (l u : Option ℕ) → IsCell edges vs v i l u → IsTubeOver d level l (Some c) → LiesInTube d (drawn_bays d level) c v
+  pub cell_tube : (v : Point) (i c : ℕ) (l u : Option ℕ) → IsCell edges vs v i l u
+      → IsTubeOver d level l (Some c) → LiesInTube d (drawn_bays d level) c v
   cell_tube v i c l u h (e, q, f) =
       let k = cell_here v i l u h in
       cell_in_tube d (drawn_bays d level) m E (steps_from [] vs) is.settled.run is.settled.wide is.settled.settled v (pos 0) k.events i (k.located (pos 0)) e c (before_cell v i e l u k q) f
 
-  pub cell_in : (v : Point) (i : ℕ) (l u : Option ℕ) → IsCell (edges_at d level) vs v i l u → IsOver m l
+  pub cell_in : (v : Point) (i : ℕ) (l u : Option ℕ) → IsCell (edges_at d level) vs v i l u
+      → IsOver m l
   cell_in v i None u c = tt
   cell_in v i (Some e) u c = run_known m E vs c.events e is.settled.run.run c.known (before_has (live_from [] (take c.events vs)) i e (sym c.lower_is))
 
-  pub cell_over : (v : Point) (i : ℕ) (l u : Option ℕ) → IsCell edges vs v i l u → IsOver (length edges) l
+  pub cell_over : (v : Point) (i : ℕ) (l u : Option ℕ) → IsCell edges vs v i l u
+      → IsOver (length edges) l
   cell_over v i l u h = subst (λ (k : ℕ). IsOver k l) (sym (edges_size d level edges owners facings vs is)) (cell_in v i l u (cell_here v i l u h))
 
-  pub clear_is : (l : Option ℕ) (e : ℕ) → IsClearOver d level l → l ≡ Some e → faced d (drawn_bays d level) E (over e) ≡ 0
+  pub clear_is : (l : Option ℕ) (e : ℕ) → IsClearOver d level l → l ≡ Some e
+      → faced d (drawn_bays d level) E (over e) ≡ 0
   clear_is l e h q = subst (IsClearOver d level) q h
 
   -- ---- off the curves
@@ -118,19 +135,22 @@ module _ (d : Plan) (level : ℕ) (edges : List Edge) (owners : List Owner) (fac
       (λ e b. clear_is l e h.1 (lower_at v i e l u k b))
 
   -- ---- sides
-  pub tube_side : (v : Point) (c : ℕ) → LiesInTube d (drawn_bays d level) c v → HasSide (arc (curve d c)) (point v)
+  pub tube_side : (v : Point) (c : ℕ) → LiesInTube d (drawn_bays d level) c v
+      → HasSide (arc (curve d c)) (point v)
   tube_side v c h =
       let t = is.tubes c (record { there = h.there; kind = h.bent }) in
       tube_has_sides (arc (curve d c)) (drawn_bays d level c) (point v) (tube_circle d level c t) (corners_near d level c t) (a_place v) h.holds
 
-  pub spot_by_side : (v : Point) (c : ℕ) (s : Side) → LiesInTube d (drawn_bays d level) c v → HasSign s (power (arc (curve d c)) (point v)) → (t : Spot)
+  pub spot_by_side : (v : Point) (c : ℕ) (s : Side) → LiesInTube d (drawn_bays d level) c v
+      → HasSign s (power (arc (curve d c)) (point v)) → (t : Spot)
       → (s ≡ side.Inside → t ≡ spot.InTube c true) → (s ≡ side.On → t ≡ spot.On c) → (s ≡ side.Outside → t ≡ spot.InTube c false) → IsSpot d level vs v t
   spot_by_side v c side.Inside h k t f g j = subst (IsSpot d level vs v) (sym (f refl)) (h, k)
   spot_by_side v c side.On h k t f g j = subst (IsSpot d level vs v) (sym (g refl)) (h.on k)
   spot_by_side v c side.Outside h k t f g j = subst (IsSpot d level vs v) (sym (j refl)) (h, k)
 
   -- a point on a half arc is in its tube
-  pub on_arc_side : (v : Point) (c : ℕ) → IsHalfArc d c → IsOn (curve d c) (point v) → HasSide (arc (curve d c)) (point v)
+  pub on_arc_side : (v : Point) (c : ℕ) → IsHalfArc d c → IsOn (curve d c) (point v)
+      → HasSide (arc (curve d c)) (point v)
   on_arc_side v c h k =
       let t = is.tubes c h in
       arc_points_have_sides (curve d c) (drawn_bays d level c) v h.kind (tube_circle d level c t) (is.settled.run.tube c h.there h.kind) (corners_near d level c t) k
@@ -150,7 +170,8 @@ module _ (d : Plan) (level : ℕ) (edges : List Edge) (owners : List Owner) (fac
           no_curve = λ i o h. s.least i o h.on;
         }
 
-    pub on_answer : (p : OnCurve) → IsFirstSpotOn spots (Some p) → IsAnswer d (Fault (On p.point p.curve))
+    pub on_answer : (p : OnCurve) → IsFirstSpotOn spots (Some p)
+        → IsAnswer d (Fault (On p.point p.curve))
     on_answer p f = on p.point p.curve (no_bad_pair d level edges owners facings vs is) (first_on (Some p) f)
 
     pub clear_spots : AreOffCurves spots (length spots) → AreClear d
@@ -163,7 +184,8 @@ module _ (d : Plan) (level : ℕ) (edges : List Edge) (owners : List Owner) (fac
   abbrev points_at : List Point
   points_at = map (λ (p : Placed). p.at) d.points
 
-  pub points_close : AreUsable d edges → (ps : List Point) (es : List Edge) → ps ≡ points_at → es ≡ edges → (j : ℕ) → j < length ps → IsCloseToAll es (slice_index_or ps j no_point)
+  pub points_close : AreUsable d edges → (ps : List Point) (es : List Edge) → ps ≡ points_at
+      → es ≡ edges → (j : ℕ) → j < length ps → IsCloseToAll es (slice_index_or ps j no_point)
   points_close u ps es e g =
       subst (λ (xs : List Point). (j : ℕ) → j < length xs → IsCloseToAll es (slice_index_or xs j no_point)) (sym e)
       (subst (λ (xs : List Edge). (j : ℕ) → j < length points_at → IsCloseToAll xs (slice_index_or points_at j no_point)) (sym g)
@@ -207,5 +229,6 @@ module _ (d : Plan) (level : ℕ) (edges : List Edge) (owners : List Owner) (fac
   spot_has v (spot.InTube c false) h = record { there = h.0.there; kind = h.0.bent }
   spot_has v (spot.Cell i l u) h = cell_in v i l u h.0
 
-  pub spots_have : (spots : List Spot) → ArePlacedOff d level vs spots → (j : ℕ) → j < length spots → IsSpotOf d level (spot_at spots j)
+  pub spots_have : (spots : List Spot) → ArePlacedOff d level vs spots → (j : ℕ) → j < length spots
+      → IsSpotOf d level (spot_at spots j)
   spots_have spots p j l = spot_has (object d j) (spot_at spots j) (p.spots_are.each j (let a = p.spots_are.size in omega (arith, l, a)))

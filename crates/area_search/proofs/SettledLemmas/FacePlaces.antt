@@ -56,7 +56,9 @@ module _ (d : Plan) (level : ℕ) (edges : List Edge) (owners : List Owner) (fac
       is.settled.settled face f.faces z k
 
   -- ---- the number of a place is 0 or that of a face beside a curve
-  by_owner : (k : ℕ) → Owns d (drawn_bays d level) m E (steps_from [] vs) is.settled.run is.settled.wide is.settled.settled face f.faces k → (k ≡ 0) ⊎ Met k
+  by_owner : (k : ℕ)
+      → Owns d (drawn_bays d level) m E (steps_from [] vs) is.settled.run is.settled.wide is.settled.settled face f.faces k
+      → (k ≡ 0) ⊎ Met k
   by_owner k (outer e) = inl e
   by_owner k (edge h l c e) =
       inr (subst Met (sym e)

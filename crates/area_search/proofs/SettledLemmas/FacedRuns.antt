@@ -1,5 +1,7 @@
 -- The faces of a settled drawing of straights, in the words of runs over its straights.
-use Rattle.std.proofs.Common.{◌≡◌, ℕ, ◌*◌, ◌<◌, ◌≤◌, ℤ, pos, Option, Some, None, List, [], ◌∷◌, length, map, take, slice_index, refl, sym, ap, subst, ◌∙◌, arith, true, false, inl, inr}
+use Rattle.std.proofs.Common.{◌≡◌, ℕ, ◌*◌, ◌<◌, ◌≤◌, ℤ, pos, Option, Some, None, List, [], ◌∷◌}
+use Rattle.std.proofs.Common.{length, map, take, slice_index, refl, sym, ap, subst, ◌∙◌, arith}
+use Rattle.std.proofs.Common.{true, false, inl, inr}
 use Rattle.std.proofs.lemmas.Bool.{cases_eq}
 use Rattle.std.proofs.lemmas.List.{length-map}
 use Rattle.event_mesh.specs.Turned.{IsTurned, points_of}
@@ -27,8 +29,10 @@ use Rattle.tubes.specs.declared.kinds.Owner.{Owner}
 use Rattle.area_search.specs.declared.settled.case.Spot.{Spot}
 use Rattle.area_search.specs.declared.settled.case.Spot.TheVariants as spot
 use Rattle.area_search.specs.Faced.{IsCellSpot, IsPointFace, cell_face, edge}
-use Rattle.area_search.specs.Settled.Cases.{AreSpots, HasRunFaces, IsCase, IsSpot, face_over, spot_at}
-use Rattle.area_search.proofs.PlaneLaws.{faces_to, list_is, located_joined, located_outer, no_half_arc}
+use Rattle.area_search.specs.Settled.Cases.{AreSpots, HasRunFaces, IsCase, IsSpot, face_over}
+use Rattle.area_search.specs.Settled.Cases.{spot_at}
+use Rattle.area_search.proofs.PlaneLaws.{faces_to, list_is, located_joined, located_outer}
+use Rattle.area_search.proofs.PlaneLaws.{no_half_arc}
 use Rattle.area_search.proofs.SettledLemmas.CaseFaces.{nth_spot_face}
 use Rattle.area_search.proofs.SettledLemmas.CaseSpots.{cell_in}
 use Rattle.area_search.proofs.SettledLemmas.ListPlaces.{label_before, over_or}
@@ -36,7 +40,8 @@ use Rattle.area_search.proofs.SettledLemmas.RunFaces.{face_in}
 use Rattle.area_search.proofs.SettledLemmas.SpotFaces.{face_over_is}
 
 -- steps lie where their moves do
-pub points_from : (now : List ℕ) (vs : List Move) → points_of (steps_from now vs) ≡ map (λ (v : Move). v.at) vs
+pub points_from : (now : List ℕ) (vs : List Move)
+    → points_of (steps_from now vs) ≡ map (λ (v : Move). v.at) vs
 points_from now [] = refl
 points_from now (v ∷ vs) = ap (λ (ps : List Point). v.at ∷ ps) (points_from _ vs)
 
@@ -46,16 +51,20 @@ module _ (d : Plan) (level : ℕ) (edges : List Edge) (owners : List Owner) (fac
   steps = steps_from [] vs
 
   -- what is said of the edges at the level holds of the drawing's straights
-  moved : (P : ℕ → List Edge → Type 0) → P (length (edges_at d level)) (edges_at d level) → P (length d.curves) (edges_of d)
+  moved : (P : ℕ → List Edge → Type 0) → P (length (edges_at d level)) (edges_at d level)
+      → P (length d.curves) (edges_of d)
   moved P h = subst (λ (n : ℕ). P n (edges_of d)) count (subst (λ (es : List Edge). P (length es) es) straight_list h)
 
   pub run_of : IsRunOf d (edge d) steps
   run_of = record { edges = law; run = moved (λ n es. Run n (edge_of es) steps) is.settled.run.run }
 
-  pub turned_of : (mesh : HalfEdges) (k : ℕ) → IsTurned (length (edges_at d level)) (edge_at d level) steps mesh k → IsTurned (length d.curves) (edge d) steps mesh k
+  pub turned_of : (mesh : HalfEdges) (k : ℕ)
+      → IsTurned (length (edges_at d level)) (edge_at d level) steps mesh k
+      → IsTurned (length d.curves) (edge d) steps mesh k
   turned_of mesh k t = moved (λ n es. IsTurned n (edge_of es) steps mesh k) t
 
-  pub faces_with : (mesh : HalfEdges) (n : ℕ) → HasRunFaces d level vs mesh n → (w : ℤ) → IsFaces (drawn w d (edge d) steps) (λ h. slice_index mesh.face (number h))
+  pub faces_with : (mesh : HalfEdges) (n : ℕ) → HasRunFaces d level vs mesh n → (w : ℤ)
+      → IsFaces (drawn w d (edge d) steps) (λ h. slice_index mesh.face (number h))
   faces_with mesh n f w =
       faces_to (pos 0) w (length d.curves) (edge d) steps (face_in mesh.face)
       (moved (λ m es. IsFaces (replay (pos 0) m (edge_of es) steps) (face_in mesh.face)) f.faces)
@@ -74,7 +83,8 @@ module _ (d : Plan) (level : ℕ) (edges : List Edge) (owners : List Owner) (fac
       ∙ ap (over_or (numbers (face_in faces)) 0) (sym c.lower_is)
       ∙ face_over_is faces l
 
-  by_spot : (faces : List ℕ) (j : ℕ) (s : Spot) → j < length d.points → IsSpot d level vs (object d j) s → IsPointFace d steps faces j (cell_face faces s)
+  by_spot : (faces : List ℕ) (j : ℕ) (s : Spot) → j < length d.points
+      → IsSpot d level vs (object d j) s → IsPointFace d steps faces j (cell_face faces s)
   by_spot faces j (spot.On c) l h = absurd (partition.off j l c h.there h.on)
   by_spot faces j (spot.InTube c true) l h = absurd (no_half_arc d straights c (record { there = h.0.there; kind = h.0.bent }))
   by_spot faces j (spot.InTube c false) l h = absurd (no_half_arc d straights c (record { there = h.0.there; kind = h.0.bent }))
@@ -86,7 +96,8 @@ module _ (d : Plan) (level : ℕ) (edges : List Edge) (owners : List Owner) (fac
   }
 
   module _ (spots : List Spot) (placed : AreSpots d level vs spots) where
-    pub point_face : (faces : List ℕ) (j : ℕ) → j < length d.points → IsPointFace d steps faces j (slice_index (map (cell_face faces) spots) j)
+    pub point_face : (faces : List ℕ) (j : ℕ) → j < length d.points
+        → IsPointFace d steps faces j (slice_index (map (cell_face faces) spots) j)
     point_face faces j l =
         let size = placed.size in
         subst (IsPointFace d steps faces j) (sym (nth_spot_face (cell_face faces) spots j (omega (arith, l, size))))
@@ -95,13 +106,15 @@ module _ (d : Plan) (level : ℕ) (edges : List Edge) (owners : List Owner) (fac
     pub point_faces : (faces : List ℕ) → length (map (cell_face faces) spots) ≡ length d.points
     point_faces faces = length-map spots (cell_face faces) ∙ placed.size
 
-    among : (n : ℕ) → n ≡ 2 * length (edges_at d level) → (v : Point) (s : Spot) → IsSpot d level vs v s → IsCellSpot n s
+    among : (n : ℕ) → n ≡ 2 * length (edges_at d level) → (v : Point) (s : Spot)
+        → IsSpot d level vs v s → IsCellSpot n s
     among n e v (spot.On c) h = tt
     among n e v (spot.InTube c b) h = tt
     among n e v (spot.Cell i None up) h = tt
     among n e v (spot.Cell i (Some k) up) h = let l : k < length (edges_at d level) = cell_in d level edges owners facings vs is v i (Some k) up h.0 in omega (arith, l, e)
 
-    pub cell_spots : (n : ℕ) → n ≡ 2 * length (edges_at d level) → (j : ℕ) → j < length spots → IsCellSpot n (spot_at spots j)
+    pub cell_spots : (n : ℕ) → n ≡ 2 * length (edges_at d level) → (j : ℕ) → j < length spots
+        → IsCellSpot n (spot_at spots j)
     cell_spots n e j l = let size = placed.size in among n e (object d j) (spot_at spots j) (placed.each j (omega (arith, l, size)))
 
     -- faces of points are known, inner ones, and no two are one
@@ -130,7 +143,8 @@ module _ (d : Plan) (level : ℕ) (edges : List Edge) (owners : List Owner) (fac
           partition.bounded j l
           ((located_outer (pos 0) d (edge d) steps run_of (face_in mesh.face) (faces_with mesh n f (pos 0)) (object d j) p.events p.place (p.located (pos 0))).1 (p.face_is (pos 0) ∙ e))
 
-      pub one_point : (i j : ℕ) → i < length d.points → j < length d.points → number_of i ≡ number_of j → i ≡ j
+      pub one_point : (i j : ℕ) → i < length d.points → j < length d.points
+          → number_of i ≡ number_of j → i ≡ j
       one_point i j l k e =
           let p = point_face mesh.face i l in
           let q = point_face mesh.face j k in

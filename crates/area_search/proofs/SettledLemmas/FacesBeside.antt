@@ -112,7 +112,8 @@ module _ (d : Plan) (level : ℕ) (edges : List Edge) (owners : List Owner) (fac
         let q : h ≡ number (under x) = omega (arith, e) in
         ap (slice_index mesh.face) q
 
-    by_sides : (g h : ℕ) → IsOnSide (E x) (curve d i) x true g → IsOnSide (E x) (curve d i) x false h
+    by_sides : (g h : ℕ) → IsOnSide (E x) (curve d i) x true g
+        → IsOnSide (E x) (curve d i) x false h
         → (beside i).first ≡ slice_index mesh.face g → (beside i).second ≡ slice_index mesh.face h
         → IsForth ⊎ IsBack
     by_sides g h (forth a p) (forth b q) j k = inl (record {

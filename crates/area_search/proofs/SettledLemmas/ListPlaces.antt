@@ -1,5 +1,6 @@
 -- Edges at places of a live list.
-use Rattle.std.proofs.Common.{◌≡◌, inl, inr, ℕ, zero, suc, ◌<◌, ◌≤◌, Option, Some, None, List, [], ◌∷◌, length, get_or, map, slice_index_or, refl, sym, ap, ◌∙◌, arith}
+use Rattle.std.proofs.Common.{◌≡◌, inl, inr, ℕ, zero, suc, ◌<◌, ◌≤◌, Option, Some, None, List, []}
+use Rattle.std.proofs.Common.{◌∷◌, length, get_or, map, slice_index_or, refl, sym, ap, ◌∙◌, arith}
 use Rattle.plane.specs.Faces.Halves.{At, AtBefore}
 use Rattle.plane.specs.Faces.Labels.{Labels, label_at}
 use Rattle.plane.specs.Lists.{Has}
@@ -52,7 +53,8 @@ abbrev pub over_or : Labels → ℕ → Option ℕ → ℕ
 over_or a l None = l
 over_or a l (Some e) = a.above e
 
-pub label_before : (a : Labels) (l i : ℕ) (es : List ℕ) → i ≤ length es → label_at a l i es ≡ over_or a l (edge_before es i)
+pub label_before : (a : Labels) (l i : ℕ) (es : List ℕ) → i ≤ length es
+    → label_at a l i es ≡ over_or a l (edge_before es i)
 label_before a l zero es h = refl
 label_before a l (suc i) [] h = absurd (omega (arith, h))
 label_before a l (suc zero) (e ∷ es) h = refl
@@ -61,7 +63,8 @@ label_before a l (suc (suc i)) (e ∷ es) h =
     label_before a (a.above e) (suc i) es (omega (arith, h)) ∙ ap (over_or a (a.above e)) s.1 ∙ sym (ap (over_or a l) s.1)
 
 -- ---- points by number
-pub nth_point : (ps : List Placed) (j : ℕ) (x : Placed) → j < length ps → slice_index_or (map (λ (p : Placed). p.at) ps) j no_point ≡ (get_or ps j x).at
+pub nth_point : (ps : List Placed) (j : ℕ) (x : Placed) → j < length ps
+    → slice_index_or (map (λ (p : Placed). p.at) ps) j no_point ≡ (get_or ps j x).at
 nth_point [] j x h = absurd (omega (arith, h))
 nth_point (p ∷ ps) zero x h = refl
 nth_point (p ∷ ps) (suc j) x h = nth_point ps j x (omega (arith, h))

@@ -1,7 +1,10 @@
 -- The mesh of a run: the events that are noted of its edges, and its events one after another.
-use Rattle.std.proofs.Common.{◌≡◌, ℕ, zero, suc, ◌+◌, ◌-◌, ◌^◌, ◌<◌, ◌≤◌, List, [], ◌∷◌, ◌++◌, length, max, take, drop, get_or, slice_index, refl, arith, ap, sym, ◌∙◌, subst, inl, inr, add-one}
+use Rattle.std.proofs.Common.{◌≡◌, ℕ, zero, suc, ◌+◌, ◌-◌, ◌^◌, ◌<◌, ◌≤◌, List, [], ◌∷◌, ◌++◌}
+use Rattle.std.proofs.Common.{length, max, take, drop, get_or, slice_index, refl, arith, ap, sym}
+use Rattle.std.proofs.Common.{◌∙◌, subst, inl, inr, add-one}
 use Rattle.std.proofs.lemmas.Bool.{cases_lt}
-use Rattle.std.proofs.lemmas.List.{drop-drop, length-append, length-drop, length-take, length-take-le}
+use Rattle.std.proofs.lemmas.List.{drop-drop, length-append, length-drop, length-take}
+use Rattle.std.proofs.lemmas.List.{length-take-le}
 use Rattle.std.proofs.Math.Seq.{drop-append_seam, take-append_seam}
 use Rattle.plane.specs.declared.kinds.Edge.{Edge}
 use Rattle.plane.specs.declared.kinds.Point.{Point}
@@ -18,10 +21,12 @@ use Rattle.line_sweep.specs.Kinds.{ended_at}
 use Rattle.straight_predicates.specs.EdgeEvents.{IsNoted}
 use Rattle.area_search.specs.declared.settled.meshing.Noted.{Noted}
 use Rattle.area_search.specs.Settled.Meshing.{HasNoted, IsWidest, width}
-use Rattle.area_search.proofs.PlaneLaws.{events_apart, fits_at, never, part_is, run_events, run_good, step_is, steps_length}
+use Rattle.area_search.proofs.PlaneLaws.{events_apart, fits_at, never, part_is, run_events}
+use Rattle.area_search.proofs.PlaneLaws.{run_good, step_is, steps_length}
 
 -- ---- the widest event
-pub widest_next : (moves : List Move) (k most new : ℕ) (v : Move) → get_or moves k no_move ≡ v → new ≡ max most (width v) → IsWidest moves k most → IsWidest moves (k + 1) new
+pub widest_next : (moves : List Move) (k most new : ℕ) (v : Move) → get_or moves k no_move ≡ v
+    → new ≡ max most (width v) → IsWidest moves k most → IsWidest moves (k + 1) new
 widest_next moves k most new v q e is = record {
   most = λ j l. elim (cases_lt j k) [
     | inl c ↦ (let a = is.most j c in omega (arith, a, e))
@@ -34,7 +39,8 @@ widest_next moves k most new v q e is = record {
 }
 
 -- ---- the edges that end, as one list
-ended_next : (steps : List Step) (k : ℕ) → k < length steps → ended_at (drop k steps) ≡ (nth_step steps k).ending ++ ended_at (drop (suc k) steps)
+ended_next : (steps : List Step) (k : ℕ) → k < length steps
+    → ended_at (drop k steps) ≡ (nth_step steps k).ending ++ ended_at (drop (suc k) steps)
 ended_next [] k l = absurd (omega (arith, l))
 ended_next (s ∷ steps) zero l = refl
 ended_next (s ∷ steps) (suc k) l = ended_next steps k (omega (arith, l))
@@ -43,14 +49,16 @@ take-bound : (n : ℕ) (es : List ℕ) → length (take n es) ≤ n
 take-bound n es = let t = length-take n es in omega (arith, t)
 
 -- ---- the place of a step
-step_place : (steps : List Step) (s : Step) → Has s steps → (k : ℕ) × (k < length steps) × (nth_step steps k ≡ s)
+step_place : (steps : List Step) (s : Step) → Has s steps
+    → (k : ℕ) × (k < length steps) × (nth_step steps k ≡ s)
 step_place [] s h = absurd h
 step_place (t ∷ steps) s (inl e) = (0, omega arith, sym e)
 step_place (t ∷ steps) s (inr h) = let (k, l, e) = step_place steps s h in (suc k, omega (arith, l), e)
 
 -- ---- one number more in a list of events
 -- the entries of a vector, written through a slice of them
-pub noted_through : (edges : List ℕ) (event : ℕ) (old new shown written : List ℕ) → shown ≡ old → new ≡ written → IsNoted edges event shown written → IsNoted edges event old new
+pub noted_through : (edges : List ℕ) (event : ℕ) (old new shown written : List ℕ) → shown ≡ old
+    → new ≡ written → IsNoted edges event shown written → IsNoted edges event old new
 noted_through edges event old new shown written a b is = subst (λ (xs : List ℕ). IsNoted edges event xs new) a (subst (λ (ys : List ℕ). IsNoted edges event shown ys) (sym b) is)
 
 module _ (m : ℕ) (E : ℕ → Edge) (steps : List Step) (events : IsEventList m E (points_of steps)) where
@@ -88,7 +96,9 @@ module _ (m : ℕ) (E : ℕ → Edge) (vs : List Move) (run : Run m E (steps_fro
     pub event_ending : (e : ℕ) → Has e ending → e < m
     event_ending e h = (event.good.ending_only e (subst (λ (es : List ℕ). Has e es) (sym event.ending) h)).0
 
-    pub noted_more : (old new : Noted) → HasNoted m (steps_from [] vs) k old → length new.low.items ≡ length old.low.items → length new.high.items ≡ length old.high.items
+    pub noted_more : (old new : Noted) → HasNoted m (steps_from [] vs) k old
+        → length new.low.items ≡ length old.low.items
+        → length new.high.items ≡ length old.high.items
         → IsNoted starting k old.low.items new.low.items → IsNoted ending k old.high.items new.high.items → HasNoted m (steps_from [] vs) (k + 1) new
     noted_more old new has a b low high = record {
       low_count = a ∙ has.low_count;
@@ -101,7 +111,8 @@ module _ (m : ℕ) (E : ℕ → Edge) (vs : List Move) (run : Run m E (steps_fro
 
   -- ---- all events are noted
   module _ (noted : Noted) (has : HasNoted m (steps_from [] vs) (length vs) noted) where
-    at_low : (e : ℕ) → e < m → IsEventAt (steps_from [] vs) (slice_index noted.low.items e) (E e).low
+    at_low : (e : ℕ) → e < m
+        → IsEventAt (steps_from [] vs) (slice_index noted.low.items e) (E e).low
     at_low e l =
         let (s, h, p) = (run.ends e l).0 in
         let (k, b, q) = step_place steps s h in
@@ -110,7 +121,8 @@ module _ (m : ℕ) (E : ℕ → Edge) (vs : List Move) (run : Run m E (steps_fro
         let n = has.low k e (omega (arith, b, z)) ((good k b).starting_all e l there) in
         subst (λ (j : ℕ). IsEventAt (steps_from [] vs) j (E e).low) (sym n) (record { within = b; point = sym there })
 
-    at_high : (e : ℕ) → e < m → IsEventAt (steps_from [] vs) (slice_index noted.high.items e) (E e).high
+    at_high : (e : ℕ) → e < m
+        → IsEventAt (steps_from [] vs) (slice_index noted.high.items e) (E e).high
     at_high e l =
         let (s, h, p) = (run.ends e l).1 in
         let (k, b, q) = step_place steps s h in
@@ -140,7 +152,8 @@ module _ (m : ℕ) (E : ℕ → Edge) (vs : List Move) (run : Run m E (steps_fro
         subst (λ (n : ℕ). IsTurned n E (steps_from [] vs) mesh 0) a
         (begin E steps (length vs) noted.low.items noted.high.items mesh is (λ e l. at_low e (omega (arith, l, a))) (λ e l. at_high e (omega (arith, l, a))))
 
-  step_at : (k : ℕ) → k < length vs → (v : Move) → get_or vs k no_move ≡ v → nth_step (steps_from [] vs) k ≡ step_of (live_from [] (take k vs)) v
+  step_at : (k : ℕ) → k < length vs → (v : Move) → get_or vs k no_move ≡ v
+      → nth_step (steps_from [] vs) k ≡ step_of (live_from [] (take k vs)) v
   step_at k l v is = step_is [] vs k l ∙ ap (λ (u : Move). step_of (live_from [] (take k vs)) u) is
 
   -- ---- one event more is turned
@@ -173,7 +186,9 @@ module _ (m : ℕ) (E : ℕ → Edge) (vs : List Move) (run : Run m E (steps_fro
           sym (drop-drop v.ending from ended) ∙ ap (λ (n : ℕ). drop n (drop from ended)) (sym ending_size) ∙ ap (λ (es : List ℕ). drop (length (nth_step steps k).ending) es) parts
           ∙ drop-append_seam (nth_step steps k).ending (ended_at (drop (suc k) steps))
 
-      pub event_is : (starting ending : List ℕ) → starting ≡ v.starting → ending ≡ take v.ending (drop from ended) → IsEvent m E (steps_from [] vs) k starting ending
+      pub event_is : (starting ending : List ℕ) → starting ≡ v.starting
+          → ending ≡ take v.ending (drop from ended)
+          → IsEvent m E (steps_from [] vs) k starting ending
       event_is starting ending a b =
           let z = size in
           record {
@@ -186,7 +201,8 @@ module _ (m : ℕ) (E : ℕ → Edge) (vs : List Move) (run : Run m E (steps_fro
 -- ---- the same of a list of events
 module _ (m : ℕ) (E : ℕ → Edge) (events : List Move) (run : Run m E (steps_from [] events)) where
   module _ (noted : Noted) (has : HasNoted m (steps_from [] events) (length events) noted) where
-    pub listed_ends : (n : ℕ) (low high : List ℕ) → n ≡ length events → low ≡ noted.low.items → high ≡ noted.high.items → AreEnds n low high
+    pub listed_ends : (n : ℕ) (low high : List ℕ) → n ≡ length events → low ≡ noted.low.items
+        → high ≡ noted.high.items → AreEnds n low high
     listed_ends n low high a b c =
         subst (λ (k : ℕ). AreEnds k low high) (sym a)
         (subst (λ (ls : List ℕ). AreEnds (length events) ls high) (sym b)
@@ -221,7 +237,8 @@ module _ (m : ℕ) (E : ℕ → Edge) (events : List Move) (run : Run m E (steps
       can_turn_event can few mesh t =
           can m E (steps_from [] events) mesh k starting (take ((from + v.ending) - from) (drop from ended)) (omega (arith, few)) (run_events m E (steps_from [] events) run) t is_event
 
-      pub has_room : (room : ℕ) → IsWidest events (length events) room → length starting + length (take ((from + v.ending) - from) (drop from ended)) ≤ room
+      pub has_room : (room : ℕ) → IsWidest events (length events) room
+          → length starting + length (take ((from + v.ending) - from) (drop from ended)) ≤ room
       has_room room w =
           let b = w.most k l in
           let c = ap width is in
@@ -237,5 +254,7 @@ module _ (m : ℕ) (E : ℕ → Edge) (events : List Move) (run : Run m E (steps
           subst (λ (n : ℕ). IsTurned m E (steps_from [] events) new n) (sym (add-one k))
           (f m E (steps_from [] events) k (run_events m E (steps_from [] events) run) t is_event)
 
-  pub all_turned : (mesh : HalfEdges) (k : ℕ) → k ≡ length events → IsTurned m E (steps_from [] events) mesh k → IsTurned m E (steps_from [] events) mesh (length (steps_from [] events))
+  pub all_turned : (mesh : HalfEdges) (k : ℕ) → k ≡ length events
+      → IsTurned m E (steps_from [] events) mesh k
+      → IsTurned m E (steps_from [] events) mesh (length (steps_from [] events))
   all_turned mesh k e t = subst (λ (n : ℕ). IsTurned m E (steps_from [] events) mesh n) (e ∙ sym (size m E events run)) t

@@ -1,6 +1,8 @@
 -- The faces of a settled drawing by numbers: of its points, and beside its curves.
-use Rattle.std.proofs.Common.{◌≡◌, ◌⊎◌, ℕ, zero, suc, ◌<◌, Bool, true, false, Some, None, List, [], ◌∷◌}
-use Rattle.std.proofs.Common.{map, length, get_or, slice_index, slice_index_or, refl, sym, ap, subst}
+use Rattle.std.proofs.Common.{◌≡◌, ◌⊎◌, ℕ, zero, suc, ◌<◌, Bool, true, false, Some, None, List, []}
+use Rattle.std.proofs.Common.{◌∷◌}
+use Rattle.std.proofs.Common.{map, length, get_or, slice_index, slice_index_or, refl, sym, ap}
+use Rattle.std.proofs.Common.{subst}
 use Rattle.std.proofs.Common.{◌∙◌, arith, replicate}
 use Rattle.std.proofs.lemmas.List.{length-map}
 use Rattle.fault_lists.specs.DrawingFaces.{AreCurveFaces, AreFacePlaces, AreFacesBelow, HasFaces}

@@ -1,7 +1,9 @@
 -- The face numbers of a mesh of a run are its face numbers in the plane.
-use Rattle.std.proofs.Common.{◌≡◌, inl, inr, ℕ, ◌*◌, ◌<◌, ℤ, List, [], length, slice_index, refl, sym, ap, subst, ◌∙◌, arith}
+use Rattle.std.proofs.Common.{◌≡◌, inl, inr, ℕ, ◌*◌, ◌<◌, ℤ, List, [], length, slice_index, refl}
+use Rattle.std.proofs.Common.{sym, ap, subst, ◌∙◌, arith}
 use Rattle.plane.specs.declared.kinds.Edge.{Edge}
-use Rattle.plane.specs.Faces.Classes.{Across, Connected, IsFaces, Next, Touches, same, cross, go, return, outside}
+use Rattle.plane.specs.Faces.Classes.{Across, Connected, IsFaces, Next, Touches, same, cross, go}
+use Rattle.plane.specs.Faces.Classes.{return, outside}
 use Rattle.plane.specs.Faces.Halves.{Half, edge_of, half_of, number, over, twin, under}
 use Rattle.plane.specs.Faces.Replays.{Replay, replay}
 use Rattle.plane.specs.Runs.Gaps.{AtBorder as IsAtBorder, Gap, GapBetween, closed_gaps}
@@ -9,10 +11,14 @@ use Rattle.plane.specs.Runs.Moves.{Fit, Move, live_from, steps_from}
 use Rattle.plane.specs.Runs.Steps.{Run}
 use Rattle.half_edges.specs.HalfEdges.{HalfEdges, next_of, size}
 use Rattle.event_mesh.specs.Turned.{IsTurned}
-use Rattle.faces.specs.Joined.{Across as IsAcross, AreKnown, AtBorder, IsBetween, Joined, highest, lowest, same as joined_same, onward, back, across, outside as joined_outside}
+use Rattle.faces.specs.Joined.{Across as IsAcross, AreKnown, AtBorder, IsBetween, Joined, highest}
+use Rattle.faces.specs.Joined.{lowest, same as joined_same, onward, back, across}
+use Rattle.faces.specs.Joined.{outside as joined_outside}
 use Rattle.half_edges.specs.HalfEdges.{over_of, under_of}
 use Rattle.faces.specs.Labels.{AreFaces}
-use Rattle.area_search.proofs.PlaneLaws.{across_gap, below_number, border_touches, gap_across, half_number, next_has, next_is, number_below, number_half, run_leaves_none, touches_border}
+use Rattle.area_search.proofs.PlaneLaws.{across_gap, below_number, border_touches, gap_across}
+use Rattle.area_search.proofs.PlaneLaws.{half_number, next_has, next_is, number_below, number_half}
+use Rattle.area_search.proofs.PlaneLaws.{run_leaves_none, touches_border}
 
 -- the face of a half-edge
 abbrev pub face_in : List ℕ → Half → ℕ
@@ -94,7 +100,9 @@ module _ (w : ℤ) (m : ℕ) (E : ℕ → Edge) (vs : List Move) (mesh : HalfEdg
   gap_within (over d) (over e) c = absurd c
   gap_within (under d) h c = absurd c
 
-  pub from_across : (g h i : Half) → edge_of g < m → Across r g h → (edge_of h < m → Joined mesh cells (number h) (number i)) → Joined mesh cells (number g) (number i)
+  pub from_across : (g h i : Half) → edge_of g < m → Across r g h
+      → (edge_of h < m → Joined mesh cells (number h) (number i))
+      → Joined mesh cells (number g) (number i)
   from_across g h i l a j = elim (across_gap vs fit end w m E g h a) [
     | inl e ↦ subst (λ (x : Half). Joined mesh cells (number x) (number i)) (sym e) (j (subst (λ (x : Half). edge_of x < m) e l))
     | inr (inl b) ↦ across (number g) (number h) (number i) (inl (from_gap g h b)) (j (gap_within g h b).1)
@@ -105,7 +113,8 @@ module _ (w : ℤ) (m : ℕ) (E : ℕ → Edge) (vs : List Move) (mesh : HalfEdg
   edge_before (under e) l = l
   edge_before (over e) l = l
 
-  pub joined : (g h : Half) → edge_of g < m → Connected r g h → Joined mesh cells (number g) (number h)
+  pub joined : (g h : Half) → edge_of g < m → Connected r g h
+      → Joined mesh cells (number g) (number h)
   joined g h l (same _ _ e) = joined_same (number g) (number h) (ap number e)
   joined g i l (cross _ h _ a c) = from_across g h i l a (λ k. joined h i k c)
   joined g i l (go _ h _ n c) =

@@ -5,7 +5,8 @@ pub use Rattle.plane.proofs.Turning.CellWalls.{beside_fits}
 pub use Rattle.plane.proofs.Windings.Whole.{swept_whole}
 pub use Rattle.plane.proofs.Settling.RunFaces.{run_faces, run_labels}
 pub use Rattle.plane.proofs.Settling.BlankLabels.{cells_paired}
-pub use Rattle.plane.proofs.TubedRuns.FacedTubes.{edge_twin, edge_within, faced_is, faced_twin, faced_within}
+pub use Rattle.plane.proofs.TubedRuns.FacedTubes.{edge_twin, edge_within, faced_is, faced_twin}
+pub use Rattle.plane.proofs.TubedRuns.FacedTubes.{faced_within}
 pub use Rattle.plane.proofs.TubedRuns.TubedWeights.{labels_to}
 pub use Rattle.plane.proofs.TubedRuns.ArcEdges.{below_m, some_inner, some_outer}
 pub use Rattle.plane.proofs.TubedRuns.OwnedEdges.{owner_is}

@@ -1,5 +1,7 @@
 -- Curves that break the last level with no other one, from the first drawing that is looked at to the last.
-use Rattle.std.proofs.Common.{◌≡◌, ◌⊎◌, inl, inr, ℕ, zero, suc, ◌+◌, ◌<◌, ◌≤◌, Bool, true, false, List, [], ◌∷◌, ◌++◌, length, map, get_or, arith, refl, ap, sym, ◌∙◌, subst, All}
+use Rattle.std.proofs.Common.{◌≡◌, ◌⊎◌, inl, inr, ℕ, zero, suc, ◌+◌, ◌<◌, ◌≤◌, Bool, true, false}
+use Rattle.std.proofs.Common.{List, [], ◌∷◌, ◌++◌, length, map, get_or, arith, refl, ap, sym, ◌∙◌}
+use Rattle.std.proofs.Common.{subst, All}
 use Rattle.std.proofs.lemmas.List.{length-map}
 use Rattle.near_pairs.specs.Boxes.{mark_of}
 use Rattle.plane.specs.Rule.Plans.{Plan, curve, plan}
@@ -9,8 +11,11 @@ use Rattle.level_breaks.specs.LevelLists.{AreAlone, AreBreaksMarked}
 use Rattle.level_breaks.proofs.Unbroken.{breaks_back}
 use Rattle.area_search.specs.declared.unsettled.rest.Rest.{Rest}
 use Rattle.area_search.specs.declared.unsettled.standing.Standing.{Standing}
-use Rattle.area_search.specs.declared.unsettled.standing.Standing.TheVariants.{Alone, Tried, Waiting, Seen}
-use Rattle.area_search.specs.Unsettled.Alone.{AreApart, AreFirstTo, AreLeftTo, IsBare, IsFirst, IsSeen, after_leaving, after_settling, is_alone, is_left_out, standing_of}
+use Rattle.area_search.specs.declared.unsettled.standing.Standing.TheVariants.{Alone, Tried}
+use Rattle.area_search.specs.declared.unsettled.standing.Standing.TheVariants.{Waiting, Seen}
+use Rattle.area_search.specs.Unsettled.Alone.{AreApart, AreFirstTo, AreLeftTo, IsBare, IsFirst}
+use Rattle.area_search.specs.Unsettled.Alone.{IsSeen, after_leaving, after_settling, is_alone}
+use Rattle.area_search.specs.Unsettled.Alone.{is_left_out, standing_of}
 use Rattle.area_search.specs.Unsettled.SetAside.{HasNoBreak, IsRest}
 use Rattle.area_search.proofs.UnsettledLemmas.SetAsideCurves.{no_break}
 use Rattle.area_search.proofs.Small.{by_lt, one_more, one_more_size}
@@ -19,12 +24,14 @@ no_mark : {P : Type 0} → false ≡ true → P
 no_mark e = cc
 
 -- ---- lists of one entry for each curve
-at_map : {A B : Type 0} (f : A → B) (xs : List A) (i : ℕ) (a : A) → get_or (map f xs) i (f a) ≡ f (get_or xs i a)
+at_map : {A B : Type 0} (f : A → B) (xs : List A) (i : ℕ) (a : A)
+    → get_or (map f xs) i (f a) ≡ f (get_or xs i a)
 at_map f [] i a = refl
 at_map f (x ∷ xs) zero a = refl
 at_map f (x ∷ xs) (suc i) a = at_map f xs i a
 
-at_map_within : {A B : Type 0} (f : A → B) (xs : List A) (i : ℕ) (b : B) (a : A) → i < length xs → get_or (map f xs) i b ≡ f (get_or xs i a)
+at_map_within : {A B : Type 0} (f : A → B) (xs : List A) (i : ℕ) (b : B) (a : A) → i < length xs
+    → get_or (map f xs) i b ≡ f (get_or xs i a)
 at_map_within f [] i b a l = absurd (omega (arith, l))
 at_map_within f (x ∷ xs) zero b a l = refl
 at_map_within f (x ∷ xs) (suc i) b a l = at_map_within f xs i b a (omega (arith, l))
@@ -62,10 +69,13 @@ record AreUnmarked (d : Plan) (marks : List Bool) (i j : ℕ) : Type 0 where
   mark_first : mark_of marks i ≡ false
   mark_second : mark_of marks j ≡ false
 
-turned : (d : Plan) (marks : List Bool) (i j : ℕ) → AreUnmarked d marks i j → AreUnmarked d marks j i
+turned : (d : Plan) (marks : List Bool) (i j : ℕ) → AreUnmarked d marks i j
+    → AreUnmarked d marks j i
 turned d marks i j p = record { first = p.second; second = p.first; mark_first = p.mark_second; mark_second = p.mark_first }
 
-either_order : (d : Plan) (P : ℕ → ℕ → Type 0) → ((i j : ℕ) → P i j → P j i) → ((i j : ℕ) → i < j → P i j → Breaks d 5 i j → ⊥) → (i j : ℕ) → (i ≡ j → ⊥) → P i j → Breaks d 5 i j → ⊥
+either_order : (d : Plan) (P : ℕ → ℕ → Type 0) → ((i j : ℕ) → P i j → P j i)
+    → ((i j : ℕ) → i < j → P i j → Breaks d 5 i j → ⊥) → (i j : ℕ) → (i ≡ j → ⊥) → P i j
+    → Breaks d 5 i j → ⊥
 either_order d P turn f i j n p b =
     by_lt i j (λ (l : i < j). f i j l p b) (λ (m : j ≤ i). by_lt j i (λ (k : j < i). f j i k (turn i j p) (breaks_back d 5 i j b)) (λ (k : i ≤ j). n (omega (arith, m, k))))
 
@@ -75,25 +85,31 @@ bare_breaks_none d i j n b (missing e h m) = n e
 bare_breaks_none d i j n b (edges m g h w) = let t = h.tube (record { there = h.there; kind = b.half_arc }) in b.no_tube t.0 t.1 t.2
 bare_breaks_none d i j n b (corners m g h w) = let t = h.tube (record { there = h.there; kind = b.half_arc }) in b.no_tube t.0 t.1 t.2
 
-pub apart_at_first : (d : Plan) (aside : List Bool) (ss : List Standing) → AreFirstTo d aside (length d.curves) ss → AreBreaksMarked d 5 aside → AreApart d ss
+pub apart_at_first : (d : Plan) (aside : List Bool) (ss : List Standing)
+    → AreFirstTo d aside (length d.curves) ss → AreBreaksMarked d 5 aside → AreApart d ss
 apart_at_first d aside ss f marked = record { size = f.size; apart = λ i j n li lj ai sj b. by i j n li lj b ((f.each i li).alone ai) ((f.each j lj).seen sj) }
   where
     unmarked : (i j : ℕ) → i < j → AreUnmarked d aside i j → Breaks d 5 i j → ⊥
     unmarked i j l p b = elim (marked i j l p.second b) as (λ z. ⊥) [ inl e ↦ no_mark (sym p.mark_first ∙ e) | inr e ↦ no_mark (sym p.mark_second ∙ e) ]
 
-    by : (i j : ℕ) → (i ≡ j → ⊥) → i < length d.curves → j < length d.curves → Breaks d 5 i j → mark_of aside i ≡ false → (mark_of aside j ≡ false) ⊎ IsBare (curve d j) → ⊥
+    by : (i j : ℕ) → (i ≡ j → ⊥) → i < length d.curves → j < length d.curves → Breaks d 5 i j
+        → mark_of aside i ≡ false → (mark_of aside j ≡ false) ⊎ IsBare (curve d j) → ⊥
     by i j n li lj b u (inl v) =
         either_order d (AreUnmarked d aside) (turned d aside) unmarked i j n (record { first = li; second = lj; mark_first = u; mark_second = v }) b
     by i j n li lj b u (inr v) = bare_breaks_none d i j n v b
 
 -- one curve more
-pub first_more : (d : Plan) (aside : List Bool) (k : ℕ) (xs ys : List Standing) (s : Standing) → AreFirstTo d aside k xs → ys ≡ xs ++ s ∷ [] → IsFirst (curve d k) (mark_of aside k) s → AreFirstTo d aside (k + 1) ys
+pub first_more : (d : Plan) (aside : List Bool) (k : ℕ) (xs ys : List Standing) (s : Standing)
+    → AreFirstTo d aside k xs → ys ≡ xs ++ s ∷ [] → IsFirst (curve d k) (mark_of aside k) s
+    → AreFirstTo d aside (k + 1) ys
 first_more d aside k xs ys s f e h = record {
   size = one_more_size xs ys s k f.size e;
   each = one_more (λ i t. IsFirst (curve d i) (mark_of aside i) t) xs ys s Alone k f.size e f.each h;
 }
 
-pub left_more : (old : List Standing) (k : ℕ) (xs ys : List Standing) (s : Standing) → AreLeftTo old k xs → ys ≡ xs ++ s ∷ [] → (s ≡ standing_of old k) ⊎ (s ≡ after_leaving (standing_of old k)) → AreLeftTo old (k + 1) ys
+pub left_more : (old : List Standing) (k : ℕ) (xs ys : List Standing) (s : Standing)
+    → AreLeftTo old k xs → ys ≡ xs ++ s ∷ []
+    → (s ≡ standing_of old k) ⊎ (s ≡ after_leaving (standing_of old k)) → AreLeftTo old (k + 1) ys
 left_more old k xs ys s f e h = record {
   size = one_more_size xs ys s k f.size e;
   each = one_more (λ i t. (t ≡ standing_of old i) ⊎ (t ≡ after_leaving (standing_of old i))) xs ys s Alone k f.size e f.each h;
@@ -112,7 +128,8 @@ module _ (d : Plan) (ss next : List Standing) (marks : List Bool) (points : List
   in_drawing : (i j : ℕ) → i < j → AreUnmarked d marks i j → Breaks d 5 i j → ⊥
   in_drawing i j l p b = no_break d marks points r is law none i j l p.second b p.mark_first p.mark_second
 
-  both_there : (i j : ℕ) → (i ≡ j → ⊥) → i < length d.curves → j < length d.curves → standing_of ss i ≡ Alone → standing_of ss j ≡ Tried → Breaks d 5 i j → ⊥
+  both_there : (i j : ℕ) → (i ≡ j → ⊥) → i < length d.curves → j < length d.curves
+      → standing_of ss i ≡ Alone → standing_of ss j ≡ Tried → Breaks d 5 i j → ⊥
   both_there i j n li lj e t b =
       either_order d (AreUnmarked d marks) (turned d marks) in_drawing i j n
       (record { first = li; second = lj; mark_first = mark_at i ∙ ap is_left_out e; mark_second = mark_at j ∙ ap is_left_out t }) b
@@ -129,7 +146,8 @@ module _ (d : Plan) (ss next : List Standing) (marks : List Bool) (points : List
   }
 
 -- ---- after some were near others
-pub apart_when_left : (d : Plan) (ss next : List Standing) → AreLeftTo ss (length ss) next → AreApart d ss → AreApart d next
+pub apart_when_left : (d : Plan) (ss next : List Standing) → AreLeftTo ss (length ss) next
+    → AreApart d ss → AreApart d next
 apart_when_left d ss next l a = record { size = l.size ∙ a.size; apart = λ i j n li lj ai sj b. a.apart i j n li lj (alone i li ai) (seen j lj sj) b }
   where
     within : (i : ℕ) → i < length d.curves → i < length ss
@@ -142,7 +160,8 @@ apart_when_left d ss next l a = record { size = l.size ∙ a.size; apart = λ i 
     seen j m h = elim (l.each j (within j m)) as (λ z. IsSeen (standing_of ss j)) [ inl q ↦ subst IsSeen q h | inr q ↦ left_seen (standing_of ss j) (subst IsSeen q h) ]
 
 -- ---- in the end
-pub alone_in_the_end : (d : Plan) (ss : List Standing) (marks : List Bool) → AreApart d ss → All IsSeen ss → marks ≡ map is_alone ss → AreAlone d 5 marks
+pub alone_in_the_end : (d : Plan) (ss : List Standing) (marks : List Bool) → AreApart d ss
+    → All IsSeen ss → marks ≡ map is_alone ss → AreAlone d 5 marks
 alone_in_the_end d ss marks a seen e = λ i j l m b.
     let li : i < length d.curves = omega (arith, l, m) in
     (mark_at i li ∙ not_alone i j (λ q. omega (arith, q, l)) li m b, mark_at j m ∙ not_alone j i (λ q. omega (arith, q, l)) m li (breaks_back d 5 i j b))
@@ -153,7 +172,8 @@ alone_in_the_end d ss marks a seen e = λ i j l m b.
     mark_at : (i : ℕ) → i < length d.curves → mark_of marks i ≡ is_alone (standing_of ss i)
     mark_at i m = ap (λ (ms : List Bool). mark_of ms i) e ∙ at_map_within is_alone ss i false Alone (within i m)
 
-    not_alone : (i j : ℕ) → (i ≡ j → ⊥) → i < length d.curves → j < length d.curves → Breaks d 5 i j → is_alone (standing_of ss i) ≡ false
+    not_alone : (i j : ℕ) → (i ≡ j → ⊥) → i < length d.curves → j < length d.curves → Breaks d 5 i j
+        → is_alone (standing_of ss i) ≡ false
     not_alone i j n li lj b = by (standing_of ss i) refl
       where
         by : (s : Standing) → standing_of ss i ≡ s → is_alone (standing_of ss i) ≡ false

@@ -1,5 +1,6 @@
 -- Numbers by their marks, the boxes of points and of the curves of these numbers, and their marks, as the lists grow.
-use Rattle.std.proofs.Common.{◌≡◌, ◌↔◌, ℕ, ◌+◌, ◌<◌, ◌≤◌, Bool, true, false, IsTrue, List, [], ◌∷◌, ◌++◌, length, get_or, arith, refl, ap, sym, ◌∙◌, subst}
+use Rattle.std.proofs.Common.{◌≡◌, ◌↔◌, ℕ, ◌+◌, ◌<◌, ◌≤◌, Bool, true, false, IsTrue, List, [], ◌∷◌}
+use Rattle.std.proofs.Common.{◌++◌, length, get_or, arith, refl, ap, sym, ◌∙◌, subst}
 use Rattle.std.proofs.lemmas.List.{length-append, get_or_append_left}
 use Rattle.std.proofs.Math.Seq.{get_or-append_seam}
 use Rattle.std.proofs.lemmas.Int.{ints}
@@ -10,7 +11,8 @@ use Rattle.plane.specs.declared.kinds.Placed.{Placed}
 use Rattle.plane.specs.declared.kinds.Point.{Point}
 use Rattle.near_pairs.specs.Boxes.{box_of, mark_of, no_reach}
 use Rattle.near_pairs.specs.declared.reaches.Reach.{Reach}
-use Rattle.area_search.specs.Unsettled.CurvePoints.{AreCurveBoxes, AreMarkedTo, ArePointBoxes, placed_at}
+use Rattle.area_search.specs.Unsettled.CurvePoints.{AreCurveBoxes, AreMarkedTo, ArePointBoxes}
+use Rattle.area_search.specs.Unsettled.CurvePoints.{placed_at}
 use Rattle.area_search.proofs.Small.{by_lt}
 
 abbrev number_of : List ℕ → ℕ → ℕ
@@ -48,7 +50,8 @@ module _ (marks : List Bool) (mark : Bool) where
       whole = λ i l e. by_lt i k (λ (b : i < k). a.whole i b e) (λ (b : k ≤ i). absurd (n (subst HasMark (last i k l b) e)));
     }
 
-    pub number_more : (new : List ℕ) → new ≡ numbers ++ k ∷ [] → HasMark k → AreMarkedTo marks mark (k + 1) new
+    pub number_more : (new : List ℕ) → new ≡ numbers ++ k ∷ [] → HasMark k
+        → AreMarkedTo marks mark (k + 1) new
     number_more new q h = record {
       few = (let f = a.few in omega (arith, f, size));
       known = λ m l. by m l (λ n. n < k + 1) (λ g. let b = a.known m g in omega (arith, b)) (omega arith);
@@ -70,17 +73,20 @@ module _ (marks : List Bool) (mark : Bool) where
         back : (m : ℕ) → m ≡ length numbers → number_of new m ≡ k
         back m e = last_of numbers new k 0 (length numbers) q refl m e
 
-        by : (m : ℕ) → m < length new → (P : ℕ → Type 0) → (m < length numbers → P (number_of numbers m)) → P k → P (number_of new m)
+        by : (m : ℕ) → m < length new → (P : ℕ → Type 0)
+            → (m < length numbers → P (number_of numbers m)) → P k → P (number_of new m)
         by m l P f p = by_lt m (length numbers) (λ (g : m < length numbers). subst P (sym (front m g)) (f g)) (λ (g : length numbers ≤ m). subst P (sym (back m (omega (arith, l, g, size)))) p)
 
-  pub all_numbers : (k : ℕ) (numbers : List ℕ) → length marks ≤ k → k ≤ length marks → AreMarkedTo marks mark k numbers → AreMarkedTo marks mark (length marks) numbers
+  pub all_numbers : (k : ℕ) (numbers : List ℕ) → length marks ≤ k → k ≤ length marks
+      → AreMarkedTo marks mark k numbers → AreMarkedTo marks mark (length marks) numbers
   all_numbers k numbers l m a = subst (λ (n : ℕ). AreMarkedTo marks mark n numbers) (omega (arith, l, m)) a
 
 -- ---- boxes
 one_place : (p : Point) → InBox (record { low = p; high = p }) (point p)
 one_place p = record { left = omega (arith, ints); right = omega (arith, ints); under = omega (arith, ints); over = omega (arith, ints) }
 
-pub no_boxes : (points : List Placed) (boxes : List Reach) → boxes ≡ [] → ArePointBoxes points 0 boxes
+pub no_boxes : (points : List Placed) (boxes : List Reach) → boxes ≡ []
+    → ArePointBoxes points 0 boxes
 no_boxes points boxes e = record { size = ap length e; holds = λ j l. absurd (omega (arith, l)) }
 
 pub point_box_more : (points : List Placed) (k : ℕ) (boxes new : List Reach) (r : Reach) → ArePointBoxes points k boxes → new ≡ boxes ++ r ∷ [] → r ≡ record { low = placed_at points k; high = placed_at points k } → ArePointBoxes points (k + 1) new
@@ -91,13 +97,17 @@ point_box_more points k boxes new r a q e = record {
       (λ (g : k ≤ j). let s = last j k l g in subst (λ b. InBox (box_of b) (point (placed_at points j))) (sym (last_of boxes new r no_reach k q a.size j s ∙ e ∙ ap (λ (n : ℕ). record { low = placed_at points n; high = placed_at points n }) (sym s))) (one_place (placed_at points j)));
 }
 
-pub all_points : (points : List Placed) (k : ℕ) (boxes : List Reach) → length points ≤ k → k ≤ length points → ArePointBoxes points k boxes → ArePointBoxes points (length points) boxes
+pub all_points : (points : List Placed) (k : ℕ) (boxes : List Reach) → length points ≤ k
+    → k ≤ length points → ArePointBoxes points k boxes → ArePointBoxes points (length points) boxes
 all_points points k boxes l m a = subst (λ (n : ℕ). ArePointBoxes points n boxes) (omega (arith, l, m)) a
 
-pub no_curve_boxes : (d : Plan) (numbers : List ℕ) (boxes : List Reach) → ArePointBoxes d.points (length d.points) boxes → AreCurveBoxes d numbers 0 boxes
+pub no_curve_boxes : (d : Plan) (numbers : List ℕ) (boxes : List Reach)
+    → ArePointBoxes d.points (length d.points) boxes → AreCurveBoxes d numbers 0 boxes
 no_curve_boxes d numbers boxes a = record { size = (let s = a.size in omega (arith, s)); points = a.holds; holds = λ m l. absurd (omega (arith, l)) }
 
-pub curve_box_more : (d : Plan) (numbers : List ℕ) (k : ℕ) (boxes new : List Reach) (r : Reach) → AreCurveBoxes d numbers k boxes → new ≡ boxes ++ r ∷ [] → HoldsCurve (box_of r) (curve d (number_of numbers k)) → AreCurveBoxes d numbers (k + 1) new
+pub curve_box_more : (d : Plan) (numbers : List ℕ) (k : ℕ) (boxes new : List Reach) (r : Reach)
+    → AreCurveBoxes d numbers k boxes → new ≡ boxes ++ r ∷ []
+    → HoldsCurve (box_of r) (curve d (number_of numbers k)) → AreCurveBoxes d numbers (k + 1) new
 curve_box_more d numbers k boxes new r a q h = record {
   size = (let s = size_more boxes new r no_reach (length d.points + k) q a.size in omega (arith, s));
   points = λ j l. subst (λ b. InBox (box_of b) (point (object d j))) (sym (front_of boxes new r no_reach (length d.points + k) q a.size j (omega (arith, l)))) (a.points j l);
@@ -107,7 +117,9 @@ curve_box_more d numbers k boxes new r a q h = record {
       (subst (λ (n : ℕ). HoldsCurve (box_of r) (curve d (number_of numbers n))) (sym s) h));
 }
 
-pub all_curve_boxes : (d : Plan) (numbers : List ℕ) (k : ℕ) (boxes : List Reach) → length numbers ≤ k → k ≤ length numbers → AreCurveBoxes d numbers k boxes → AreCurveBoxes d numbers (length numbers) boxes
+pub all_curve_boxes : (d : Plan) (numbers : List ℕ) (k : ℕ) (boxes : List Reach)
+    → length numbers ≤ k → k ≤ length numbers → AreCurveBoxes d numbers k boxes
+    → AreCurveBoxes d numbers (length numbers) boxes
 all_curve_boxes d numbers k boxes l m a = subst (λ (n : ℕ). AreCurveBoxes d numbers n boxes) (omega (arith, l, m)) a
 
 -- ---- tests

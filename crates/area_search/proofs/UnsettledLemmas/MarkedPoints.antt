@@ -1,5 +1,6 @@
 -- All points on marked curves, by the codes of their pairs.
-use Rattle.std.proofs.Common.{◌≡◌, ℕ, ◌+◌, ◌-◌, ◌*◌, ◌^◌, ◌<◌, ◌≤◌, inl, inr, Bool, true, List, [], ◌∷◌, ◌++◌, length, get_or, refl, sym, ◌∙◌, ap, subst, arith}
+use Rattle.std.proofs.Common.{◌≡◌, ℕ, ◌+◌, ◌-◌, ◌*◌, ◌^◌, ◌<◌, ◌≤◌, inl, inr, Bool, true, List, []}
+use Rattle.std.proofs.Common.{◌∷◌, ◌++◌, length, get_or, refl, sym, ◌∙◌, ap, subst, arith}
 use Rattle.std.specs.List.{Contains}
 use Rattle.std.proofs.lemmas.Bool.{cases_lt}
 use Rattle.std.proofs.lemmas.List.{get_or_append_left, get_or_default, length-append}
@@ -18,12 +19,14 @@ use Rattle.near_pairs.specs.PairLists.{AreCodes, IsCode, IsPairList, code}
 use Rattle.near_pairs.specs.declared.listing.PairList.{PairList}
 use Rattle.near_pairs.specs.declared.pairs.NearPair.{NearPair}
 use Rattle.near_pairs.specs.declared.reaches.Reach.{Reach}
-use Rattle.area_search.specs.Unsettled.CurvePoints.{AreCurveBoxes, AreMarkedTo, IsPointOnCurve, LiesOnMarked}
+use Rattle.area_search.specs.Unsettled.CurvePoints.{AreCurveBoxes, AreMarkedTo, IsPointOnCurve}
+use Rattle.area_search.specs.Unsettled.CurvePoints.{LiesOnMarked}
 use Rattle.area_search.specs.Unsettled.MarkedPoints.{AreDecoded, ArePairsOn, IsDecoded, no_on}
 use Rattle.area_search.proofs.UnsettledLemmas.PointsOnCurves.{lies_on, numbered, on_is_near}
 
 -- ---- the boxes and marks as they are lent
-pub near_pairs_on : (d : Plan) (marks : List Bool) (numbers : List ℕ) → AreMarkedTo marks true (length d.curves) numbers
+pub near_pairs_on : (d : Plan) (marks : List Bool) (numbers : List ℕ)
+    → AreMarkedTo marks true (length d.curves) numbers
     → (boxes lent seen : List Reach) (chosen lent_marks : List Bool) (points : ℕ) → lent ≡ boxes → seen ≡ boxes → lent_marks ≡ chosen → points ≡ length d.points
     → AreCurveBoxes d numbers (length numbers) boxes → AreMarkedFrom points (length seen) chosen
     → ((c : Curve) (x : Box) (z : Vector) → HoldsCurve x c → IsPlace z → (c.kind ≡ kind.HalfArc → HasSide (arc c) z) → IsOn c z → InBox x z)
@@ -54,7 +57,8 @@ module _ (d : Plan) (marks : List Bool) (numbers : List ℕ) (a : AreMarkedTo ma
   of_pair : (k : ℕ) → k < length codes → LiesOnMarked d marks true (at k).point (at k).curve
   of_pair k h = by (All-get_or (IsCode (IsPointOnCurve d numbers) (length d.points + length numbers)) codes k 0 h list.pairs)
     where
-      by : IsCode (IsPointOnCurve d numbers) (length d.points + length numbers) (get_or codes k 0) → LiesOnMarked d marks true (at k).point (at k).curve
+      by : IsCode (IsPointOnCurve d numbers) (length d.points + length numbers) (get_or codes k 0)
+          → LiesOnMarked d marks true (at k).point (at k).curve
       by c =
           let t = c.sought.there in
           let e = decoded.each k h c.pair.first c.pair.second (omega (arith, t, few)) c.is c.sought.sought in
@@ -86,10 +90,12 @@ module _ (d : Plan) (marks : List Bool) (numbers : List ℕ) (a : AreMarkedTo ma
   all_pairs_on = record { on = on; all = every }
 
 -- ---- one code after the other
-pub none_decoded : (d : Plan) (numbers codes : List ℕ) (ons : List OnAt) → ons ≡ [] → AreDecoded d numbers codes 0 ons
+pub none_decoded : (d : Plan) (numbers codes : List ℕ) (ons : List OnAt) → ons ≡ []
+    → AreDecoded d numbers codes 0 ons
 none_decoded d numbers codes ons e = record { size = ap (λ (xs : List OnAt). length xs) e; each = λ k l. absurd (omega (arith, l)) }
 
-pub decoded_next : (d : Plan) (numbers codes : List ℕ) (n : ℕ) (ons new : List OnAt) (o : OnAt) → new ≡ ons ++ o ∷ []
+pub decoded_next : (d : Plan) (numbers codes : List ℕ) (n : ℕ) (ons new : List OnAt) (o : OnAt)
+    → new ≡ ons ++ o ∷ []
     → IsDecoded d numbers (get_or codes n 0) o → AreDecoded d numbers codes n ons → AreDecoded d numbers codes (n + 1) new
 decoded_next d numbers codes n ons new o e is h = subst (λ (xs : List OnAt). AreDecoded d numbers codes (n + 1) xs) (sym e) (record { size = (let s = h.size in let t = length-append ons (o ∷ []) in omega (arith, s, t)); each = λ k l. elim (cases_lt k n) [ inl a ↦ old k a | inr b ↦ last k (omega (arith, l, b)) ] })
   where
@@ -100,11 +106,14 @@ decoded_next d numbers codes n ons new o e is h = subst (λ (xs : List OnAt). Ar
     last k q = subst (λ (i : ℕ). IsDecoded d numbers (get_or codes i 0) (get_or (ons ++ o ∷ []) i no_on)) (sym q)
         (subst (λ (p : OnAt). IsDecoded d numbers (get_or codes n 0) p) (sym (ap (λ (i : ℕ). get_or (ons ++ o ∷ []) i no_on) (sym h.size) ∙ get_or-append_seam ons o [] no_on)) is)
 
-pub all_decoded : (d : Plan) (numbers codes : List ℕ) (n : ℕ) (ons : List OnAt) → length codes ≤ n → n ≤ length codes → AreDecoded d numbers codes n ons → AreDecoded d numbers codes (length codes) ons
+pub all_decoded : (d : Plan) (numbers codes : List ℕ) (n : ℕ) (ons : List OnAt) → length codes ≤ n
+    → n ≤ length codes → AreDecoded d numbers codes n ons
+    → AreDecoded d numbers codes (length codes) ons
 all_decoded d numbers codes n ons a b h = let e : n ≡ length codes = omega (arith, a, b) in subst (λ (k : ℕ). AreDecoded d numbers codes k ons) e h
 
 -- ---- all of it, with the lists as they are lent
-pub lent_pairs_on : (d : Plan) (marks : List Bool) (numbers one two codes : List ℕ) (l : PairList) (ons : List OnAt) → length marks ≡ length d.curves → one ≡ numbers → two ≡ numbers → codes ≡ l.codes.items
+pub lent_pairs_on : (d : Plan) (marks : List Bool) (numbers one two codes : List ℕ) (l : PairList) (ons : List OnAt)
+    → length marks ≡ length d.curves → one ≡ numbers → two ≡ numbers → codes ≡ l.codes.items
     → AreMarkedTo marks true (length marks) numbers → IsPairList (IsPointOnCurve d one) (length d.points + length one) l → length d.points + length one < 2 ^ 32 → l.whole ≡ true
     → AreDecoded d two codes (length codes) ons → ArePairsOn d marks ons
 lent_pairs_on d marks numbers one two codes l ons size e f g a list few whole decoded =

@@ -1,5 +1,7 @@
 -- Curves that are set aside: half arcs, or those without which the last level settles the drawing of the others.
-use Rattle.std.proofs.Common.{◌≡◌, ◌⊎◌, inl, inr, ℕ, ◌<◌, ◌≤◌, Bool, true, false, Option, Some, None, List, length, slice_index, get_or, arith, refl, ap, sym, ◌∙◌, subst, All}
+use Rattle.std.proofs.Common.{◌≡◌, ◌⊎◌, inl, inr, ℕ, ◌<◌, ◌≤◌, Bool, true, false, Option, Some}
+use Rattle.std.proofs.Common.{None, List, length, slice_index, get_or, arith, refl, ap, sym, ◌∙◌}
+use Rattle.std.proofs.Common.{subst, All}
 use Rattle.plane.specs.Rule.BadPairs.{AreBad, IsBadPair}
 use Rattle.plane.specs.Rule.Curves.{IsOn, arc}
 use Rattle.plane.specs.Rule.HalfArcs.{HasSide}
@@ -19,9 +21,11 @@ use Rattle.tubes.specs.Settled.{Breaks}
 use Rattle.area_search.specs.declared.points.OnCurve.{OnCurve}
 use Rattle.area_search.specs.declared.unsettled.rest.Rest.{Rest}
 use Rattle.area_search.specs.Answers.{HasNoBadPair}
-use Rattle.area_search.specs.Unsettled.CurvePoints.{AreNumbers, IsFirstOnCurve, IsLeastOf, LiesOnMarked, LiesOnStraight}
+use Rattle.area_search.specs.Unsettled.CurvePoints.{AreNumbers, IsFirstOnCurve, IsLeastOf}
+use Rattle.area_search.specs.Unsettled.CurvePoints.{LiesOnMarked, LiesOnStraight}
 use Rattle.area_search.specs.Faults.{LiesOn}
-use Rattle.area_search.specs.Unsettled.SetAside.{AreArcMarks, AreAside, AreCurvesAt, HasNoBreak, IsNumbered, IsRest}
+use Rattle.area_search.specs.Unsettled.SetAside.{AreArcMarks, AreAside, AreCurvesAt, HasNoBreak}
+use Rattle.area_search.specs.Unsettled.SetAside.{IsNumbered, IsRest}
 use Rattle.area_search.proofs.SettledLemmas.CaseEdges.{get_same}
 use Rattle.area_search.proofs.PlaneLaws.{no_curve}
 use Rattle.area_search.proofs.Small.{by_lt}
@@ -41,7 +45,8 @@ module _ (d : Plan) (marks : List Bool) (a : AreArcMarks d.curves (length d.curv
   on_unmarked : (j i : ℕ) → LiesOnStraight d j i → LiesOnMarked d marks false j i
   on_unmarked j i h = record { on = h.on; mark_is = a.straight i h.on.curve_there h.straight }
 
-  least_unmarked : (on : Option OnCurve) → IsLeastOf (LiesOnStraight d) on → IsLeastOf (LiesOnMarked d marks false) on
+  least_unmarked : (on : Option OnCurve) → IsLeastOf (LiesOnStraight d) on
+      → IsLeastOf (LiesOnMarked d marks false) on
   least_unmarked None f = λ j i h. f j i (on_straight j i h)
   least_unmarked (Some p) f = (on_unmarked p.point p.curve f.0, (λ j i h less. f.1 j i (on_straight j i h) less))
 
@@ -52,7 +57,8 @@ module _ (d : Plan) (marks : List Bool) (a : AreArcMarks d.curves (length d.curv
       by (inl h) = inl (a.half_arc i (let o = p.pair.order in let t = p.pair.there in omega (arith, o, t)) h)
       by (inr h) = inr (a.half_arc j p.pair.there h)
 
-  pub arcs_aside : ((i j : ℕ) → Breaks d 5 i j → IsHalfArc d i ⊎ IsHalfArc d j) → (on : Option OnCurve) → IsLeastOf (LiesOnStraight d) on → AreAside d marks on
+  pub arcs_aside : ((i j : ℕ) → Breaks d 5 i j → IsHalfArc d i ⊎ IsHalfArc d j)
+      → (on : Option OnCurve) → IsLeastOf (LiesOnStraight d) on → AreAside d marks on
   arcs_aside law on f = record {
     size = a.size;
     pairs = one_marked;
@@ -61,11 +67,16 @@ module _ (d : Plan) (marks : List Bool) (a : AreArcMarks d.curves (length d.curv
   }
 
 -- ---- the curves that are left
-pub left_are : (all lent curves : List Curve) (numbers lent_numbers : List ℕ) → lent ≡ all → lent_numbers ≡ numbers → AreCurvesAt lent lent_numbers (length lent_numbers) curves → AreCurvesAt all numbers (length numbers) curves
+pub left_are : (all lent curves : List Curve) (numbers lent_numbers : List ℕ) → lent ≡ all
+    → lent_numbers ≡ numbers → AreCurvesAt lent lent_numbers (length lent_numbers) curves
+    → AreCurvesAt all numbers (length numbers) curves
 left_are all lent curves numbers lent_numbers e f are =
     subst (λ (ns : List ℕ). AreCurvesAt all ns (length ns) curves) f (subst (λ (cs : List Curve). AreCurvesAt cs lent_numbers (length lent_numbers) curves) e are)
 
-pub left_drawn : (low high : Point) (all lent curves : List Curve) (numbers lent_numbers : List ℕ) → lent ≡ all → lent_numbers ≡ numbers → AreNumbers (length all) numbers → AreCurvesAt lent lent_numbers (length lent_numbers) curves → All (λ (c : Curve). IsDrawn low high c) all
+pub left_drawn : (low high : Point) (all lent curves : List Curve) (numbers lent_numbers : List ℕ)
+    → lent ≡ all → lent_numbers ≡ numbers → AreNumbers (length all) numbers
+    → AreCurvesAt lent lent_numbers (length lent_numbers) curves
+    → All (λ (c : Curve). IsDrawn low high c) all
     → All (λ (c : Curve). IsDrawn low high c) curves
 left_drawn low high all lent curves numbers lent_numbers e f known are drawn k x l =
     let at : AreCurvesAt all numbers (length numbers) curves = left_are all lent curves numbers lent_numbers e f are in
@@ -101,7 +112,8 @@ module _ (d : Plan) (marks : List Bool) (points : List Placed) (r : Rest) (is : 
         curve_is = ap (curve d) (sym w.2) ∙ sym (same w.0 w.1);
       }
 
-  in_order : (a b : ℕ) → a < length r.numbers.items → b < length r.numbers.items → number a < number b → a < b
+  in_order : (a b : ℕ) → a < length r.numbers.items → b < length r.numbers.items
+      → number a < number b → a < b
   in_order a b la lb l =
       by_lt a b (λ (x : a < b). x)
       (λ (x : b ≤ a). absurd (by_lt b a (λ (y : b < a). let w = is.numbers.rising b a y la in omega (arith, w, l)) (λ (y : a ≤ b). let w = ap number (both x y) in omega (arith, w, l))))
@@ -110,7 +122,8 @@ module _ (d : Plan) (marks : List Bool) (points : List Placed) (r : Rest) (is : 
       both x y = omega (arith, x, y)
 
   -- ---- pairs
-  no_bad : HasNoBadPair e → (i j : ℕ) → IsBadPair d i j → mark_of marks i ≡ false → mark_of marks j ≡ false → ⊥
+  no_bad : HasNoBadPair e → (i j : ℕ) → IsBadPair d i j → mark_of marks i ≡ false
+      → mark_of marks j ≡ false → ⊥
   no_bad none i j p u v =
       let o = p.order in
       let t = p.there in
@@ -124,7 +137,8 @@ module _ (d : Plan) (marks : List Bool) (points : List Placed) (r : Rest) (is : 
         bad = subst (λ (c : Curve). AreBad c (curve e y.a)) x.curve_is (subst (λ (c : Curve). AreBad (curve d i) c) y.curve_is p.bad);
       })
 
-  pub no_break : ((i j a b : ℕ) → a < length e.curves → b < length e.curves → curve d i ≡ curve e a → curve d j ≡ curve e b → (i ≡ j → ⊥) → (a ≡ b → ⊥) → Breaks d 5 i j → Breaks e 5 a b) → HasNoBreak e
+  pub no_break : ((i j a b : ℕ) → a < length e.curves → b < length e.curves → curve d i ≡ curve e a → curve d j ≡ curve e b → (i ≡ j → ⊥) → (a ≡ b → ⊥) → Breaks d 5 i j → Breaks e 5 a b)
+      → HasNoBreak e
       → (i j : ℕ) → i < j → j < length d.curves → Breaks d 5 i j → mark_of marks i ≡ false → mark_of marks j ≡ false → ⊥
   no_break law none i j o t h u v =
       let x = placed i (omega (arith, o, t)) u in
@@ -134,7 +148,8 @@ module _ (d : Plan) (marks : List Bool) (points : List Placed) (r : Rest) (is : 
       let l = in_order x.a y.a x.known y.known (omega (arith, ex, ey, o)) in
       none x.a y.a (law i j x.a y.a x.there y.there x.curve_is y.curve_is (λ q. omega (arith, q, o)) (λ q. omega (arith, q, l)) h)
 
-  one_of : (i j : ℕ) → (mark_of marks i ≡ false → mark_of marks j ≡ false → ⊥) → IsOneMarked marks i j
+  one_of : (i j : ℕ) → (mark_of marks i ≡ false → mark_of marks j ≡ false → ⊥)
+      → IsOneMarked marks i j
   one_of i j f = by (mark_of marks i) (mark_of marks j) refl refl
     where
       by : (x y : Bool) → mark_of marks i ≡ x → mark_of marks j ≡ y → IsOneMarked marks i j
@@ -174,11 +189,13 @@ module _ (d : Plan) (marks : List Bool) (points : List Placed) (r : Rest) (is : 
   pub on_known : (p : OnCurve) → IsFirstOnCurve e (Some p) → p.curve < length r.numbers.items
   on_known p f = let c = is.curves.size in let k = f.on.curve_there in omega (arith, c, k)
 
-  least_here : HasAllPoints → (on found : Option OnCurve) → IsFirstOnCurve e on → IsNumbered r.numbers.items on found → IsLeastOf (LiesOnMarked d marks false) found
+  least_here : HasAllPoints → (on found : Option OnCurve) → IsFirstOnCurve e on
+      → IsNumbered r.numbers.items on found → IsLeastOf (LiesOnMarked d marks false) found
   least_here all None found f q = subst (IsLeastOf (LiesOnMarked d marks false)) (sym q) (λ j i h. let x = placed i h.on.curve_there h.mark_is in f j x.a (lies_there all j i h.on x))
   least_here all (Some p) found f q = subst (IsLeastOf (LiesOnMarked d marks false)) (sym q) (lies_here all p.point p.curve f.on, not_less)
     where
-      not_less : (j i : ℕ) → LiesOnMarked d marks false j i → IsLess j i p.point (number p.curve) → ⊥
+      not_less : (j i : ℕ) → LiesOnMarked d marks false j i → IsLess j i p.point (number p.curve)
+          → ⊥
       not_less j i h (inl l) = let x = placed i h.on.curve_there h.mark_is in f.no_point j x.a l (lies_there all j i h.on x)
       not_less j i h (inr (q, l)) =
           let x = placed i h.on.curve_there h.mark_is in

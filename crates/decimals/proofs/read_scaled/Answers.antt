@@ -1,8 +1,10 @@
-use Rattle.std.proofs.Common.{rules, ◌≡◌, Ok, Err, sym, ◌∙◌, ap, ℤ, FitsSigned, to_z, of_z, w64, to_z-of_z}
+use Rattle.std.proofs.Common.{rules, ◌≡◌, Ok, Err, sym, ◌∙◌, ap, ℤ, FitsSigned, to_z, of_z, w64}
+use Rattle.std.proofs.Common.{to_z-of_z}
 use Rattle.decimals.specs.Scaled.{unsigned_of, scaled_of, with_sign}
 use Rattle.decimals.specs.Numerals.{sign_of, after_sign}
 use Rattle.decimals.proofs.Signs.{scaled_fault, scaled_value, signed_is}
-use Rattle.decimals.proofs.Laws.{value_exactly, not_number_exactly, too_long_exactly, more_decimals_exactly}
+use Rattle.decimals.proofs.Laws.{value_exactly, not_number_exactly, too_long_exactly}
+use Rattle.decimals.proofs.Laws.{more_decimals_exactly}
 use Rattle.decimals.proofs.read_scaled.Goals as goal
 
 pub returns-in_err-magnitude : goal.returns-in_err-magnitude

@@ -1,8 +1,10 @@
 -- Polynomial identities over the whole numbers, decided by computing: an expression is brought to Horner form, and one
 -- whose form has no coefficient but 0 is 0 at every value of its variables.
-use Rattle.std.proofs.Common.{◌≡◌, ℕ, zero, suc, ℤ, pos, negsuc, ◌+ℤ◌, ◌*ℤ◌, ◌-ℤ◌, ap, sym, ◌∙◌, arith, refl, Bool, true, false, ◌&&◌, IsTrue, List, [], ◌∷◌}
+use Rattle.std.proofs.Common.{◌≡◌, ℕ, zero, suc, ℤ, pos, negsuc, ◌+ℤ◌, ◌*ℤ◌, ◌-ℤ◌, ap, sym, ◌∙◌}
+use Rattle.std.proofs.Common.{arith, refl, Bool, true, false, ◌&&◌, IsTrue, List, [], ◌∷◌}
 use Rattle.std.proofs.lemmas.Int.{ints}
-use Rattle.plane.proofs.Algebra.Laws.{product_assoc, product_comm, product-sum, sum-product, minus_one-product, zero-product}
+use Rattle.plane.proofs.Algebra.Laws.{product_assoc, product_comm, product-sum, sum-product}
+use Rattle.plane.proofs.Algebra.Laws.{minus_one-product, zero-product}
 
 -- ---- expressions
 pub data Expr : Type 0 where
@@ -125,7 +127,9 @@ shift-value (con (negsuc n)) e = omega (arith, ints)
 shift-value (hor p q) e = omega (arith, ints)
 
 -- the product of a form over the later variables and t
-lift-value : (f : Form → Form) (c : ℤ) (e : ℕ → ℤ) (t : Form) → ((u : Form) → at_form (f u) (λ n. e (suc n)) ≡ c *ℤ at_form u (λ n. e (suc n))) → at_form (lift f t) e ≡ c *ℤ at_form t e
+lift-value : (f : Form → Form) (c : ℤ) (e : ℕ → ℤ) (t : Form)
+    → ((u : Form) → at_form (f u) (λ n. e (suc n)) ≡ c *ℤ at_form u (λ n. e (suc n)))
+    → at_form (lift f t) e ≡ c *ℤ at_form t e
 lift-value f c e (con d) h = let k = h (con d) in omega (arith, ints, k)
 lift-value f c e (hor r s) h =
     let x = e 0 in

@@ -1,5 +1,6 @@
 -- Sums over all numbers below a bound and over lists without repeats.
-use Rattle.std.proofs.Common.{◌≡◌, ℕ, zero, suc, ◌<◌, Bool, cond, eqb, List, [], ◌∷◌, ℤ, pos, ◌+ℤ◌, inl, inr, refl, arith, ap, sym, ◌∙◌, subst}
+use Rattle.std.proofs.Common.{◌≡◌, ℕ, zero, suc, ◌<◌, Bool, cond, eqb, List, [], ◌∷◌, ℤ, pos, ◌+ℤ◌}
+use Rattle.std.proofs.Common.{inl, inr, refl, arith, ap, sym, ◌∙◌, subst}
 use Rattle.std.proofs.lemmas.Int.{ints}
 use Rattle.std.proofs.lemmas.Bool.Decides.{eqb_tells}
 use Rattle.plane.specs.Lists.{Has, Once}
@@ -26,7 +27,8 @@ without_other x e g h = elim (eqb_tells e x) [
   | inr k ↦ ap (λ (t : Bool). cond t (pos 0) (g e)) k.0
 ]
 
-below_same : (m : ℕ) (g h : ℕ → ℤ) → ((e : ℕ) → e < m → g e ≡ h e) → total_below m g ≡ total_below m h
+below_same : (m : ℕ) (g h : ℕ → ℤ) → ((e : ℕ) → e < m → g e ≡ h e)
+    → total_below m g ≡ total_below m h
 below_same zero g h f = refl
 below_same (suc m) g h f =
     let i = below_same m g h (λ e l. f e (omega arith)) in
@@ -53,7 +55,8 @@ below_take (suc m) x g l = by_last x m l
     let h = ap g k in
     omega (arith, ints, z, s, h))
 
-pub total_same : (g h : ℕ → ℤ) (xs : List ℕ) → ((e : ℕ) → Has e xs → g e ≡ h e) → total g xs ≡ total h xs
+pub total_same : (g h : ℕ → ℤ) (xs : List ℕ) → ((e : ℕ) → Has e xs → g e ≡ h e)
+    → total g xs ≡ total h xs
 total_same g h [] f = refl
 total_same g h (x ∷ xs) f =
     let i = total_same g h xs (λ e k. f e (inr k)) in
@@ -61,7 +64,8 @@ total_same g h (x ∷ xs) f =
     omega (arith, ints, i, k)
 
 -- values that are 0 but at the elements of the list
-pub total_once : (m : ℕ) (g : ℕ → ℤ) (xs : List ℕ) → Once xs → ((e : ℕ) → Has e xs → e < m) → ((e : ℕ) → e < m → (Has e xs → ⊥) → g e ≡ pos 0) → total_below m g ≡ total g xs
+pub total_once : (m : ℕ) (g : ℕ → ℤ) (xs : List ℕ) → Once xs → ((e : ℕ) → Has e xs → e < m)
+    → ((e : ℕ) → e < m → (Has e xs → ⊥) → g e ≡ pos 0) → total_below m g ≡ total g xs
 total_once m g [] once fits none = below_none m g (λ e l. none e l (λ h. h))
 total_once m g (x ∷ xs) once fits none =
     let t = below_take m x g (fits x (inl refl)) in

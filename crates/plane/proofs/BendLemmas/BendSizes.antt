@@ -1,7 +1,8 @@
 -- How far a bend lies from its straight, with the roundings.
 use Rattle.std.proofs.Common.{◌≡◌, ℤ, pos, ◌+ℤ◌, ◌*ℤ◌, ◌-ℤ◌, ◌<ℤ◌, ◌≤ℤ◌, [], ◌∷◌, refl, arith}
 use Rattle.std.proofs.lemmas.Int.{ints, by_lt_z}
-use Rattle.plane.proofs.Algebra.Laws.{product_positive, product_nonnegative, square_nonnegative, product_comm}
+use Rattle.plane.proofs.Algebra.Laws.{product_positive, product_nonnegative, square_nonnegative}
+use Rattle.plane.proofs.Algebra.Laws.{product_comm}
 use Rattle.plane.proofs.Algebra.Scaling.{times_le, times_lt, cancel_le}
 use Rattle.plane.proofs.Algebra.Ring.{at, num, plus, minus, times, vars, ring}
 
@@ -26,7 +27,8 @@ abbrev pub length2 : ℤ → ℤ → ℤ
 length2 x y = (x *ℤ x) +ℤ (y *ℤ y)
 
 -- the square of either is at most twice that of the way times h
-rest_most : (x y a b h : ℤ) → pos 0 ≤ℤ a → a <ℤ h → pos 0 ≤ℤ b → b <ℤ h → (length2 x y *ℤ ((a *ℤ a) +ℤ (b *ℤ b))) ≤ℤ (pos 2 *ℤ (length2 x y *ℤ (h *ℤ h)))
+rest_most : (x y a b h : ℤ) → pos 0 ≤ℤ a → a <ℤ h → pos 0 ≤ℤ b → b <ℤ h
+    → (length2 x y *ℤ ((a *ℤ a) +ℤ (b *ℤ b))) ≤ℤ (pos 2 *ℤ (length2 x y *ℤ (h *ℤ h)))
 rest_most x y a b h ha ka hb kb =
     let sx = square_nonnegative x in
     let sy = square_nonnegative y in

@@ -1,18 +1,21 @@
 -- A bend lies beside its straight, and so do the parts that it makes.
-use Rattle.std.proofs.Common.{◌≡◌, Bool, true, false, ℤ, pos, negsuc, ◌+ℤ◌, ◌*ℤ◌, ◌-ℤ◌, ◌<ℤ◌, ◌≤ℤ◌, [], ◌∷◌, refl, arith, ap, sym, ◌∙◌}
+use Rattle.std.proofs.Common.{◌≡◌, Bool, true, false, ℤ, pos, negsuc, ◌+ℤ◌, ◌*ℤ◌, ◌-ℤ◌, ◌<ℤ◌, ◌≤ℤ◌}
+use Rattle.std.proofs.Common.{[], ◌∷◌, refl, arith, ap, sym, ◌∙◌}
 use Rattle.std.proofs.lemmas.Int.{ints}
 use Rattle.plane.specs.declared.kinds.Point.{Point}
 use Rattle.plane.specs.Forms.Vectors.{Vector, Place, Same, point, mix}
 use Rattle.plane.specs.Rule.Straights.{IsOnStraight, turn, dot}
 use Rattle.plane.specs.Rule.Turns.{cross}
 use Rattle.plane.specs.Forms.Bends.{IsBend, IsBeside, IsClose, square, aside_x, aside_y, ahead, off}
-use Rattle.plane.proofs.Algebra.Laws.{product_positive, product_nonnegative, square_nonnegative, product_comm, positive_factor}
+use Rattle.plane.proofs.Algebra.Laws.{product_positive, product_nonnegative, square_nonnegative}
+use Rattle.plane.proofs.Algebra.Laws.{product_comm, positive_factor}
 use Rattle.plane.proofs.Algebra.Scaling.{times_le, cancel_le, cancel_lt}
 use Rattle.plane.proofs.ListLemmas.Points.{point_eq}
 use Rattle.plane.proofs.Linear.Signs.{by_sign}
 use Rattle.plane.proofs.Linear.Straights.{straight_between}
 use Rattle.plane.proofs.Algebra.Ring.{Expr, at, num, plus, minus, times, vars, ring}
-use Rattle.plane.proofs.BendLemmas.BendSizes.{square_most, square_least, turned_most, dotted_most, v_positive, twice_most, twice_least, bound}
+use Rattle.plane.proofs.BendLemmas.BendSizes.{square_most, square_least, turned_most, dotted_most}
+use Rattle.plane.proofs.BendLemmas.BendSizes.{v_positive, twice_most, twice_least, bound}
 
 -- the side to which a bend is turned
 abbrev sign : Bool → ℤ
@@ -39,7 +42,8 @@ RX_RIGHT = minus (plus (times (times (num (pos 8)) (at 0)) (at 1)) (times (minus
 abbrev RY_RIGHT : Expr
 RY_RIGHT = minus (plus (times (times (num (pos 8)) (at 0)) (at 2)) (times (minus (at 0) (num (pos 2))) (minus (num (pos 0)) (at 1)))) (times (at 3) (at 5))
 
-is_turned : (left : Bool) (d h : ℤ) (p q b : Point) → h *ℤ cross p q b ≡ ((d -ℤ pos 2) *ℤ (sign left *ℤ square p q)) +ℤ (negsuc 0 *ℤ (((q.x -ℤ p.x) *ℤ left_y left d h p q b) -ℤ ((q.y -ℤ p.y) *ℤ left_x left d h p q b)))
+is_turned : (left : Bool) (d h : ℤ) (p q b : Point)
+    → h *ℤ cross p q b ≡ ((d -ℤ pos 2) *ℤ (sign left *ℤ square p q)) +ℤ (negsuc 0 *ℤ (((q.x -ℤ p.x) *ℤ left_y left d h p q b) -ℤ ((q.y -ℤ p.y) *ℤ left_x left d h p q b)))
 is_turned true d h p q b =
     let X = at 1 in let Y = at 2 in
     ring (times (at 3) (minus (times X (at 5)) (times Y (at 4)))) (plus (times (minus (at 0) (num (pos 2))) (times (num (pos 1)) (plus (times X X) (times Y Y)))) (times (num (negsuc 0)) (minus (times X RY_LEFT) (times Y RX_LEFT))))
@@ -49,7 +53,8 @@ is_turned false d h p q b =
     ring (times (at 3) (minus (times X (at 5)) (times Y (at 4)))) (plus (times (minus (at 0) (num (pos 2))) (times (num (negsuc 0)) (plus (times X X) (times Y Y)))) (times (num (negsuc 0)) (minus (times X RY_RIGHT) (times Y RX_RIGHT))))
     (vars (d ∷ (q.x -ℤ p.x) ∷ (q.y -ℤ p.y) ∷ h ∷ (b.x -ℤ p.x) ∷ (b.y -ℤ p.y) ∷ [])) refl
 
-is_along : (left : Bool) (d h : ℤ) (p q b : Point) → h *ℤ (((q.x -ℤ p.x) *ℤ (b.x -ℤ p.x)) +ℤ ((q.y -ℤ p.y) *ℤ (b.y -ℤ p.y))) ≡ ((pos 8 *ℤ d) *ℤ square p q) -ℤ (((q.x -ℤ p.x) *ℤ left_x left d h p q b) +ℤ ((q.y -ℤ p.y) *ℤ left_y left d h p q b))
+is_along : (left : Bool) (d h : ℤ) (p q b : Point)
+    → h *ℤ (((q.x -ℤ p.x) *ℤ (b.x -ℤ p.x)) +ℤ ((q.y -ℤ p.y) *ℤ (b.y -ℤ p.y))) ≡ ((pos 8 *ℤ d) *ℤ square p q) -ℤ (((q.x -ℤ p.x) *ℤ left_x left d h p q b) +ℤ ((q.y -ℤ p.y) *ℤ left_y left d h p q b))
 is_along true d h p q b =
     let X = at 1 in let Y = at 2 in
     ring (times (at 3) (plus (times X (at 4)) (times Y (at 5)))) (minus (times (times (num (pos 8)) (at 0)) (plus (times X X) (times Y Y))) (plus (times X RX_LEFT) (times Y RY_LEFT)))
@@ -243,7 +248,8 @@ beside_back d p q z is =
       near = omega (arith, ints, o, n, g);
     }
 
-pub parted : (d : ℤ) (left right : Bool) (p q b c : Point) → IsBend d left p q b → IsBend d right q p c → ahead p q (point b) <ℤ ahead p q (point c)
+pub parted : (d : ℤ) (left right : Bool) (p q b c : Point) → IsBend d left p q b
+    → IsBend d right q p c → ahead p q (point b) <ℤ ahead p q (point c)
 parted d left right p q b c ib ic =
     let h = half d left p q b ib in
     let k = half d right q p c ic in
@@ -286,14 +292,16 @@ module _ (d : ℤ) (p q : Point) (least : pos 0 ≤ℤ d) where
   abbrev K : ℤ
   K = (d *ℤ d) *ℤ square p q
 
-  ahead-mix : (s : ℤ) (a : Vector) (t : ℤ) (b : Vector) → ahead p q (mix s a t b) ≡ (s *ℤ ahead p q a) +ℤ (t *ℤ ahead p q b)
+  ahead-mix : (s : ℤ) (a : Vector) (t : ℤ) (b : Vector)
+      → ahead p q (mix s a t b) ≡ (s *ℤ ahead p q a) +ℤ (t *ℤ ahead p q b)
   ahead-mix s a t b =
       let F : Expr → Expr → Expr → Expr = λ u v n. plus (times (at 2) (minus u (times (at 4) n))) (times (at 3) (minus v (times (at 5) n))) in
       let M : Expr → Expr → Expr = λ u v. plus (times (at 0) u) (times (at 1) v) in
       ring (F (M (at 6) (at 9)) (M (at 7) (at 10)) (M (at 8) (at 11))) (M (F (at 6) (at 7) (at 8)) (F (at 9) (at 10) (at 11)))
       (vars (s ∷ t ∷ x2 ∷ y2 ∷ p.x ∷ p.y ∷ a.x ∷ a.y ∷ a.n ∷ b.x ∷ b.y ∷ b.n ∷ [])) refl
 
-  off-mix : (s : ℤ) (a : Vector) (t : ℤ) (b : Vector) → off p q (mix s a t b) ≡ (s *ℤ off p q a) +ℤ (t *ℤ off p q b)
+  off-mix : (s : ℤ) (a : Vector) (t : ℤ) (b : Vector)
+      → off p q (mix s a t b) ≡ (s *ℤ off p q a) +ℤ (t *ℤ off p q b)
   off-mix s a t b =
       let F : Expr → Expr → Expr → Expr = λ u v n. minus (times (at 2) (minus v (times (at 5) n))) (times (at 3) (minus u (times (at 4) n))) in
       let M : Expr → Expr → Expr = λ u v. plus (times (at 0) u) (times (at 1) v) in
@@ -301,7 +309,9 @@ module _ (d : ℤ) (p q : Point) (least : pos 0 ≤ℤ d) where
       (vars (s ∷ t ∷ x2 ∷ y2 ∷ p.x ∷ p.y ∷ a.x ∷ a.y ∷ a.n ∷ b.x ∷ b.y ∷ b.n ∷ [])) refl
 
   -- two heights that are each at most c times a width: so is their product
-  both_most : (c o1 n1 o2 n2 : ℤ) → pos 0 ≤ℤ c → pos 0 ≤ℤ n1 → pos 0 ≤ℤ n2 → (o1 *ℤ o1) ≤ℤ (c *ℤ (n1 *ℤ n1)) → (o2 *ℤ o2) ≤ℤ (c *ℤ (n2 *ℤ n2)) → (o1 *ℤ o2) ≤ℤ (c *ℤ (n1 *ℤ n2))
+  both_most : (c o1 n1 o2 n2 : ℤ) → pos 0 ≤ℤ c → pos 0 ≤ℤ n1 → pos 0 ≤ℤ n2
+      → (o1 *ℤ o1) ≤ℤ (c *ℤ (n1 *ℤ n1)) → (o2 *ℤ o2) ≤ℤ (c *ℤ (n2 *ℤ n2))
+      → (o1 *ℤ o2) ≤ℤ (c *ℤ (n1 *ℤ n2))
   both_most c o1 n1 o2 n2 hc h1 h2 k1 k2 =
       let nn = product_nonnegative n1 n2 h1 h2 in
       let low = product_nonnegative c (n1 *ℤ n2) hc nn in
@@ -314,7 +324,8 @@ module _ (d : ℤ) (p q : Point) (least : pos 0 ≤ℤ d) where
       let e3 : (c *ℤ (n1 *ℤ n1)) *ℤ (c *ℤ (n2 *ℤ n2)) ≡ (c *ℤ (n1 *ℤ n2)) *ℤ (c *ℤ (n1 *ℤ n2)) = ring (times (times (at 0) (times (at 1) (at 1))) (times (at 0) (times (at 2) (at 2)))) (times (times (at 0) (times (at 1) (at 2))) (times (at 0) (times (at 1) (at 2)))) (vars (c ∷ n1 ∷ n2 ∷ [])) refl in
       square_most (o1 *ℤ o2) (c *ℤ (n1 *ℤ n2)) low (omega (arith, ints, a, b, e1, e2, e3))
 
-  mix_most : (c s o1 n1 t o2 n2 : ℤ) → pos 0 ≤ℤ c → pos 0 ≤ℤ s → pos 0 ≤ℤ t → pos 0 ≤ℤ n1 → pos 0 ≤ℤ n2 → (o1 *ℤ o1) ≤ℤ (c *ℤ (n1 *ℤ n1)) → (o2 *ℤ o2) ≤ℤ (c *ℤ (n2 *ℤ n2))
+  mix_most : (c s o1 n1 t o2 n2 : ℤ) → pos 0 ≤ℤ c → pos 0 ≤ℤ s → pos 0 ≤ℤ t → pos 0 ≤ℤ n1
+      → pos 0 ≤ℤ n2 → (o1 *ℤ o1) ≤ℤ (c *ℤ (n1 *ℤ n1)) → (o2 *ℤ o2) ≤ℤ (c *ℤ (n2 *ℤ n2))
       → (((s *ℤ o1) +ℤ (t *ℤ o2)) *ℤ ((s *ℤ o1) +ℤ (t *ℤ o2))) ≤ℤ (c *ℤ (((s *ℤ n1) +ℤ (t *ℤ n2)) *ℤ ((s *ℤ n1) +ℤ (t *ℤ n2))))
   mix_most c s o1 n1 t o2 n2 hc hs ht h1 h2 k1 k2 =
       let m = both_most c o1 n1 o2 n2 hc h1 h2 k1 k2 in
@@ -329,7 +340,8 @@ module _ (d : ℤ) (p q : Point) (least : pos 0 ≤ℤ d) where
       ring (times C (times (plus (times S U) (times T V)) (plus (times S U) (times T V)))) (plus (times (times S S) (times C (times U U))) (plus (times two (times (times S T) (times C (times U V)))) (times (times T T) (times C (times V V))))) (vars (s ∷ t ∷ n1 ∷ n2 ∷ c ∷ [])) refl in
       omega (arith, ints, a, b, g, e1, e2)
 
-  beside_mix : (s : ℤ) (a : Vector) (t : ℤ) (b : Vector) → pos 0 ≤ℤ s → pos 0 ≤ℤ t → Place a → Place b → IsBeside d p q a → IsBeside d p q b → IsBeside d p q (mix s a t b)
+  beside_mix : (s : ℤ) (a : Vector) (t : ℤ) (b : Vector) → pos 0 ≤ℤ s → pos 0 ≤ℤ t → Place a
+      → Place b → IsBeside d p q a → IsBeside d p q b → IsBeside d p q (mix s a t b)
   beside_mix s a t b hs ht A B ia ib =
       let e = ahead-mix s a t b in
       let f = off-mix s a t b in
@@ -394,7 +406,8 @@ module _ (d : ℤ) (p q : Point) (least : pos 0 ≤ℤ d) where
         near = cancel_le (m.n *ℤ m.n) (off p q z *ℤ off p q z) (K *ℤ (z.n *ℤ z.n)) mm (omega (arith, ints, w, sq, q1, q2, k));
       }
 
-  pub beside_between : (a b z : Vector) → Place a → Place b → Place z → IsBeside d p q a → IsBeside d p q b → IsOnStraight a b z → IsBeside d p q z
+  pub beside_between : (a b z : Vector) → Place a → Place b → Place z → IsBeside d p q a
+      → IsBeside d p q b → IsOnStraight a b z → IsBeside d p q z
   beside_between a b z A B Z ia ib on =
       let w = straight_between a b z A B Z on in
       let M = weighed w.s w.t w.s_least w.t_least w.some in
@@ -544,5 +557,6 @@ start_differs d left p q b is e = first_part (ahead p q (point p)) (ahead p q (p
 pub end_differs : (d : ℤ) (left : Bool) (p q b : Point) → IsBend d left p q b → b ≡ q → ⊥
 end_differs d left p q b is e = last_part (ahead p q (point q)) (square p q) (ahead p q (point b)) (ahead-last p q) (ap (λ (v : Point). ahead p q (point v)) e) (begun d left p q b is) (half d left p q b is)
 
-pub bends_differ : (d : ℤ) (left right : Bool) (p q b c : Point) → IsBend d left p q b → IsBend d right q p c → b ≡ c → ⊥
+pub bends_differ : (d : ℤ) (left right : Bool) (p q b c : Point) → IsBend d left p q b
+    → IsBend d right q p c → b ≡ c → ⊥
 bends_differ d left right p q b c ib ic e = middle_part (ahead p q (point b)) (ahead p q (point c)) (ap (λ (v : Point). ahead p q (point v)) e) (parted d left right p q b c ib ic)

@@ -1,5 +1,6 @@
 -- Three corners that rise along x, and the triangle that they make.
-use Rattle.std.proofs.Common.{◌≡◌, ℤ, pos, ◌+ℤ◌, ◌*ℤ◌, ◌-ℤ◌, ◌<ℤ◌, ◌≤ℤ◌, [], ◌∷◌, refl, arith, ap, ◌∙◌, sym}
+use Rattle.std.proofs.Common.{◌≡◌, ℤ, pos, ◌+ℤ◌, ◌*ℤ◌, ◌-ℤ◌, ◌<ℤ◌, ◌≤ℤ◌, [], ◌∷◌, refl, arith, ap}
+use Rattle.std.proofs.Common.{◌∙◌, sym}
 use Rattle.std.proofs.lemmas.Int.{ints}
 use Rattle.plane.specs.declared.kinds.Point.{Point}
 use Rattle.plane.specs.Forms.Vectors.{Vector, Place, point, side}
@@ -13,7 +14,8 @@ abbrev pub SIDE : Expr → Expr → Expr → Expr → Expr → Expr → Expr →
 SIDE lx ly hx hy x y n = minus (times (minus hx lx) (minus y (times ly n))) (times (minus hy ly) (minus x (times lx n)))
 
 -- the lines of two neighbouring sides
-corner-turn : (p m q : Point) (z : Vector) → (m.x -ℤ p.x) *ℤ side (line m q) z ≡ ((q.x -ℤ m.x) *ℤ side (line p m) z) +ℤ (side (line p q) (point m) *ℤ (z.x -ℤ (m.x *ℤ z.n)))
+corner-turn : (p m q : Point) (z : Vector)
+    → (m.x -ℤ p.x) *ℤ side (line m q) z ≡ ((q.x -ℤ m.x) *ℤ side (line p m) z) +ℤ (side (line p q) (point m) *ℤ (z.x -ℤ (m.x *ℤ z.n)))
 unfolding side
 corner-turn p m q z =
     let PX = at 0 in let PY = at 1 in let MX = at 2 in let MY = at 3 in let QX = at 4 in let QY = at 5 in
@@ -22,7 +24,8 @@ corner-turn p m q z =
     (vars (p.x ∷ p.y ∷ m.x ∷ m.y ∷ q.x ∷ q.y ∷ z.x ∷ z.y ∷ z.n ∷ [])) refl
 
 -- the three sides give the weights
-weights_x : (p m q : Point) (z : Vector) → ((((pos 0 -ℤ side (line m q) z) *ℤ p.x) +ℤ (side (line p q) z *ℤ m.x)) +ℤ ((pos 0 -ℤ side (line p m) z) *ℤ q.x)) ≡ side (line p q) (point m) *ℤ z.x
+weights_x : (p m q : Point) (z : Vector)
+    → ((((pos 0 -ℤ side (line m q) z) *ℤ p.x) +ℤ (side (line p q) z *ℤ m.x)) +ℤ ((pos 0 -ℤ side (line p m) z) *ℤ q.x)) ≡ side (line p q) (point m) *ℤ z.x
 unfolding side
 weights_x p m q z =
     let PX = at 0 in let PY = at 1 in let MX = at 2 in let MY = at 3 in let QX = at 4 in let QY = at 5 in
@@ -31,7 +34,8 @@ weights_x p m q z =
     ring (plus (plus (times (neg (SIDE MX MY QX QY X Y N)) PX) (times (SIDE PX PY QX QY X Y N) MX)) (times (neg (SIDE PX PY MX MY X Y N)) QX)) (times (SIDE PX PY QX QY MX MY (num (pos 1))) X)
     (vars (p.x ∷ p.y ∷ m.x ∷ m.y ∷ q.x ∷ q.y ∷ z.x ∷ z.y ∷ z.n ∷ [])) refl
 
-weights_y : (p m q : Point) (z : Vector) → ((((pos 0 -ℤ side (line m q) z) *ℤ p.y) +ℤ (side (line p q) z *ℤ m.y)) +ℤ ((pos 0 -ℤ side (line p m) z) *ℤ q.y)) ≡ side (line p q) (point m) *ℤ z.y
+weights_y : (p m q : Point) (z : Vector)
+    → ((((pos 0 -ℤ side (line m q) z) *ℤ p.y) +ℤ (side (line p q) z *ℤ m.y)) +ℤ ((pos 0 -ℤ side (line p m) z) *ℤ q.y)) ≡ side (line p q) (point m) *ℤ z.y
 unfolding side
 weights_y p m q z =
     let PX = at 0 in let PY = at 1 in let MX = at 2 in let MY = at 3 in let QX = at 4 in let QY = at 5 in
@@ -40,7 +44,8 @@ weights_y p m q z =
     ring (plus (plus (times (neg (SIDE MX MY QX QY X Y N)) PY) (times (SIDE PX PY QX QY X Y N) MY)) (times (neg (SIDE PX PY MX MY X Y N)) QY)) (times (SIDE PX PY QX QY MX MY (num (pos 1))) Y)
     (vars (p.x ∷ p.y ∷ m.x ∷ m.y ∷ q.x ∷ q.y ∷ z.x ∷ z.y ∷ z.n ∷ [])) refl
 
-weights_n : (p m q : Point) (z : Vector) → (((pos 0 -ℤ side (line m q) z) +ℤ side (line p q) z) +ℤ (pos 0 -ℤ side (line p m) z)) ≡ side (line p q) (point m) *ℤ z.n
+weights_n : (p m q : Point) (z : Vector)
+    → (((pos 0 -ℤ side (line m q) z) +ℤ side (line p q) z) +ℤ (pos 0 -ℤ side (line p m) z)) ≡ side (line p q) (point m) *ℤ z.n
 unfolding side
 weights_n p m q z =
     let PX = at 0 in let PY = at 1 in let MX = at 2 in let MY = at 3 in let QX = at 4 in let QY = at 5 in
@@ -50,7 +55,8 @@ weights_n p m q z =
     (vars (p.x ∷ p.y ∷ m.x ∷ m.y ∷ q.x ∷ q.y ∷ z.x ∷ z.y ∷ z.n ∷ [])) refl
 
 -- weights that are D z make z their mean
-mean_is : (i j k d : ℤ) (p q r : Point) (z : Vector) → pos 0 ≤ℤ i → pos 0 ≤ℤ j → pos 0 ≤ℤ k → pos 0 <ℤ d → Place z
+mean_is : (i j k d : ℤ) (p q r : Point) (z : Vector) → pos 0 ≤ℤ i → pos 0 ≤ℤ j → pos 0 ≤ℤ k
+    → pos 0 <ℤ d → Place z
     → ((i *ℤ p.x) +ℤ (j *ℤ q.x)) +ℤ (k *ℤ r.x) ≡ d *ℤ z.x → ((i *ℤ p.y) +ℤ (j *ℤ q.y)) +ℤ (k *ℤ r.y) ≡ d *ℤ z.y → (i +ℤ j) +ℤ k ≡ d *ℤ z.n
     → InTriangle z (point p) (point q) (point r)
 mean_is i j k d p q r z hi hj hk hd hz ex ey en =
@@ -76,7 +82,8 @@ mean_is i j k d p q r z hi hj hk hd hz ex ey en =
         ∙ ap (λ (v : ℤ). v *ℤ z.n) (sym e)
 
 -- m over the straight p q
-pub triangle_up : (p m q : Point) (z : Vector) → Place z → pos 0 <ℤ side (line p q) (point m) → pos 0 ≤ℤ side (line p q) z → side (line p m) z ≤ℤ pos 0 → side (line m q) z ≤ℤ pos 0
+pub triangle_up : (p m q : Point) (z : Vector) → Place z → pos 0 <ℤ side (line p q) (point m)
+    → pos 0 ≤ℤ side (line p q) z → side (line p m) z ≤ℤ pos 0 → side (line m q) z ≤ℤ pos 0
     → InTriangle z (point p) (point q) (point m)
 triangle_up p m q z hz d a b e =
     mean_is (pos 0 -ℤ side (line m q) z) (pos 0 -ℤ side (line p m) z) (side (line p q) z) (side (line p q) (point m)) p q m z
@@ -89,7 +96,8 @@ triangle_up p m q z hz d a b e =
     turn a b c d e = omega (arith, ints, e)
 
 -- m under the straight p q
-pub triangle_down : (p m q : Point) (z : Vector) → Place z → side (line p q) (point m) <ℤ pos 0 → side (line p q) z ≤ℤ pos 0 → pos 0 ≤ℤ side (line p m) z → pos 0 ≤ℤ side (line m q) z
+pub triangle_down : (p m q : Point) (z : Vector) → Place z → side (line p q) (point m) <ℤ pos 0
+    → side (line p q) z ≤ℤ pos 0 → pos 0 ≤ℤ side (line p m) z → pos 0 ≤ℤ side (line m q) z
     → InTriangle z (point m) (point p) (point q)
 triangle_down p m q z hz d a b e =
     mean_is (pos 0 -ℤ side (line p q) z) (side (line m q) z) (side (line p m) z) (pos 0 -ℤ side (line p q) (point m)) m p q z
@@ -101,15 +109,20 @@ triangle_down p m q z hz d a b e =
     neg_times : (a b : ℤ) → (pos 0 -ℤ a) *ℤ b ≡ pos 0 -ℤ (a *ℤ b)
     neg_times a b = ring (times (minus (num (pos 0)) (at 0)) (at 1)) (minus (num (pos 0)) (times (at 0) (at 1))) (vars (a ∷ b ∷ [])) refl
 
-    turned : (i j k p m q d z : ℤ) → (((pos 0 -ℤ i) *ℤ p) +ℤ (j *ℤ m)) +ℤ ((pos 0 -ℤ k) *ℤ q) ≡ d *ℤ z → (((pos 0 -ℤ j) *ℤ m) +ℤ (i *ℤ p)) +ℤ (k *ℤ q) ≡ (pos 0 -ℤ d) *ℤ z
+    turned : (i j k p m q d z : ℤ)
+        → (((pos 0 -ℤ i) *ℤ p) +ℤ (j *ℤ m)) +ℤ ((pos 0 -ℤ k) *ℤ q) ≡ d *ℤ z
+        → (((pos 0 -ℤ j) *ℤ m) +ℤ (i *ℤ p)) +ℤ (k *ℤ q) ≡ (pos 0 -ℤ d) *ℤ z
     turned i j k p m q d z e = let a = neg_times i p in let b = neg_times j m in let c = neg_times k q in let f = neg_times d z in omega (arith, ints, e, a, b, c, f)
 
-    turned_sum : (i j k d z : ℤ) → ((pos 0 -ℤ i) +ℤ j) +ℤ (pos 0 -ℤ k) ≡ d *ℤ z → ((pos 0 -ℤ j) +ℤ i) +ℤ k ≡ (pos 0 -ℤ d) *ℤ z
+    turned_sum : (i j k d z : ℤ) → ((pos 0 -ℤ i) +ℤ j) +ℤ (pos 0 -ℤ k) ≡ d *ℤ z
+        → ((pos 0 -ℤ j) +ℤ i) +ℤ k ≡ (pos 0 -ℤ d) *ℤ z
     turned_sum i j k d z e = let f = neg_times d z in omega (arith, ints, e, f)
 
 -- ---- beside a corner over the straight p q
 -- left of m, what is not over p m is not over m q
-pub left_up : (p m q : Point) (z : Vector) → p.x <ℤ m.x → m.x <ℤ q.x → pos 0 <ℤ side (line p q) (point m) → z.x ≤ℤ (m.x *ℤ z.n) → side (line p m) z ≤ℤ pos 0 → side (line m q) z ≤ℤ pos 0
+pub left_up : (p m q : Point) (z : Vector) → p.x <ℤ m.x → m.x <ℤ q.x
+    → pos 0 <ℤ side (line p q) (point m) → z.x ≤ℤ (m.x *ℤ z.n) → side (line p m) z ≤ℤ pos 0
+    → side (line m q) z ≤ℤ pos 0
 left_up p m q z a b d h k =
     let u = times_most (q.x -ℤ m.x) (side (line p m) z) (omega (arith, ints, b)) k in
     let v = times_most (side (line p q) (point m)) (z.x -ℤ (m.x *ℤ z.n)) (omega (arith, ints, d)) (omega (arith, ints, h)) in
@@ -117,7 +130,9 @@ left_up p m q z a b d h k =
     cancel_most (m.x -ℤ p.x) (side (line m q) z) (omega (arith, ints, a)) (omega (arith, ints, u, v, e))
 
 -- right of m, what is not over m q is not over p m
-pub right_up : (p m q : Point) (z : Vector) → p.x <ℤ m.x → m.x <ℤ q.x → pos 0 <ℤ side (line p q) (point m) → (m.x *ℤ z.n) ≤ℤ z.x → side (line m q) z ≤ℤ pos 0 → side (line p m) z ≤ℤ pos 0
+pub right_up : (p m q : Point) (z : Vector) → p.x <ℤ m.x → m.x <ℤ q.x
+    → pos 0 <ℤ side (line p q) (point m) → (m.x *ℤ z.n) ≤ℤ z.x → side (line m q) z ≤ℤ pos 0
+    → side (line p m) z ≤ℤ pos 0
 right_up p m q z a b d h k =
     let u = times_most (m.x -ℤ p.x) (side (line m q) z) (omega (arith, ints, a)) k in
     let v = product_nonnegative (side (line p q) (point m)) (z.x -ℤ (m.x *ℤ z.n)) (omega (arith, ints, d)) (omega (arith, ints, h)) in
@@ -126,7 +141,9 @@ right_up p m q z a b d h k =
 
 -- ---- beside a corner under it
 -- right of m, what is not under m q is not under p m
-pub right_down : (p m q : Point) (z : Vector) → p.x <ℤ m.x → m.x <ℤ q.x → side (line p q) (point m) <ℤ pos 0 → (m.x *ℤ z.n) ≤ℤ z.x → pos 0 ≤ℤ side (line m q) z → pos 0 ≤ℤ side (line p m) z
+pub right_down : (p m q : Point) (z : Vector) → p.x <ℤ m.x → m.x <ℤ q.x
+    → side (line p q) (point m) <ℤ pos 0 → (m.x *ℤ z.n) ≤ℤ z.x → pos 0 ≤ℤ side (line m q) z
+    → pos 0 ≤ℤ side (line p m) z
 right_down p m q z a b d h k =
     let u = product_nonnegative (m.x -ℤ p.x) (side (line m q) z) (omega (arith, ints, a)) k in
     let v = product_nonnegative (pos 0 -ℤ side (line p q) (point m)) (z.x -ℤ (m.x *ℤ z.n)) (omega (arith, ints, d)) (omega (arith, ints, h)) in
@@ -135,7 +152,9 @@ right_down p m q z a b d h k =
     cancel_least (q.x -ℤ m.x) (side (line p m) z) (omega (arith, ints, b)) (omega (arith, ints, u, v, e, n))
 
 -- left of m, what is not under p m is not under m q
-pub left_down : (p m q : Point) (z : Vector) → p.x <ℤ m.x → m.x <ℤ q.x → side (line p q) (point m) <ℤ pos 0 → z.x ≤ℤ (m.x *ℤ z.n) → pos 0 ≤ℤ side (line p m) z → pos 0 ≤ℤ side (line m q) z
+pub left_down : (p m q : Point) (z : Vector) → p.x <ℤ m.x → m.x <ℤ q.x
+    → side (line p q) (point m) <ℤ pos 0 → z.x ≤ℤ (m.x *ℤ z.n) → pos 0 ≤ℤ side (line p m) z
+    → pos 0 ≤ℤ side (line m q) z
 left_down p m q z a b d h k =
     let u = product_nonnegative (q.x -ℤ m.x) (side (line p m) z) (omega (arith, ints, b)) k in
     let v = product_nonnegative (pos 0 -ℤ side (line p q) (point m)) ((m.x *ℤ z.n) -ℤ z.x) (omega (arith, ints, d)) (omega (arith, ints, h)) in
@@ -144,22 +163,26 @@ left_down p m q z a b d h k =
     cancel_least (m.x -ℤ p.x) (side (line m q) z) (omega (arith, ints, a)) (omega (arith, ints, u, v, e, n))
 
 -- ---- on the straight p q, whatever the third corner
-flat_x : (p q m : Point) (z : Vector) → ((((q.x *ℤ z.n) -ℤ z.x) *ℤ p.x) +ℤ ((z.x -ℤ (p.x *ℤ z.n)) *ℤ q.x)) +ℤ (pos 0 *ℤ m.x) ≡ (q.x -ℤ p.x) *ℤ z.x
+flat_x : (p q m : Point) (z : Vector)
+    → ((((q.x *ℤ z.n) -ℤ z.x) *ℤ p.x) +ℤ ((z.x -ℤ (p.x *ℤ z.n)) *ℤ q.x)) +ℤ (pos 0 *ℤ m.x) ≡ (q.x -ℤ p.x) *ℤ z.x
 flat_x p q m z =
     ring (plus (plus (times (minus (times (at 1) (at 3)) (at 2)) (at 0)) (times (minus (at 2) (times (at 0) (at 3))) (at 1))) (times (num (pos 0)) (at 4))) (times (minus (at 1) (at 0)) (at 2))
     (vars (p.x ∷ q.x ∷ z.x ∷ z.n ∷ m.x ∷ [])) refl
 
-flat_y : (p q m : Point) (z : Vector) → ((((q.x *ℤ z.n) -ℤ z.x) *ℤ p.y) +ℤ ((z.x -ℤ (p.x *ℤ z.n)) *ℤ q.y)) +ℤ (pos 0 *ℤ m.y) ≡ ((q.x -ℤ p.x) *ℤ z.y) -ℤ side (line p q) z
+flat_y : (p q m : Point) (z : Vector)
+    → ((((q.x *ℤ z.n) -ℤ z.x) *ℤ p.y) +ℤ ((z.x -ℤ (p.x *ℤ z.n)) *ℤ q.y)) +ℤ (pos 0 *ℤ m.y) ≡ ((q.x -ℤ p.x) *ℤ z.y) -ℤ side (line p q) z
 unfolding side
 flat_y p q m z =
     ring (plus (plus (times (minus (times (at 2) (at 6)) (at 4)) (at 1)) (times (minus (at 4) (times (at 0) (at 6))) (at 3))) (times (num (pos 0)) (at 7)))
     (minus (times (minus (at 2) (at 0)) (at 5)) (SIDE (at 0) (at 1) (at 2) (at 3) (at 4) (at 5) (at 6)))
     (vars (p.x ∷ p.y ∷ q.x ∷ q.y ∷ z.x ∷ z.y ∷ z.n ∷ m.y ∷ [])) refl
 
-flat_n : (p q : Point) (z : Vector) → (((q.x *ℤ z.n) -ℤ z.x) +ℤ (z.x -ℤ (p.x *ℤ z.n))) +ℤ pos 0 ≡ (q.x -ℤ p.x) *ℤ z.n
+flat_n : (p q : Point) (z : Vector)
+    → (((q.x *ℤ z.n) -ℤ z.x) +ℤ (z.x -ℤ (p.x *ℤ z.n))) +ℤ pos 0 ≡ (q.x -ℤ p.x) *ℤ z.n
 flat_n p q z = ring (plus (plus (minus (times (at 1) (at 3)) (at 2)) (minus (at 2) (times (at 0) (at 3)))) (num (pos 0))) (times (minus (at 1) (at 0)) (at 3)) (vars (p.x ∷ q.x ∷ z.x ∷ z.n ∷ [])) refl
 
-pub on_straight : (p q m : Point) (z : Vector) → Place z → p.x <ℤ q.x → InColumn p q z → side (line p q) z ≡ pos 0 → InTriangle z (point p) (point q) (point m)
+pub on_straight : (p q m : Point) (z : Vector) → Place z → p.x <ℤ q.x → InColumn p q z
+    → side (line p q) z ≡ pos 0 → InTriangle z (point p) (point q) (point m)
 on_straight p q m z hz h k e =
     mean_is ((q.x *ℤ z.n) -ℤ z.x) (z.x -ℤ (p.x *ℤ z.n)) (pos 0) (q.x -ℤ p.x) p q m z
     (let a = k.high in omega (arith, ints, a)) (let a = k.low in omega (arith, ints, a)) (omega (arith, ints)) (omega (arith, ints, h)) hz

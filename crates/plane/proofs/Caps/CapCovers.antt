@@ -1,5 +1,6 @@
 -- In the cap's own picture: from a place that is not outside to one that is not inside, over the chord's line, a place of the segment is in the strip.
-use Rattle.std.proofs.Common.{◌≡◌, ℤ, pos, ◌+ℤ◌, ◌*ℤ◌, ◌-ℤ◌, ◌<ℤ◌, ◌≤ℤ◌, inl, inr, List, [], ◌∷◌, refl, arith, ap, ◌∙◌, subst, sym}
+use Rattle.std.proofs.Common.{◌≡◌, ℤ, pos, ◌+ℤ◌, ◌*ℤ◌, ◌-ℤ◌, ◌<ℤ◌, ◌≤ℤ◌, inl, inr, List, [], ◌∷◌}
+use Rattle.std.proofs.Common.{refl, arith, ap, ◌∙◌, subst, sym}
 use Rattle.std.proofs.lemmas.Int.{ints, by_lt_z}
 use Rattle.plane.specs.declared.kinds.Point.{Point}
 use Rattle.plane.specs.Forms.Vectors.{Vector, Place, mix, Edge, side}
@@ -8,7 +9,8 @@ use Rattle.plane.specs.Tubes.Bays.{Bay, InBays, InTube}
 use Rattle.plane.specs.Tubes.CapStrips.{line, AtInner}
 use Rattle.plane.proofs.Caps.StripWords.{IsCapStrip}
 use Rattle.plane.specs.Tubes.Regions.{NotUnder}
-use Rattle.plane.proofs.Algebra.Laws.{product_positive, product_nonnegative, weight_at_most, product-sum}
+use Rattle.plane.proofs.Algebra.Laws.{product_positive, product_nonnegative, weight_at_most}
+use Rattle.plane.proofs.Algebra.Laws.{product-sum}
 use Rattle.plane.proofs.Algebra.Scaling.{product_of_zero}
 use Rattle.plane.proofs.Linear.Signs.{mix_place}
 use Rattle.plane.proofs.Algebra.Ring.{at, num, plus, minus, times, vars, ring}
@@ -40,7 +42,8 @@ pub record Clipped (c : Cap) (u v : Vector) : Type 0 where
   pub outside : pos 0 ≤ℤ shape c (mix s u t v)
 
 -- on the slab's walls nothing over the chord's line is inside
-wall_outside : (c : Cap) (z : Vector) → IsCap c → Place z → z.x *ℤ (z.x -ℤ (c.chord *ℤ z.n)) ≡ pos 0 → pos 0 ≤ℤ z.y → pos 0 ≤ℤ shape c z
+wall_outside : (c : Cap) (z : Vector) → IsCap c → Place z → z.x *ℤ (z.x -ℤ (c.chord *ℤ z.n)) ≡ pos 0
+    → pos 0 ≤ℤ z.y → pos 0 ≤ℤ shape c z
 unfolding shape
 wall_outside c z hc hz e hy =
     let a = product_of_zero c.size (z.x *ℤ (z.x -ℤ (c.chord *ℤ z.n))) e in
@@ -51,7 +54,8 @@ wall_outside c z hc hz e hy =
 pub left_wall : (u v : ℤ) → ((pos 0 -ℤ v) *ℤ u) +ℤ (u *ℤ v) ≡ pos 0
 left_wall u v = ring (plus (times (minus (num (pos 0)) (at 1)) (at 0)) (times (at 0) (at 1))) (num (pos 0)) (vars (u ∷ v ∷ [])) refl
 
-pub right_wall : (l u m v n : ℤ) → (((v -ℤ (l *ℤ n)) *ℤ u) +ℤ (((l *ℤ m) -ℤ u) *ℤ v)) -ℤ (l *ℤ (((v -ℤ (l *ℤ n)) *ℤ m) +ℤ (((l *ℤ m) -ℤ u) *ℤ n))) ≡ pos 0
+pub right_wall : (l u m v n : ℤ)
+    → (((v -ℤ (l *ℤ n)) *ℤ u) +ℤ (((l *ℤ m) -ℤ u) *ℤ v)) -ℤ (l *ℤ (((v -ℤ (l *ℤ n)) *ℤ m) +ℤ (((l *ℤ m) -ℤ u) *ℤ n))) ≡ pos 0
 right_wall l u m v n =
     let s = minus (at 3) (times (at 0) (at 4)) in
     let t = minus (times (at 0) (at 2)) (at 1) in
@@ -60,7 +64,8 @@ right_wall l u m v n =
 swapped_zero : (a b : ℤ) → a ≡ pos 0 → a *ℤ b ≡ pos 0
 swapped_zero a b e = ap (λ (x : ℤ). x *ℤ b) e ∙ omega (arith, ints)
 
-clip : (c : Cap) (u v : Vector) → IsCap c → Place u → Place v → InSlab c u → pos 0 ≤ℤ u.y → pos 0 ≤ℤ v.y → pos 0 ≤ℤ shape c v → Clipped c u v
+clip : (c : Cap) (u v : Vector) → IsCap c → Place u → Place v → InSlab c u → pos 0 ≤ℤ u.y
+    → pos 0 ≤ℤ v.y → pos 0 ≤ℤ shape c v → Clipped c u v
 clip c u v hc hu hv slab uy vy out =
     by_lt_z v.x (pos 0)
     (λ (l : v.x <ℤ pos 0). at_left l)
@@ -164,7 +169,8 @@ first_only p bs u v h = record {
     one x y = ring (plus (times (num (pos 1)) (at 0)) (times (num (pos 0)) (at 1))) (at 0) (vars (x ∷ y ∷ [])) refl
 
 -- a mix of u and of a mix of u and v
-part : (p : Point) (bs : List Bay) (u v : Vector) (s t : ℤ) → pos 0 ≤ℤ s → pos 0 ≤ℤ t → pos 0 <ℤ (s +ℤ t) → Reaches p bs u (mix s u t v) → Reaches p bs u v
+part : (p : Point) (bs : List Bay) (u v : Vector) (s t : ℤ) → pos 0 ≤ℤ s → pos 0 ≤ℤ t
+    → pos 0 <ℤ (s +ℤ t) → Reaches p bs u (mix s u t v) → Reaches p bs u v
 part p bs u v s t hs ht some m =
     let a = product_nonnegative m.t s m.t_least hs in
     let b = product_nonnegative m.t t m.t_least ht in
@@ -181,14 +187,17 @@ part p bs u v s t hs ht some m =
       there = subst (λ (y : Vector). InTube p bs y) (mix_start m.s m.t s t u v) m.there;
     }
 
-other_way : (p : Point) (bs : List Bay) (s t : ℤ) (u v : Vector) → InBays p bs (mix s u t v) → InBays p bs (mix t v s u)
+other_way : (p : Point) (bs : List Bay) (s t : ℤ) (u v : Vector) → InBays p bs (mix s u t v)
+    → InBays p bs (mix t v s u)
 other_way p bs s t u v k = subst (λ (z : Vector). InBays p bs z) (mix_back s t u v) k
 
-pub at_map : (R S : Edge → Vector → Type 0) (z : Vector) (p : Point) (bs : List Bay) → ((e : Edge) → R e z → S e z) → AtInner R z p bs → AtInner S z p bs
+pub at_map : (R S : Edge → Vector → Type 0) (z : Vector) (p : Point) (bs : List Bay)
+    → ((e : Edge) → R e z → S e z) → AtInner R z p bs → AtInner S z p bs
 at_map R S z p [] f h = tt
 at_map R S z p (b ∷ rest) f h = ((λ k. f (line p b.inner) (h.0 k)), at_map R S z b.inner rest f h.1)
 
-pub strip_cover : (c : Cap) (p : Point) (b : Bay) (rest : List Bay) (u v : Vector) → IsCap c → IsCapStrip c p p (b ∷ rest) → p.x ≡ pos 0 → Place u → Place v
+pub strip_cover : (c : Cap) (p : Point) (b : Bay) (rest : List Bay) (u v : Vector) → IsCap c
+    → IsCapStrip c p p (b ∷ rest) → p.x ≡ pos 0 → Place u → Place v
     → pos 0 ≤ℤ u.y → pos 0 ≤ℤ v.y → shape c u ≤ℤ pos 0 → pos 0 ≤ℤ shape c v → Reaches p (b ∷ rest) u v
 strip_cover c p b rest u v hc h start hu hv uy vy inside outside =
     elim (locate c u p p (b ∷ rest) hu h (left_end u slab.low) slab.high (under_fences c u p p (b ∷ rest) hc hu h uy inside)) [

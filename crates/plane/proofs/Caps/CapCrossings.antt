@@ -1,5 +1,6 @@
 -- A segment with one end not over the inner chain and the other not under it has a place on it.
-use Rattle.std.proofs.Common.{◌≡◌, ℤ, pos, ◌+ℤ◌, ◌*ℤ◌, ◌-ℤ◌, ◌<ℤ◌, ◌≤ℤ◌, ◌⊎◌, inl, inr, List, [], ◌∷◌, refl, arith, ap, ◌∙◌, subst}
+use Rattle.std.proofs.Common.{◌≡◌, ℤ, pos, ◌+ℤ◌, ◌*ℤ◌, ◌-ℤ◌, ◌<ℤ◌, ◌≤ℤ◌, ◌⊎◌, inl, inr, List, []}
+use Rattle.std.proofs.Common.{◌∷◌, refl, arith, ap, ◌∙◌, subst}
 use Rattle.std.proofs.lemmas.Int.{ints, by_lt_z}
 use Rattle.plane.specs.declared.kinds.Point.{Point}
 use Rattle.plane.specs.Forms.Vectors.{Vector, Place, mix, Edge, side}
@@ -7,7 +8,8 @@ use Rattle.plane.specs.Tubes.Caps.{Cap}
 use Rattle.plane.specs.Tubes.Bays.{Bay, InBays}
 use Rattle.plane.specs.Tubes.CapStrips.{line, InColumn, AtInner}
 use Rattle.plane.proofs.Caps.StripWords.{IsArch, IsCapStrip}
-use Rattle.plane.proofs.Algebra.Laws.{product_positive, product_nonnegative, weight_at_most, product-sum}
+use Rattle.plane.proofs.Algebra.Laws.{product_positive, product_nonnegative, weight_at_most}
+use Rattle.plane.proofs.Algebra.Laws.{product-sum}
 use Rattle.plane.proofs.Algebra.Scaling.{product-difference}
 use Rattle.plane.proofs.Linear.Signs.{mix_place, span_low, span_high}
 use Rattle.plane.proofs.Linear.Vectors.{side-mix}
@@ -19,9 +21,11 @@ use Rattle.plane.proofs.Linear.Clear.{vector_eq, mix_start}
 
 -- the side of an edge, or its opposite
 pub record IsTilt (R : Edge → Vector → ℤ) : Type 0 where
-  pub linear : (e : Edge) (s : ℤ) (p : Vector) (t : ℤ) (q : Vector) → R e (mix s p t q) ≡ (s *ℤ R e p) +ℤ (t *ℤ R e q)
+  pub linear : (e : Edge) (s : ℤ) (p : Vector) (t : ℤ) (q : Vector)
+      → R e (mix s p t q) ≡ (s *ℤ R e p) +ℤ (t *ℤ R e q)
   pub zero : (e : Edge) (z : Vector) → R e z ≡ pos 0 → side e z ≡ pos 0
-  pub corner : (p v w : Point) (z : Vector) → p.x <ℤ v.x → v.x <ℤ w.x → z.x ≡ v.x *ℤ z.n → R (line p v) z ≤ℤ pos 0 → R (line v w) z ≤ℤ pos 0
+  pub corner : (p v w : Point) (z : Vector) → p.x <ℤ v.x → v.x <ℤ w.x → z.x ≡ v.x *ℤ z.n
+      → R (line p v) z ≤ℤ pos 0 → R (line v w) z ≤ℤ pos 0
 
 abbrev pub Most : (Edge → Vector → ℤ) → Edge → Vector → Type 0
 Most R e z = R e z ≤ℤ pos 0
@@ -41,12 +45,14 @@ pub record Meets (p : Point) (bs : List Bay) (a z : Vector) : Type 0 where
 mix_end : (a b s t : ℤ) (p q : Vector) → mix a (mix s p t q) b q ≡ mix (a *ℤ s) p ((a *ℤ t) +ℤ b) q
 mix_end a b s t p q = vector_eq _ _ (one a b s t p.x q.x) (one a b s t p.y q.y) (one a b s t p.n q.n)
   where
-    one : (a b s t x y : ℤ) → (a *ℤ ((s *ℤ x) +ℤ (t *ℤ y))) +ℤ (b *ℤ y) ≡ ((a *ℤ s) *ℤ x) +ℤ (((a *ℤ t) +ℤ b) *ℤ y)
+    one : (a b s t x y : ℤ)
+        → (a *ℤ ((s *ℤ x) +ℤ (t *ℤ y))) +ℤ (b *ℤ y) ≡ ((a *ℤ s) *ℤ x) +ℤ (((a *ℤ t) +ℤ b) *ℤ y)
     one a b s t x y = ring (plus (times (at 0) (plus (times (at 2) (at 4)) (times (at 3) (at 5)))) (times (at 1) (at 5)))
         (plus (times (times (at 0) (at 2)) (at 4)) (times (plus (times (at 0) (at 3)) (at 1)) (at 5))) (vars (a ∷ b ∷ s ∷ t ∷ x ∷ y ∷ [])) refl
 
 -- the first part of a segment, and the last
-meets_start : (p : Point) (bs : List Bay) (a z : Vector) (s t : ℤ) → pos 0 ≤ℤ s → pos 0 ≤ℤ t → pos 0 <ℤ (s +ℤ t) → Meets p bs a (mix s a t z) → Meets p bs a z
+meets_start : (p : Point) (bs : List Bay) (a z : Vector) (s t : ℤ) → pos 0 ≤ℤ s → pos 0 ≤ℤ t
+    → pos 0 <ℤ (s +ℤ t) → Meets p bs a (mix s a t z) → Meets p bs a z
 meets_start p bs a z s t hs ht some m =
     let u = product_nonnegative m.t s m.t_least hs in
     let v = product_nonnegative m.t t m.t_least ht in
@@ -63,7 +69,8 @@ meets_start p bs a z s t hs ht some m =
       there = subst (λ (y : Vector). InBays p bs y) (mix_start m.s m.t s t a z) m.there;
     }
 
-meets_end : (p : Point) (bs : List Bay) (a z : Vector) (s t : ℤ) → pos 0 ≤ℤ s → pos 0 ≤ℤ t → pos 0 <ℤ (s +ℤ t) → Meets p bs (mix s a t z) z → Meets p bs a z
+meets_end : (p : Point) (bs : List Bay) (a z : Vector) (s t : ℤ) → pos 0 ≤ℤ s → pos 0 ≤ℤ t
+    → pos 0 <ℤ (s +ℤ t) → Meets p bs (mix s a t z) z → Meets p bs a z
 meets_end p bs a z s t hs ht some m =
     let u = product_nonnegative m.s s m.s_least hs in
     let v = product_nonnegative m.s t m.s_least ht in
@@ -81,13 +88,15 @@ meets_end p bs a z s t hs ht some m =
     }
 
 -- ---- within one column
-pub column_mix : (p q : Point) (s : ℤ) (a : Vector) (t : ℤ) (z : Vector) → pos 0 ≤ℤ s → pos 0 ≤ℤ t → InColumn p q a → InColumn p q z → InColumn p q (mix s a t z)
+pub column_mix : (p q : Point) (s : ℤ) (a : Vector) (t : ℤ) (z : Vector) → pos 0 ≤ℤ s → pos 0 ≤ℤ t
+    → InColumn p q a → InColumn p q z → InColumn p q (mix s a t z)
 column_mix p q s a t z hs ht ka kz = record {
   low = span_low p.x s t a.x a.n z.x z.n hs ht ka.low kz.low;
   high = span_high q.x s t a.x a.n z.x z.n hs ht ka.high kz.high;
 }
 
-meets_here : (R : Edge → Vector → ℤ) (p : Point) (b : Bay) (rest : List Bay) (a z : Vector) → IsTilt R → Place a → Place z → p.x <ℤ b.inner.x → InColumn p b.inner a → InColumn p b.inner z
+meets_here : (R : Edge → Vector → ℤ) (p : Point) (b : Bay) (rest : List Bay) (a z : Vector)
+    → IsTilt R → Place a → Place z → p.x <ℤ b.inner.x → InColumn p b.inner a → InColumn p b.inner z
     → R (line p b.inner) a ≤ℤ pos 0 → pos 0 ≤ℤ R (line p b.inner) z → Meets p (b ∷ rest) a z
 meets_here R p b rest a z r ha hz h ka kz low high =
     by_lt_z (pos 0) (y -ℤ x)
@@ -106,7 +115,9 @@ meets_here R p b rest a z r ha hz h ka kz low high =
     alone : (x y : ℤ) → x ≡ pos 0 → (pos 1 *ℤ x) +ℤ (pos 0 *ℤ y) ≡ pos 0
     alone x y e = ring (plus (times (num (pos 1)) (at 0)) (times (num (pos 0)) (at 1))) (at 0) (vars (x ∷ y ∷ [])) refl ∙ e
 
-    at_weights : (s t : ℤ) → pos 0 ≤ℤ s → pos 0 ≤ℤ t → pos 0 <ℤ (s +ℤ t) → (s *ℤ R (line p b.inner) a) +ℤ (t *ℤ R (line p b.inner) z) ≡ pos 0 → Meets p (b ∷ rest) a z
+    at_weights : (s t : ℤ) → pos 0 ≤ℤ s → pos 0 ≤ℤ t → pos 0 <ℤ (s +ℤ t)
+        → (s *ℤ R (line p b.inner) a) +ℤ (t *ℤ R (line p b.inner) z) ≡ pos 0
+        → Meets p (b ∷ rest) a z
     at_weights s t hs ht some e = record {
       s = s;
       t = t;
@@ -117,7 +128,8 @@ meets_here R p b rest a z r ha hz h ka kz low high =
     }
 
 -- ---- the walk, from a on the left to z on the right
-most_rest : (R : Edge → Vector → ℤ) (c : Cap) (p : Point) (b : Bay) (rest : List Bay) (a : Vector) → IsTilt R → Place a → IsArch p b → IsCapStrip c b.outer b.inner rest
+most_rest : (R : Edge → Vector → ℤ) (c : Cap) (p : Point) (b : Bay) (rest : List Bay) (a : Vector)
+    → IsTilt R → Place a → IsArch p b → IsCapStrip c b.outer b.inner rest
     → a.x ≡ b.inner.x *ℤ a.n → R (line p b.inner) a ≤ℤ pos 0 → AtInner (Most R) a b.inner rest
 most_rest R c p b [] a r ha h g e k = tt
 most_rest R c p b (d ∷ rest) a r ha h g e k =
@@ -130,7 +142,8 @@ abbrev pub NotRight : Vector → Vector → Type 0
 NotRight a z = (a.x *ℤ z.n) ≤ℤ (z.x *ℤ a.n)
 
 -- the place of the segment from a to z over the corner v
-pub wall_x : (v : ℤ) (a z : Vector) → (((z.x -ℤ (v *ℤ z.n)) *ℤ a.x) +ℤ (((v *ℤ a.n) -ℤ a.x) *ℤ z.x)) ≡ v *ℤ (((z.x -ℤ (v *ℤ z.n)) *ℤ a.n) +ℤ (((v *ℤ a.n) -ℤ a.x) *ℤ z.n))
+pub wall_x : (v : ℤ) (a z : Vector)
+    → (((z.x -ℤ (v *ℤ z.n)) *ℤ a.x) +ℤ (((v *ℤ a.n) -ℤ a.x) *ℤ z.x)) ≡ v *ℤ (((z.x -ℤ (v *ℤ z.n)) *ℤ a.n) +ℤ (((v *ℤ a.n) -ℤ a.x) *ℤ z.n))
 wall_x v a z =
     let s = minus (at 3) (times (at 0) (at 4)) in
     let t = minus (times (at 0) (at 2)) (at 1) in
@@ -144,7 +157,8 @@ wall_left v a z ha e l =
     let k = ap (λ (x : ℤ). x *ℤ z.n) e in
     omega (arith, ints, p, i, k)
 
-pub not_right_low : (p : ℤ) (a z : Vector) → Place a → Place z → NotRight a z → (p *ℤ a.n) ≤ℤ a.x → (p *ℤ z.n) ≤ℤ z.x
+pub not_right_low : (p : ℤ) (a z : Vector) → Place a → Place z → NotRight a z → (p *ℤ a.n) ≤ℤ a.x
+    → (p *ℤ z.n) ≤ℤ z.x
 not_right_low p a z ha hz h l =
     let u = product_nonnegative z.n (a.x -ℤ (p *ℤ a.n)) (omega (arith, ints, hz)) (omega (arith, ints, l)) in
     let i = ring (plus (times (at 4) (minus (at 1) (times (at 0) (at 2)))) (minus (times (at 3) (at 2)) (times (at 1) (at 4)))) (times (at 2) (minus (at 3) (times (at 0) (at 4)))) (vars (p ∷ a.x ∷ a.n ∷ z.x ∷ z.n ∷ [])) refl in
@@ -163,10 +177,12 @@ Onward p a z = ((p.x *ℤ a.n) <ℤ a.x) ⊎ ((p.x *ℤ z.n) <ℤ z.x)
 abbrev Later : (Edge → Vector → ℤ) → Cap → Bay → List Bay → Vector → Type 0
 Later R c b rest z = (a : Vector) → Place a → (b.inner.x *ℤ a.n) ≤ℤ a.x → a.x ≤ℤ (c.chord *ℤ a.n) → NotRight a z → AtInner (Most R) a b.inner rest → Onward b.inner a z → Meets b.inner rest a z
 
-meets_later : (p : Point) (b : Bay) (rest : List Bay) (a z : Vector) → Meets b.inner rest a z → Meets p (b ∷ rest) a z
+meets_later : (p : Point) (b : Bay) (rest : List Bay) (a z : Vector) → Meets b.inner rest a z
+    → Meets p (b ∷ rest) a z
 meets_later p b rest a z m = record { s = m.s; t = m.t; s_least = m.s_least; t_least = m.t_least; some = m.some; there = inr m.there }
 
-crosses_at : (R : Edge → Vector → ℤ) (c : Cap) (q p : Point) (b : Bay) (rest : List Bay) (a z : Vector) → IsTilt R → Place a → Place z → IsCapStrip c q p (b ∷ rest)
+crosses_at : (R : Edge → Vector → ℤ) (c : Cap) (q p : Point) (b : Bay) (rest : List Bay) (a z : Vector)
+    → IsTilt R → Place a → Place z → IsCapStrip c q p (b ∷ rest)
     → (p.x *ℤ a.n) ≤ℤ a.x → a.x ≤ℤ (c.chord *ℤ a.n) → z.x ≤ℤ (c.chord *ℤ z.n) → NotRight a z → AtInner (Most R) a p (b ∷ rest) → AtInner (Least R) z p (b ∷ rest) → b.inner.x ≤ℤ c.chord → Later R c b rest z
     → Meets p (b ∷ rest) a z
 crosses_at R c q p b rest a z r ha hz h l ra rz nr most least bound later =
@@ -225,7 +241,8 @@ pub strip_bound : (c : Cap) (q p : Point) (bs : List Bay) → IsCapStrip c q p b
 strip_bound c q p [] h = let e = h.0 in omega (arith, ints, e)
 strip_bound c q p (b ∷ rest) h = let k = strip_bound c b.outer b.inner rest h.4 in let u = h.0.up in let v = h.0.on in omega (arith, ints, k, u, v)
 
-pub crosses : (R : Edge → Vector → ℤ) (c : Cap) (q p : Point) (b : Bay) (rest : List Bay) (a z : Vector) → IsTilt R → Place a → Place z → IsCapStrip c q p (b ∷ rest)
+pub crosses : (R : Edge → Vector → ℤ) (c : Cap) (q p : Point) (b : Bay) (rest : List Bay) (a z : Vector)
+    → IsTilt R → Place a → Place z → IsCapStrip c q p (b ∷ rest)
     → (p.x *ℤ a.n) ≤ℤ a.x → a.x ≤ℤ (c.chord *ℤ a.n) → z.x ≤ℤ (c.chord *ℤ z.n) → NotRight a z → AtInner (Most R) a p (b ∷ rest) → AtInner (Least R) z p (b ∷ rest)
     → Meets p (b ∷ rest) a z
 crosses R c q p b [] a z r ha hz h l ra rz nr most least =
@@ -267,7 +284,8 @@ under_tilt = record {
       omega (arith, ints, b, u);
 }
   where
-    opposite : (m s t x y : ℤ) → m ≡ (s *ℤ x) +ℤ (t *ℤ y) → pos 0 -ℤ m ≡ (s *ℤ (pos 0 -ℤ x)) +ℤ (t *ℤ (pos 0 -ℤ y))
+    opposite : (m s t x y : ℤ) → m ≡ (s *ℤ x) +ℤ (t *ℤ y)
+        → pos 0 -ℤ m ≡ (s *ℤ (pos 0 -ℤ x)) +ℤ (t *ℤ (pos 0 -ℤ y))
     opposite m s t x y e =
         let i = ring (plus (times (at 0) (minus (num (pos 0)) (at 2))) (times (at 1) (minus (num (pos 0)) (at 3)))) (minus (num (pos 0)) (plus (times (at 0) (at 2)) (times (at 1) (at 3)))) (vars (s ∷ t ∷ x ∷ y ∷ [])) refl in
         omega (arith, ints, e, i)

@@ -1,5 +1,6 @@
 -- What is inside is under the outer chain, and what is outside is over the inner chain.
-use Rattle.std.proofs.Common.{◌≡◌, ℤ, pos, ◌+ℤ◌, ◌*ℤ◌, ◌-ℤ◌, ◌<ℤ◌, ◌≤ℤ◌, ◌⊎◌, inl, inr, List, [], ◌∷◌, refl, arith, ap, subst, sym}
+use Rattle.std.proofs.Common.{◌≡◌, ℤ, pos, ◌+ℤ◌, ◌*ℤ◌, ◌-ℤ◌, ◌<ℤ◌, ◌≤ℤ◌, ◌⊎◌, inl, inr, List, []}
+use Rattle.std.proofs.Common.{◌∷◌, refl, arith, ap, subst, sym}
 use Rattle.std.proofs.lemmas.Int.{ints, by_lt_z}
 use Rattle.plane.specs.declared.kinds.Point.{Point}
 use Rattle.plane.specs.Forms.Vectors.{Vector, Place, point, mix, side}
@@ -19,7 +20,8 @@ use Rattle.plane.proofs.Caps.CapCorners.{SIDE}
 abbrev pub stand : Point → Point → Vector → Vector
 stand p q z = mix ((q.x *ℤ z.n) -ℤ z.x) (point p) (z.x -ℤ (p.x *ℤ z.n)) (point q)
 
-stand-n : (p q : Point) (z : Vector) → ((q.x *ℤ z.n) -ℤ z.x) +ℤ (z.x -ℤ (p.x *ℤ z.n)) ≡ (q.x -ℤ p.x) *ℤ z.n
+stand-n : (p q : Point) (z : Vector)
+    → ((q.x *ℤ z.n) -ℤ z.x) +ℤ (z.x -ℤ (p.x *ℤ z.n)) ≡ (q.x -ℤ p.x) *ℤ z.n
 stand-n p q z = ring (plus (minus (times (at 1) (at 3)) (at 2)) (minus (at 2) (times (at 0) (at 3)))) (times (minus (at 1) (at 0)) (at 3)) (vars (p.x ∷ q.x ∷ z.x ∷ z.n ∷ [])) refl
 
 pub stand-x : (p q : Point) (z : Vector) → (stand p q z).x *ℤ z.n ≡ z.x *ℤ (stand p q z).n
@@ -28,7 +30,8 @@ stand-x p q z =
     let t = minus (at 2) (times (at 0) (at 3)) in
     ring (times (plus (times s (at 0)) (times t (at 1))) (at 3)) (times (at 2) (plus (times s (num (pos 1))) (times t (num (pos 1))))) (vars (p.x ∷ q.x ∷ z.x ∷ z.n ∷ [])) refl
 
-pub stand-y : (p q : Point) (z : Vector) → (z.y *ℤ (stand p q z).n) -ℤ ((stand p q z).y *ℤ z.n) ≡ z.n *ℤ side (line p q) z
+pub stand-y : (p q : Point) (z : Vector)
+    → (z.y *ℤ (stand p q z).n) -ℤ ((stand p q z).y *ℤ z.n) ≡ z.n *ℤ side (line p q) z
 unfolding side
 stand-y p q z =
     let PX = at 0 in let PY = at 1 in let QX = at 2 in let QY = at 3 in let X = at 4 in let Y = at 5 in let N = at 6 in
@@ -56,7 +59,9 @@ no_rise : (x y : ℤ) → x <ℤ y → pos 0 ≤ℤ x → y ≤ℤ pos 0 → ⊥
 no_rise x y a b d = omega (arith, ints, a, b, d)
 
 -- ---- against a fence, and against an inner straight
-pub fence_over : (c : Cap) (p q : Point) (z : Vector) → IsCap c → Place z → p.x <ℤ q.x → IsFence c p q → pos 0 ≤ℤ z.y → shape c z ≤ℤ pos 0 → InColumn p q z → side (line p q) z ≤ℤ pos 0
+pub fence_over : (c : Cap) (p q : Point) (z : Vector) → IsCap c → Place z → p.x <ℤ q.x
+    → IsFence c p q → pos 0 ≤ℤ z.y → shape c z ≤ℤ pos 0 → InColumn p q z
+    → side (line p q) z ≤ℤ pos 0
 fence_over c p q z hc hz h f hy inside k = by_lt_z (pos 0) (side (line p q) z)
     (λ (l : pos 0 <ℤ side (line p q) z). absurd (against l))
     (λ l. l)
@@ -75,7 +80,8 @@ fence_over c p q z hc hz h f hy inside k = by_lt_z (pos 0) (side (line p q) z)
         no_rise _ _ rises a b
 
 -- what is not outside is convex
-pub most_mix : (c : Cap) (s : ℤ) (p : Vector) (t : ℤ) (q : Vector) → IsCap c → Place p → Place q → pos 0 ≤ℤ s → pos 0 ≤ℤ t
+pub most_mix : (c : Cap) (s : ℤ) (p : Vector) (t : ℤ) (q : Vector) → IsCap c → Place p → Place q
+    → pos 0 ≤ℤ s → pos 0 ≤ℤ t
     → shape c p ≤ℤ pos 0 → shape c q ≤ℤ pos 0 → shape c (mix s p t q) ≤ℤ pos 0
 most_mix c s p t q hc hp hq hs ht a b =
     let dx = (q.n *ℤ p.x) -ℤ (p.n *ℤ q.x) in
@@ -99,7 +105,9 @@ most_mix c s p t q hc hp hq hs ht a b =
     sum : (x w d : ℤ) → x ≡ w -ℤ d → w ≤ℤ pos 0 → pos 0 ≤ℤ d → x ≤ℤ pos 0
     sum x w d e h k = omega (arith, ints)
 
-pub chain_under : (c : Cap) (p q : Point) (z : Vector) → IsCap c → Place z → p.x <ℤ q.x → shape c (point p) ≤ℤ pos 0 → shape c (point q) ≤ℤ pos 0 → pos 0 ≤ℤ z.y → pos 0 ≤ℤ shape c z → InColumn p q z
+pub chain_under : (c : Cap) (p q : Point) (z : Vector) → IsCap c → Place z → p.x <ℤ q.x
+    → shape c (point p) ≤ℤ pos 0 → shape c (point q) ≤ℤ pos 0 → pos 0 ≤ℤ z.y → pos 0 ≤ℤ shape c z
+    → InColumn p q z
     → pos 0 ≤ℤ side (line p q) z
 chain_under c p q z hc hz h ip iq hy outside k = by_lt_z (side (line p q) z) (pos 0)
     (λ (l : side (line p q) z <ℤ pos 0). absurd (against l))
@@ -118,7 +126,8 @@ chain_under c p q z hc hz h ip iq hy outside k = by_lt_z (side (line p q) z) (po
         no_rise _ _ rises b a
 
 -- ---- along the strip
-pub under_fences : (c : Cap) (z : Vector) (q p : Point) (bs : List Bay) → IsCap c → Place z → IsCapStrip c q p bs → pos 0 ≤ℤ z.y → shape c z ≤ℤ pos 0 → IsUnder z q p bs
+pub under_fences : (c : Cap) (z : Vector) (q p : Point) (bs : List Bay) → IsCap c → Place z
+    → IsCapStrip c q p bs → pos 0 ≤ℤ z.y → shape c z ≤ℤ pos 0 → IsUnder z q p bs
 under_fences c z q p [] hc hz h hy inside = λ k. fence_over c q p z hc hz h.1 h.2 hy inside k
 under_fences c z q p (b ∷ rest) hc hz h hy inside =
     ((λ k. fence_over c q b.outer z hc hz (before h.1) h.2 hy inside k), under_fences c z b.outer b.inner rest hc hz h.4 hy inside)
@@ -127,11 +136,13 @@ under_fences c z q p (b ∷ rest) hc hz h hy inside =
     before (inl e) = let k = ap (λ (v : Point). v.x) e in let u = h.0.up in omega (arith, ints, k, u)
     before (inr d) = let k = d.up in let u = h.0.up in omega (arith, ints, k, u)
 
-pub strip_inner : (c : Cap) (q p : Point) (bs : List Bay) → IsCapStrip c q p bs → shape c (point p) ≤ℤ pos 0
+pub strip_inner : (c : Cap) (q p : Point) (bs : List Bay) → IsCapStrip c q p bs
+    → shape c (point p) ≤ℤ pos 0
 strip_inner c q p [] h = h.3
 strip_inner c q p (b ∷ rest) h = h.3
 
-pub over_inner : (c : Cap) (z : Vector) (q p : Point) (bs : List Bay) → IsCap c → Place z → IsCapStrip c q p bs → pos 0 ≤ℤ z.y → pos 0 ≤ℤ shape c z → AtInner NotUnder z p bs
+pub over_inner : (c : Cap) (z : Vector) (q p : Point) (bs : List Bay) → IsCap c → Place z
+    → IsCapStrip c q p bs → pos 0 ≤ℤ z.y → pos 0 ≤ℤ shape c z → AtInner NotUnder z p bs
 over_inner c z q p [] hc hz h hy outside = tt
 over_inner c z q p (b ∷ rest) hc hz h hy outside =
     let a = h.0.up in

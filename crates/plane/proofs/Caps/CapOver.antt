@@ -1,5 +1,6 @@
 -- The places of the slab over the circle's lower part are convex, and closed upwards.
-use Rattle.std.proofs.Common.{◌≡◌, ℤ, pos, ◌+ℤ◌, ◌*ℤ◌, ◌-ℤ◌, ◌<ℤ◌, ◌≤ℤ◌, ◌⊎◌, inl, inr, [], ◌∷◌, refl, arith, ap, ◌∙◌, subst, sym}
+use Rattle.std.proofs.Common.{◌≡◌, ℤ, pos, ◌+ℤ◌, ◌*ℤ◌, ◌-ℤ◌, ◌<ℤ◌, ◌≤ℤ◌, ◌⊎◌, inl, inr, [], ◌∷◌}
+use Rattle.std.proofs.Common.{refl, arith, ap, ◌∙◌, subst, sym}
 use Rattle.std.proofs.lemmas.Int.{ints, by_lt_z}
 use Rattle.plane.specs.Forms.Vectors.{Vector, Place, Same, mix}
 use Rattle.plane.specs.Tubes.Caps.{Cap, IsCap, shape, InSlab}
@@ -41,10 +42,12 @@ pub times_most : (m z : ℤ) → pos 0 ≤ℤ m → z ≤ℤ pos 0 → (m *ℤ z
 times_most m z h k = let p = times_le m z (pos 0) h k in omega (arith, ints, p)
 
 -- ---- the slab is convex
-pub slab_low : (s t a b : ℤ) → pos 0 ≤ℤ s → pos 0 ≤ℤ t → pos 0 ≤ℤ a → pos 0 ≤ℤ b → pos 0 ≤ℤ ((s *ℤ a) +ℤ (t *ℤ b))
+pub slab_low : (s t a b : ℤ) → pos 0 ≤ℤ s → pos 0 ≤ℤ t → pos 0 ≤ℤ a → pos 0 ≤ℤ b
+    → pos 0 ≤ℤ ((s *ℤ a) +ℤ (t *ℤ b))
 slab_low s t a b hs ht ha hb = let u = product_nonnegative s a hs ha in let v = product_nonnegative t b ht hb in omega (arith, ints, u, v)
 
-pub slab_mix : (c : Cap) (s : ℤ) (p : Vector) (t : ℤ) (q : Vector) → pos 0 ≤ℤ s → pos 0 ≤ℤ t → InSlab c p → InSlab c q → InSlab c (mix s p t q)
+pub slab_mix : (c : Cap) (s : ℤ) (p : Vector) (t : ℤ) (q : Vector) → pos 0 ≤ℤ s → pos 0 ≤ℤ t
+    → InSlab c p → InSlab c q → InSlab c (mix s p t q)
 slab_mix c s p t q hs ht hp hq = record {
   low = slab_low s t p.x q.x hs ht hp.low hq.low;
   high = span_high c.chord s t p.x p.n q.x q.n hs ht hp.high hq.high;
@@ -52,7 +55,8 @@ slab_mix c s p t q hs ht hp hq = record {
 
 -- ---- over the lower part
 -- from p, inside and under the chord's line, to q, over it: a place still under it is a mix of p and of the chord's place
-cut_once : (s t py qy p q : ℤ) → (pos 0 -ℤ py) *ℤ ((s *ℤ p) +ℤ (t *ℤ q)) ≡ ((pos 0 -ℤ ((s *ℤ py) +ℤ (t *ℤ qy))) *ℤ p) +ℤ (t *ℤ ((qy *ℤ p) +ℤ ((pos 0 -ℤ py) *ℤ q)))
+cut_once : (s t py qy p q : ℤ)
+    → (pos 0 -ℤ py) *ℤ ((s *ℤ p) +ℤ (t *ℤ q)) ≡ ((pos 0 -ℤ ((s *ℤ py) +ℤ (t *ℤ qy))) *ℤ p) +ℤ (t *ℤ ((qy *ℤ p) +ℤ ((pos 0 -ℤ py) *ℤ q)))
 cut_once s t py qy p q =
     let z = num (pos 0) in
     ring (times (minus z (at 2)) (plus (times (at 0) (at 4)) (times (at 1) (at 5))))
@@ -66,7 +70,8 @@ level p q = mix q.y p (pos 0 -ℤ p.y) q
 pub level-y : (p q : Vector) → (level p q).y ≡ pos 0
 level-y p q = ring (plus (times (at 1) (at 0)) (times (minus (num (pos 0)) (at 0)) (at 1))) (num (pos 0)) (vars (p.y ∷ q.y ∷ [])) refl
 
-over_part : (c : Cap) (s : ℤ) (p : Vector) (t : ℤ) (q : Vector) → IsCap c → Place p → Place q → pos 0 ≤ℤ s → pos 0 ≤ℤ t → InSlab c p → InSlab c q
+over_part : (c : Cap) (s : ℤ) (p : Vector) (t : ℤ) (q : Vector) → IsCap c → Place p → Place q
+    → pos 0 ≤ℤ s → pos 0 ≤ℤ t → InSlab c p → InSlab c q
     → shape c p <ℤ pos 0 → p.y <ℤ pos 0 → pos 0 ≤ℤ q.y → (mix s p t q).y <ℤ pos 0 → shape c (mix s p t q) <ℤ pos 0
 over_part c s p t q hc hp hq hs ht lp lq a b d below =
     let m = pos 0 -ℤ p.y in
@@ -84,7 +89,8 @@ over_part c s p t q hc hp hq hs ht lp lq a b d below =
     let f : shape c (scaled m z) <ℤ pos 0 = subst (λ (v : Vector). shape c v <ℤ pos 0) (sym e) inside in
     cancel_below (m *ℤ m) (shape c z) (square_positive m hm) (subst (λ (v : ℤ). v <ℤ pos 0) (shape-scaled c m z) f)
 
-pub over_mix : (c : Cap) (s : ℤ) (p : Vector) (t : ℤ) (q : Vector) → IsCap c → Place p → Place q → pos 0 ≤ℤ s → pos 0 ≤ℤ t → pos 0 <ℤ (s +ℤ t)
+pub over_mix : (c : Cap) (s : ℤ) (p : Vector) (t : ℤ) (q : Vector) → IsCap c → Place p → Place q
+    → pos 0 ≤ℤ s → pos 0 ≤ℤ t → pos 0 <ℤ (s +ℤ t)
     → IsOver c p → IsOver c q → IsOver c (mix s p t q)
 over_mix c s p t q hc hp hq hs ht some op oq =
     let z = mix s p t q in
@@ -103,7 +109,8 @@ over_mix c s p t q hc hp hq hs ht some op oq =
         (λ (b : q.y <ℤ pos 0). swapped (over_part c t q s p hc hq hp ht hs oq.slab op.slab (is_in q oq.over b) b a (subst (λ (v : Vector). v.y <ℤ pos 0) (mix_back s t p q) l)))
         (λ (b : pos 0 ≤ℤ q.y). let k = slab_low s t p.y q.y hs ht a b in absurd (omega (arith, ints, k, l))))
       where
-        is_in : (v : Vector) → (shape c v <ℤ pos 0) ⊎ (pos 0 ≤ℤ v.y) → v.y <ℤ pos 0 → shape c v <ℤ pos 0
+        is_in : (v : Vector) → (shape c v <ℤ pos 0) ⊎ (pos 0 ≤ℤ v.y) → v.y <ℤ pos 0
+            → shape c v <ℤ pos 0
         is_in v (inl h) k = h
         is_in v (inr h) k = absurd (omega (arith, ints, h, k))
 
@@ -122,7 +129,8 @@ same_scaled z m h = vector_eq _ _ (let k = h.x in omega (arith, ints, k, comm m.
     comm : (a b : ℤ) → a *ℤ b ≡ b *ℤ a
     comm a b = ring (times (at 0) (at 1)) (times (at 1) (at 0)) (vars (a ∷ b ∷ [])) refl
 
-pub shape_same : (c : Cap) (z m : Vector) → Same z m → (m.n *ℤ m.n) *ℤ shape c z ≡ (z.n *ℤ z.n) *ℤ shape c m
+pub shape_same : (c : Cap) (z m : Vector) → Same z m
+    → (m.n *ℤ m.n) *ℤ shape c z ≡ (z.n *ℤ z.n) *ℤ shape c m
 shape_same c z m h = sym (shape-scaled c m.n z) ∙ ap (λ (v : Vector). shape c v) (same_scaled z m h) ∙ shape-scaled c z.n m
 
 pub over_scaled : (c : Cap) (m : ℤ) (v : Vector) → pos 0 <ℤ m → IsOver c (scaled m v) → IsOver c v
@@ -137,7 +145,8 @@ over_scaled c m v hm o = record {
     swap : (a b d : ℤ) → a *ℤ (b *ℤ d) ≡ b *ℤ (a *ℤ d)
     swap a b d = ring (times (at 0) (times (at 1) (at 2))) (times (at 1) (times (at 0) (at 2))) (vars (a ∷ b ∷ d ∷ [])) refl
 
-    back : (shape c (scaled m v) <ℤ pos 0) ⊎ (pos 0 ≤ℤ (m *ℤ v.y)) → (shape c v <ℤ pos 0) ⊎ (pos 0 ≤ℤ v.y)
+    back : (shape c (scaled m v) <ℤ pos 0) ⊎ (pos 0 ≤ℤ (m *ℤ v.y))
+        → (shape c v <ℤ pos 0) ⊎ (pos 0 ≤ℤ v.y)
     back (inl h) = inl (cancel_below (m *ℤ m) (shape c v) (square_positive m hm) (subst (λ (k : ℤ). k <ℤ pos 0) (shape-scaled c m v) h))
     back (inr h) = inr (cancel_least m v.y hm h)
 
@@ -153,7 +162,8 @@ over_up c m v hm o = record {
     swap : (a b d : ℤ) → a *ℤ (b *ℤ d) ≡ b *ℤ (a *ℤ d)
     swap a b d = ring (times (at 0) (times (at 1) (at 2))) (times (at 1) (times (at 0) (at 2))) (vars (a ∷ b ∷ d ∷ [])) refl
 
-    on : (shape c v <ℤ pos 0) ⊎ (pos 0 ≤ℤ v.y) → (shape c (scaled m v) <ℤ pos 0) ⊎ (pos 0 ≤ℤ (m *ℤ v.y))
+    on : (shape c v <ℤ pos 0) ⊎ (pos 0 ≤ℤ v.y)
+        → (shape c (scaled m v) <ℤ pos 0) ⊎ (pos 0 ≤ℤ (m *ℤ v.y))
     on (inl h) = inl (subst (λ (k : ℤ). k <ℤ pos 0) (sym (shape-scaled c m v)) (times_below (m *ℤ m) (shape c v) (square_positive m hm) h))
     on (inr h) = inr (product_nonnegative m v.y (omega (arith, ints, hm)) h)
 

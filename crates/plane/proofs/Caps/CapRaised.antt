@@ -1,5 +1,6 @@
 -- What stands over a place that is over the circle's lower part is over it too.
-use Rattle.std.proofs.Common.{◌≡◌, ℤ, pos, ◌+ℤ◌, ◌*ℤ◌, ◌-ℤ◌, ◌<ℤ◌, ◌≤ℤ◌, ◌⊎◌, inl, inr, [], ◌∷◌, refl, arith, ap, subst}
+use Rattle.std.proofs.Common.{◌≡◌, ℤ, pos, ◌+ℤ◌, ◌*ℤ◌, ◌-ℤ◌, ◌<ℤ◌, ◌≤ℤ◌, ◌⊎◌, inl, inr, [], ◌∷◌}
+use Rattle.std.proofs.Common.{refl, arith, ap, subst}
 use Rattle.std.proofs.lemmas.Int.{ints, by_lt_z}
 use Rattle.plane.specs.declared.kinds.Point.{Point}
 use Rattle.plane.specs.Forms.Vectors.{Vector, Place, point, mix, side}
@@ -9,12 +10,15 @@ use Rattle.plane.specs.Tubes.CapStrips.{line, InColumn}
 use Rattle.plane.proofs.Algebra.Laws.{product_positive}
 use Rattle.plane.proofs.Algebra.Ring.{at, num, plus, minus, times, vars, ring}
 use Rattle.plane.proofs.Caps.ChordCircle.{inside_mix, chord_inside}
-use Rattle.plane.proofs.Caps.CapOver.{scaled, shape-scaled, square_positive, cancel_below, times_below, over_mix}
+use Rattle.plane.proofs.Caps.CapOver.{scaled, shape-scaled, square_positive, cancel_below}
+use Rattle.plane.proofs.Caps.CapOver.{times_below, over_mix}
 use Rattle.plane.proofs.Caps.CapFences.{stand, stand-x, stand-y, stands}
 use Rattle.plane.proofs.Linear.Clear.{vector_eq}
 
 -- u over w on one upright line, and under the chord's line: it is between w and the chord's place
-raised_inside : (c : Cap) (w z : Vector) → IsCap c → Place w → Place z → InSlab c z → w.x *ℤ z.n ≡ z.x *ℤ w.n → (w.y *ℤ z.n) <ℤ (z.y *ℤ w.n) → z.y <ℤ pos 0 → IsOver c w → shape c z <ℤ pos 0
+raised_inside : (c : Cap) (w z : Vector) → IsCap c → Place w → Place z → InSlab c z
+    → w.x *ℤ z.n ≡ z.x *ℤ w.n → (w.y *ℤ z.n) <ℤ (z.y *ℤ w.n) → z.y <ℤ pos 0 → IsOver c w
+    → shape c z <ℤ pos 0
 raised_inside c w z hc hw hz slab e over low ow =
     let a = pos 0 -ℤ (z.y *ℤ z.n) in
     let b = (z.y *ℤ w.n) -ℤ (w.y *ℤ z.n) in
@@ -37,7 +41,8 @@ raised_inside c w z hc hw hz slab e over low ow =
     comm : (a b : ℤ) → a *ℤ b ≡ b *ℤ a
     comm a b = ring (times (at 0) (at 1)) (times (at 1) (at 0)) (vars (a ∷ b ∷ [])) refl
 
-    is_in : (shape c w <ℤ pos 0) ⊎ (pos 0 ≤ℤ w.y) → pos 0 <ℤ (pos 0 -ℤ (w.y *ℤ z.n)) → shape c w <ℤ pos 0
+    is_in : (shape c w <ℤ pos 0) ⊎ (pos 0 ≤ℤ w.y) → pos 0 <ℤ (pos 0 -ℤ (w.y *ℤ z.n))
+        → shape c w <ℤ pos 0
     is_in (inl l) k = l
     is_in (inr l) k = by_lt_z w.y (pos 0)
         (λ (m : w.y <ℤ pos 0). absurd (omega (arith, ints, l, m)))
@@ -48,7 +53,8 @@ raised_inside c w z hc hw hz slab e over low ow =
             (λ (m : pos 0 <ℤ y). let p = product_positive y n m k in omega (arith, ints, p, l))
             (λ (m : y ≤ℤ pos 0). let z : y ≡ pos 0 = omega (arith, ints, h, m) in let p = ap (λ (v : ℤ). v *ℤ n) z in omega (arith, ints, p, l))
 
-    mix_x : (x y n u v m : ℤ) → x *ℤ m ≡ u *ℤ n → ((pos 0 -ℤ (v *ℤ m)) *ℤ x) +ℤ (((v *ℤ n) -ℤ (y *ℤ m)) *ℤ u) ≡ (pos 0 -ℤ (y *ℤ m)) *ℤ u
+    mix_x : (x y n u v m : ℤ) → x *ℤ m ≡ u *ℤ n
+        → ((pos 0 -ℤ (v *ℤ m)) *ℤ x) +ℤ (((v *ℤ n) -ℤ (y *ℤ m)) *ℤ u) ≡ (pos 0 -ℤ (y *ℤ m)) *ℤ u
     mix_x x y n u v m e =
         let X = at 0 in let Y = at 1 in let N = at 2 in let U = at 3 in let V = at 4 in let M = at 5 in
         let zero = num (pos 0) in
@@ -56,20 +62,24 @@ raised_inside c w z hc hw hz slab e over low ow =
         let f = ap (λ (w : ℤ). v *ℤ w) e in
         omega (arith, ints, i, f)
 
-    mix_y : (y n v m : ℤ) → ((pos 0 -ℤ (v *ℤ m)) *ℤ y) +ℤ (((v *ℤ n) -ℤ (y *ℤ m)) *ℤ pos 0) ≡ (pos 0 -ℤ (y *ℤ m)) *ℤ v
+    mix_y : (y n v m : ℤ)
+        → ((pos 0 -ℤ (v *ℤ m)) *ℤ y) +ℤ (((v *ℤ n) -ℤ (y *ℤ m)) *ℤ pos 0) ≡ (pos 0 -ℤ (y *ℤ m)) *ℤ v
     mix_y y n v m =
         let Y = at 0 in let N = at 1 in let V = at 2 in let M = at 3 in
         let zero = num (pos 0) in
         ring (plus (times (minus zero (times V M)) Y) (times (minus (times V N) (times Y M)) zero)) (times (minus zero (times Y M)) V) (vars (y ∷ n ∷ v ∷ m ∷ [])) refl
 
-    mix_n : (y n v m : ℤ) → ((pos 0 -ℤ (v *ℤ m)) *ℤ n) +ℤ (((v *ℤ n) -ℤ (y *ℤ m)) *ℤ m) ≡ (pos 0 -ℤ (y *ℤ m)) *ℤ m
+    mix_n : (y n v m : ℤ)
+        → ((pos 0 -ℤ (v *ℤ m)) *ℤ n) +ℤ (((v *ℤ n) -ℤ (y *ℤ m)) *ℤ m) ≡ (pos 0 -ℤ (y *ℤ m)) *ℤ m
     mix_n y n v m =
         let Y = at 0 in let N = at 1 in let V = at 2 in let M = at 3 in
         let zero = num (pos 0) in
         ring (plus (times (minus zero (times V M)) N) (times (minus (times V N) (times Y M)) M)) (times (minus zero (times Y M)) M) (vars (y ∷ n ∷ v ∷ m ∷ [])) refl
 
 -- a place strictly over a straight whose ends are over the lower part
-pub raised_over : (c : Cap) (p q : Point) (z : Vector) → IsCap c → Place z → p.x <ℤ q.x → InColumn p q z → InSlab c z → IsOver c (point p) → IsOver c (point q) → pos 0 <ℤ side (line p q) z → IsOver c z
+pub raised_over : (c : Cap) (p q : Point) (z : Vector) → IsCap c → Place z → p.x <ℤ q.x
+    → InColumn p q z → InSlab c z → IsOver c (point p) → IsOver c (point q)
+    → pos 0 <ℤ side (line p q) z → IsOver c z
 raised_over c p q z hc hz h k slab op oq l = record {
   slab = slab;
   over = by_lt_z z.y (pos 0) (λ (m : z.y <ℤ pos 0). inl (inside m)) (λ m. inr m);

@@ -1,5 +1,6 @@
 -- The strip is what is not under the inner chain and not over the outer chain.
-use Rattle.std.proofs.Common.{◌≡◌, ℤ, pos, ◌*ℤ◌, ◌-ℤ◌, ◌<ℤ◌, ◌≤ℤ◌, ◌⊎◌, inl, inr, List, [], ◌∷◌, arith, ap}
+use Rattle.std.proofs.Common.{◌≡◌, ℤ, pos, ◌*ℤ◌, ◌-ℤ◌, ◌<ℤ◌, ◌≤ℤ◌, ◌⊎◌, inl, inr, List, [], ◌∷◌}
+use Rattle.std.proofs.Common.{arith, ap}
 use Rattle.std.proofs.lemmas.Int.{ints, by_lt_z}
 use Rattle.plane.specs.declared.kinds.Point.{Point}
 use Rattle.plane.specs.Forms.Vectors.{Vector, Place, point, side}
@@ -12,8 +13,11 @@ use Rattle.plane.proofs.Algebra.Laws.{product_nonnegative}
 use Rattle.plane.proofs.Linear.Vectors.{side-low, side-high}
 use Rattle.plane.proofs.Caps.CapOver.{cancel_least}
 use Rattle.plane.proofs.Caps.CapCorners.{on_straight}
-use Rattle.plane.proofs.Caps.CapStrips.{side_at_low, side_at_high, further, inner_left, NotOver, found_first, locate}
-use Rattle.plane.proofs.Caps.CapTriangles.{triangle_least, triangle_most, triangle_low, triangle_high, side-turned, side-swapped, fan_low_least, fan_high_least}
+use Rattle.plane.proofs.Caps.CapStrips.{side_at_low, side_at_high, further, inner_left, NotOver}
+use Rattle.plane.proofs.Caps.CapStrips.{found_first, locate}
+use Rattle.plane.proofs.Caps.CapTriangles.{triangle_least, triangle_most, triangle_low}
+use Rattle.plane.proofs.Caps.CapTriangles.{triangle_high, side-turned, side-swapped, fan_low_least}
+use Rattle.plane.proofs.Caps.CapTriangles.{fan_high_least}
 
 -- ---- over the inner chain
 -- from p on: not under the chain, not left of p, and not under p itself
@@ -22,7 +26,8 @@ pub record OverRest (z : Vector) (p : Point) (bs : List Bay) : Type 0 where
   pub low : (p.x *ℤ z.n) ≤ℤ z.x
   pub start : z.x ≡ p.x *ℤ z.n → (p.y *ℤ z.n) ≤ℤ z.y
 
-over_next : (c : Cap) (z : Vector) (q v : Point) (rest : List Bay) → Place z → IsCapStrip c q v rest → z.x ≤ℤ (v.x *ℤ z.n) → (z.x ≡ v.x *ℤ z.n → (v.y *ℤ z.n) ≤ℤ z.y) → AtInner NotUnder z v rest
+over_next : (c : Cap) (z : Vector) (q v : Point) (rest : List Bay) → Place z → IsCapStrip c q v rest
+    → z.x ≤ℤ (v.x *ℤ z.n) → (z.x ≡ v.x *ℤ z.n → (v.y *ℤ z.n) ≤ℤ z.y) → AtInner NotUnder z v rest
 over_next c z q v [] hz h r f = tt
 over_next c z q v (d ∷ rest) hz h r f =
     let up = h.0.up in let on = h.0.on in
@@ -40,7 +45,9 @@ over_next c z q v (d ∷ rest) hz h r f =
         let s = side_at_low v d.inner z e in
         omega (arith, ints, p, s)
 
-over_own : (c : Cap) (z : Vector) (p : Point) (b : Bay) (rest : List Bay) → Place z → IsArch p b → IsCapStrip c b.outer b.inner rest → InColumn p b.inner z → pos 0 ≤ℤ side (line p b.inner) z → OverRest z p (b ∷ rest)
+over_own : (c : Cap) (z : Vector) (p : Point) (b : Bay) (rest : List Bay) → Place z → IsArch p b
+    → IsCapStrip c b.outer b.inner rest → InColumn p b.inner z → pos 0 ≤ℤ side (line p b.inner) z
+    → OverRest z p (b ∷ rest)
 over_own c z p b rest hz a h k s =
     let up = a.up in let on = a.on in
     let wide : pos 0 <ℤ (b.inner.x -ℤ p.x) = omega (arith, ints, up, on) in
@@ -59,7 +66,8 @@ over_own c z p b rest hz a h k s =
           omega (arith, ints, y);
     }
 
-over_step : (z : Vector) (p : Point) (b : Bay) (rest : List Bay) → Place z → IsArch p b → OverRest z b.inner rest → OverRest z p (b ∷ rest)
+over_step : (z : Vector) (p : Point) (b : Bay) (rest : List Bay) → Place z → IsArch p b
+    → OverRest z b.inner rest → OverRest z p (b ∷ rest)
 over_step z p b rest hz a o =
     let up = a.up in let on = a.on in
     let l = o.low in
@@ -85,7 +93,8 @@ zero_least a e = omega (arith, ints, e)
 pub zero_most : (a : ℤ) → a ≡ pos 0 → a ≤ℤ pos 0
 zero_most a e = omega (arith, ints, e)
 
-bays_over : (c : Cap) (z : Vector) (q p : Point) (bs : List Bay) → Place z → IsCapStrip c q p bs → InBays p bs z → OverRest z p bs
+bays_over : (c : Cap) (z : Vector) (q p : Point) (bs : List Bay) → Place z → IsCapStrip c q p bs
+    → InBays p bs z → OverRest z p bs
 bays_over c z q p [] hz h k = absurd k
 bays_over c z q p (b ∷ rest) hz h (inl t) =
     let up = h.0.up in let on = h.0.on in let high = h.0.over in
@@ -103,7 +112,9 @@ pub record IsGap (z : Vector) (v o w : Point) : Type 0 where
   pub low : (o.x *ℤ z.n) ≤ℤ z.x
   pub high : z.x ≤ℤ (w.x *ℤ z.n)
 
-pub gap_is : (z : Vector) (v o w : Point) → Place z → o.x <ℤ v.x → v.x <ℤ w.x → side (line o w) (point v) <ℤ pos 0 → InTriangle z (point v) (point o) (point w) → IsGap z v o w
+pub gap_is : (z : Vector) (v o w : Point) → Place z → o.x <ℤ v.x → v.x <ℤ w.x
+    → side (line o w) (point v) <ℤ pos 0 → InTriangle z (point v) (point o) (point w)
+    → IsGap z v o w
 gap_is z v o w hz a b d t =
     let e1 = side-swapped o v w in
     let e2 = side-turned o v w in
@@ -116,11 +127,13 @@ gap_is z v o w hz a b d t =
     }
 
 -- the inner corner between two outer ones is under them
-pub dip_of : (p : Point) (b d : Bay) → IsArch p b → (b.outer ≡ b.inner) ⊎ IsDip b.outer b.inner d.outer → IsDip b.outer b.inner d.outer
+pub dip_of : (p : Point) (b d : Bay) → IsArch p b
+    → (b.outer ≡ b.inner) ⊎ IsDip b.outer b.inner d.outer → IsDip b.outer b.inner d.outer
 dip_of p b d a (inl e) = absurd (let k = ap (λ (v : Point). v.x) e in let on = a.on in omega (arith, ints, k, on))
 dip_of p b d a (inr k) = k
 
-gaps_over : (c : Cap) (z : Vector) (q p : Point) (bs : List Bay) → Place z → IsCapStrip c q p bs → InGaps bs z → OverRest z p bs
+gaps_over : (c : Cap) (z : Vector) (q p : Point) (bs : List Bay) → Place z → IsCapStrip c q p bs
+    → InGaps bs z → OverRest z p bs
 gaps_over c z q p [] hz h k = absurd k
 gaps_over c z q p (b ∷ []) hz h k = absurd k
 gaps_over c z q p (b ∷ (d ∷ rest)) hz h (inl t) =
@@ -144,12 +157,14 @@ gaps_over c z q p (b ∷ (d ∷ rest)) hz h (inl t) =
     (fan_high_least b.inner p b.outer z on (omega (arith, ints, up, on)) (omega (arith, ints, over)) k g.before))
 gaps_over c z q p (b ∷ (d ∷ rest)) hz h (inr k) = over_step z p b (d ∷ rest) hz h.0 (gaps_over c z b.outer b.inner (d ∷ rest) hz h.4 k)
 
-pub strip_over : (c : Cap) (z : Vector) (q p : Point) (bs : List Bay) → Place z → IsCapStrip c q p bs → InTube p bs z → AtInner NotUnder z p bs
+pub strip_over : (c : Cap) (z : Vector) (q p : Point) (bs : List Bay) → Place z
+    → IsCapStrip c q p bs → InTube p bs z → AtInner NotUnder z p bs
 strip_over c z q p bs hz h (inl k) = (bays_over c z q p bs hz h k).chain
 strip_over c z q p bs hz h (inr k) = (gaps_over c z q p bs hz h k).chain
 
 -- ---- and back: between the chains is in the strip
-settle : (c : Cap) (z : Vector) (q p : Point) (bs : List Bay) → Place z → IsCapStrip c q p bs → z.x ≤ℤ (c.chord *ℤ z.n) → ((p.x *ℤ z.n) <ℤ z.x) ⊎ IsSome bs → (p.x *ℤ z.n) ≤ℤ z.x
+settle : (c : Cap) (z : Vector) (q p : Point) (bs : List Bay) → Place z → IsCapStrip c q p bs
+    → z.x ≤ℤ (c.chord *ℤ z.n) → ((p.x *ℤ z.n) <ℤ z.x) ⊎ IsSome bs → (p.x *ℤ z.n) ≤ℤ z.x
     → AtInner NotOver z p bs → AtInner NotUnder z p bs → InBays p bs z
 settle c z q p [] hz h r (inl l) low a b = absurd (let e = ap (λ (x : ℤ). x *ℤ z.n) h.0 in omega (arith, ints, e, r, l))
 settle c z q p [] hz h r (inr l) low a b = absurd l
@@ -163,7 +178,8 @@ settle c z q p (d ∷ rest) hz h r s low a b =
     let up = h.0.up in let on = h.0.on in
     inl (on_straight p d.inner d.outer z hz (omega (arith, ints, up, on)) col (omega (arith, ints, u, v))))
 
-pub strip_all : (c : Cap) (z : Vector) (p : Point) (b : Bay) (rest : List Bay) → Place z → IsCapStrip c p p (b ∷ rest) → (p.x *ℤ z.n) ≤ℤ z.x → z.x ≤ℤ (c.chord *ℤ z.n)
+pub strip_all : (c : Cap) (z : Vector) (p : Point) (b : Bay) (rest : List Bay) → Place z
+    → IsCapStrip c p p (b ∷ rest) → (p.x *ℤ z.n) ≤ℤ z.x → z.x ≤ℤ (c.chord *ℤ z.n)
     → AtInner NotUnder z p (b ∷ rest) → IsUnder z p p (b ∷ rest) → InTube p (b ∷ rest) z
 strip_all c z p b rest hz h l r over under =
     elim (locate c z p p (b ∷ rest) hz h l r under) [

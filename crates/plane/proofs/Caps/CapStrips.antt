@@ -1,5 +1,6 @@
 -- A place under the outer chain is in the strip or under the inner chain.
-use Rattle.std.proofs.Common.{◌≡◌, ℤ, pos, ◌+ℤ◌, ◌*ℤ◌, ◌-ℤ◌, ◌<ℤ◌, ◌≤ℤ◌, ◌⊎◌, inl, inr, List, [], ◌∷◌, refl, arith, ap, ◌∙◌, subst, sym}
+use Rattle.std.proofs.Common.{◌≡◌, ℤ, pos, ◌+ℤ◌, ◌*ℤ◌, ◌-ℤ◌, ◌<ℤ◌, ◌≤ℤ◌, ◌⊎◌, inl, inr, List, []}
+use Rattle.std.proofs.Common.{◌∷◌, refl, arith, ap, ◌∙◌, subst, sym}
 use Rattle.std.proofs.lemmas.Int.{ints, by_lt_z}
 use Rattle.plane.specs.declared.kinds.Point.{Point}
 use Rattle.plane.specs.Forms.Vectors.{Vector, Place, point, Edge, side}
@@ -11,17 +12,20 @@ use Rattle.plane.proofs.Algebra.Laws.{sum-product, zero-product}
 use Rattle.plane.proofs.Algebra.Scaling.{times_lt, product_of_zero}
 use Rattle.plane.proofs.Caps.CapOver.{times_most, cancel_most}
 use Rattle.plane.proofs.Algebra.Ring.{at, minus, times, vars, ring}
-use Rattle.plane.proofs.Caps.CapCorners.{SIDE, triangle_up, triangle_down, left_up, right_up, left_down, right_down}
+use Rattle.plane.proofs.Caps.CapCorners.{SIDE, triangle_up, triangle_down, left_up, right_up}
+use Rattle.plane.proofs.Caps.CapCorners.{left_down, right_down}
 
 -- ---- at a corner
 -- straight over or under the low end of a straight, the side is that height
-pub side_at_low : (p q : Point) (z : Vector) → z.x ≡ p.x *ℤ z.n → side (line p q) z ≡ (q.x -ℤ p.x) *ℤ (z.y -ℤ (p.y *ℤ z.n))
+pub side_at_low : (p q : Point) (z : Vector) → z.x ≡ p.x *ℤ z.n
+    → side (line p q) z ≡ (q.x -ℤ p.x) *ℤ (z.y -ℤ (p.y *ℤ z.n))
 unfolding side
 side_at_low p q z e =
     let k = product_of_zero (q.y -ℤ p.y) (z.x -ℤ (p.x *ℤ z.n)) (omega (arith, ints, e)) in
     omega (arith, ints, k)
 
-pub side_at_high : (p q : Point) (z : Vector) → z.x ≡ q.x *ℤ z.n → side (line p q) z ≡ (q.x -ℤ p.x) *ℤ (z.y -ℤ (q.y *ℤ z.n))
+pub side_at_high : (p q : Point) (z : Vector) → z.x ≡ q.x *ℤ z.n
+    → side (line p q) z ≡ (q.x -ℤ p.x) *ℤ (z.y -ℤ (q.y *ℤ z.n))
 unfolding side
 side_at_high p q z e =
     let k = product_of_zero (q.y -ℤ p.y) (z.x -ℤ (q.x *ℤ z.n)) (omega (arith, ints, e)) in
@@ -42,7 +46,8 @@ abbrev pub NotOver : Edge → Vector → Type 0
 NotOver e z = side e z ≤ℤ pos 0
 
 -- left of p, no later straight of the inner chain is met
-pub inner_left : (R : Edge → Vector → Type 0) (c : Cap) (z : Vector) (q p : Point) (bs : List Bay) → Place z → IsCapStrip c q p bs → z.x <ℤ (p.x *ℤ z.n) → AtInner R z p bs
+pub inner_left : (R : Edge → Vector → Type 0) (c : Cap) (z : Vector) (q p : Point) (bs : List Bay)
+    → Place z → IsCapStrip c q p bs → z.x <ℤ (p.x *ℤ z.n) → AtInner R z p bs
 inner_left R c z q p [] hz h l = tt
 inner_left R c z q p (b ∷ rest) hz h l =
     let m = further p.x b.outer.x z.n hz h.0.up in
@@ -57,7 +62,8 @@ GapBefore z q p (b ∷ rest) = InTriangle z (point p) (point q) (point b.outer)
 abbrev pub Found : Vector → Point → Point → List Bay → Type 0
 Found z q p bs = GapBefore z q p bs ⊎ InTube p bs z
 
-gap_step : (z : Vector) (b : Bay) (rest : List Bay) → GapBefore z b.outer b.inner rest → InGaps (b ∷ rest) z
+gap_step : (z : Vector) (b : Bay) (rest : List Bay) → GapBefore z b.outer b.inner rest
+    → InGaps (b ∷ rest) z
 gap_step z b [] h = absurd h
 gap_step z b (d ∷ rest) h = inl h
 
@@ -65,7 +71,8 @@ gaps_step : (z : Vector) (b : Bay) (rest : List Bay) → InGaps rest z → InGap
 gaps_step z b [] h = absurd h
 gaps_step z b (d ∷ rest) h = inr h
 
-pub found_step : (z : Vector) (p : Point) (b : Bay) (rest : List Bay) → Found z b.outer b.inner rest → InTube p (b ∷ rest) z
+pub found_step : (z : Vector) (p : Point) (b : Bay) (rest : List Bay) → Found z b.outer b.inner rest
+    → InTube p (b ∷ rest) z
 found_step z p b rest (inl h) = inr (gap_step z b rest h)
 found_step z p b rest (inr (inl h)) = inl (inr h)
 found_step z p b rest (inr (inr h)) = inr (gaps_step z b rest h)
@@ -88,17 +95,20 @@ found_first z p (b ∷ rest) (inl h) = inl (inl record {
   };
 })
   where
-    one : (o x v : ℤ) → (((h.i +ℤ h.j) *ℤ x) +ℤ (pos 0 *ℤ v)) +ℤ (h.k *ℤ o) ≡ ((h.i *ℤ x) +ℤ (h.j *ℤ x)) +ℤ (h.k *ℤ o)
+    one : (o x v : ℤ)
+        → (((h.i +ℤ h.j) *ℤ x) +ℤ (pos 0 *ℤ v)) +ℤ (h.k *ℤ o) ≡ ((h.i *ℤ x) +ℤ (h.j *ℤ x)) +ℤ (h.k *ℤ o)
     one o x v = let d = sum-product h.i h.j x in let e = zero-product v in omega (arith, ints, d, e)
 
 -- ---- the walk along the strip
 -- right of o and left of v the outer chain goes on from o
-after_top : (c : Cap) (z : Vector) (b : Bay) (rest : List Bay) → Place z → IsCapStrip c b.outer b.inner rest → IsUnder z b.outer b.inner rest
+after_top : (c : Cap) (z : Vector) (b : Bay) (rest : List Bay) → Place z
+    → IsCapStrip c b.outer b.inner rest → IsUnder z b.outer b.inner rest
     → (b.outer.x *ℤ z.n) ≤ℤ z.x → z.x ≤ℤ (b.inner.x *ℤ z.n) → pos 0 <ℤ side (line b.outer b.inner) z → b.outer.x <ℤ b.inner.x → Found z b.outer b.inner rest
 after_top c z b [] hz h u l r s on = absurd (let k = u record { low = l; high = r } in omega (arith, ints, k, s))
 after_top c z b (d ∷ rest) hz h u l r s on = inl (top h.1)
   where
-    top : (b.outer ≡ b.inner) ⊎ IsDip b.outer b.inner d.outer → InTriangle z (point b.inner) (point b.outer) (point d.outer)
+    top : (b.outer ≡ b.inner) ⊎ IsDip b.outer b.inner d.outer
+        → InTriangle z (point b.inner) (point b.outer) (point d.outer)
     top (inl e) = absurd (let k = ap (λ (v : Point). v.x) e in omega (arith, ints, k, on))
     top (inr dip) =
         let out = h.0.up in
@@ -106,7 +116,8 @@ after_top c z b (d ∷ rest) hz h u l r s on = inl (top h.1)
         let under = u.0 record { low = l; high = omega (arith, ints, r, m) } in
         triangle_down b.outer b.inner d.outer z hz dip.under under (omega (arith, ints, s)) (left_down b.outer b.inner d.outer z dip.up out dip.under r (omega (arith, ints, s)))
 
-before_top : (c : Cap) (z : Vector) (q p : Point) (b : Bay) (rest : List Bay) → Place z → IsCapStrip c q p (b ∷ rest) → IsUnder z q p (b ∷ rest)
+before_top : (c : Cap) (z : Vector) (q p : Point) (b : Bay) (rest : List Bay) → Place z
+    → IsCapStrip c q p (b ∷ rest) → IsUnder z q p (b ∷ rest)
     → (p.x *ℤ z.n) ≤ℤ z.x → z.x ≤ℤ (b.outer.x *ℤ z.n) → pos 0 <ℤ side (line p b.outer) z → Found z q p (b ∷ rest)
 before_top c z q p b rest hz h u l r s = inl (top h.1)
   where
@@ -121,7 +132,8 @@ before_top c z q p b rest hz h u l r s = inl (top h.1)
         triangle_down q p b.outer z hz dip.under under (right_down q p b.outer z dip.up out dip.under l (omega (arith, ints, s))) (omega (arith, ints, s))
 
 -- under the straight p v, the place is not over any straight of the inner chain
-under_all : (c : Cap) (z : Vector) (p : Point) (b : Bay) (rest : List Bay) → Place z → IsArch p b → IsCapStrip c b.outer b.inner rest
+under_all : (c : Cap) (z : Vector) (p : Point) (b : Bay) (rest : List Bay) → Place z → IsArch p b
+    → IsCapStrip c b.outer b.inner rest
     → z.x ≤ℤ (b.inner.x *ℤ z.n) → side (line p b.inner) z <ℤ pos 0 → AtInner NotOver z p (b ∷ rest)
 under_all c z p b rest hz a h r s = ((λ k. omega (arith, ints, s)), later rest h)
   where
@@ -146,7 +158,8 @@ under_all c z p b rest hz a h r s = ((λ k. omega (arith, ints, s)), later rest 
 abbrev pub Split : Vector → Point → Point → List Bay → Type 0
 Split z q p bs = Found z q p bs ⊎ AtInner NotOver z p bs
 
-pub locate : (c : Cap) (z : Vector) (q p : Point) (bs : List Bay) → Place z → IsCapStrip c q p bs → (p.x *ℤ z.n) ≤ℤ z.x → z.x ≤ℤ (c.chord *ℤ z.n) → IsUnder z q p bs → Split z q p bs
+pub locate : (c : Cap) (z : Vector) (q p : Point) (bs : List Bay) → Place z → IsCapStrip c q p bs
+    → (p.x *ℤ z.n) ≤ℤ z.x → z.x ≤ℤ (c.chord *ℤ z.n) → IsUnder z q p bs → Split z q p bs
 locate c z q p [] hz h l r u = inr tt
 locate c z q p (b ∷ rest) hz h l r u =
     by_lt_z (b.inner.x *ℤ z.n) z.x
@@ -165,7 +178,8 @@ locate c z q p (b ∷ rest) hz h l r u =
     later a (inl f) = inl (inr (found_step z p b rest f))
     later a (inr g) = inr ((λ (k : InColumn p b.inner z). absurd (let k_high = k.high in omega (arith, ints, k_high, a))), g)
 
-    middle : z.x ≤ℤ (b.inner.x *ℤ z.n) → side (line p b.outer) z ≤ℤ pos 0 → side (line b.outer b.inner) z ≤ℤ pos 0 → Split z q p (b ∷ rest)
+    middle : z.x ≤ℤ (b.inner.x *ℤ z.n) → side (line p b.outer) z ≤ℤ pos 0
+        → side (line b.outer b.inner) z ≤ℤ pos 0 → Split z q p (b ∷ rest)
     middle a s t = by_lt_z (side (line p b.inner) z) (pos 0)
         (λ (k : side (line p b.inner) z <ℤ pos 0). inr (under_all c z p b rest hz h.0 h.4 a k))
         (λ (k : pos 0 ≤ℤ side (line p b.inner) z). inl (inr (inl (inl (triangle_up p b.outer b.inner z hz h.0.over k s t)))))

@@ -1,5 +1,6 @@
 -- What holds at the corners of a triangle holds at its places, and lines through one corner.
-use Rattle.std.proofs.Common.{◌≡◌, ℤ, pos, ◌+ℤ◌, ◌*ℤ◌, ◌-ℤ◌, ◌<ℤ◌, ◌≤ℤ◌, [], ◌∷◌, refl, arith, ap, ◌∙◌, sym}
+use Rattle.std.proofs.Common.{◌≡◌, ℤ, pos, ◌+ℤ◌, ◌*ℤ◌, ◌-ℤ◌, ◌<ℤ◌, ◌≤ℤ◌, [], ◌∷◌, refl, arith, ap}
+use Rattle.std.proofs.Common.{◌∙◌, sym}
 use Rattle.std.proofs.lemmas.Int.{ints}
 use Rattle.plane.specs.declared.kinds.Point.{Point}
 use Rattle.plane.specs.Forms.Vectors.{Vector, Place, point, mix, Edge, side}
@@ -14,7 +15,8 @@ use Rattle.plane.proofs.Caps.CapCorners.{SIDE}
 use Rattle.plane.proofs.Algebra.Ring.{at, num, plus, minus, times, vars, ring}
 
 -- ---- the sides of a mean
-side-mean : (e : Edge) (i : ℤ) (p : Vector) (j : ℤ) (q : Vector) (k : ℤ) (r : Vector) → side e (mean i p j q k r) ≡ ((i *ℤ side e p) +ℤ (j *ℤ side e q)) +ℤ (k *ℤ side e r)
+side-mean : (e : Edge) (i : ℤ) (p : Vector) (j : ℤ) (q : Vector) (k : ℤ) (r : Vector)
+    → side e (mean i p j q k r) ≡ ((i *ℤ side e p) +ℤ (j *ℤ side e q)) +ℤ (k *ℤ side e r)
 side-mean e i p j q k r =
     ap (λ (v : Vector). side e v) (sym (mean-mix i p j q k r))
     ∙ side-mix e (pos 1) (mix i p j q) k r
@@ -22,10 +24,13 @@ side-mean e i p j q k r =
     ∙ ring (plus (times (num (pos 1)) (plus (times (at 0) (at 1)) (times (at 2) (at 3)))) (times (at 4) (at 5))) (plus (plus (times (at 0) (at 1)) (times (at 2) (at 3))) (times (at 4) (at 5)))
     (vars (i ∷ side e p ∷ j ∷ side e q ∷ k ∷ side e r ∷ [])) refl
 
-mean_place : (z : Vector) (p q r : Point) (t : InTriangle z (point p) (point q) (point r)) → Place (mean t.i (point p) t.j (point q) t.k (point r))
+mean_place : (z : Vector) (p q r : Point) (t : InTriangle z (point p) (point q) (point r))
+    → Place (mean t.i (point p) t.j (point q) t.k (point r))
 mean_place z p q r t = let s = t.some in omega (arith, ints, s)
 
-pub triangle_least : (e : Edge) (z : Vector) (p q r : Point) → Place z → InTriangle z (point p) (point q) (point r) → pos 0 ≤ℤ side e (point p) → pos 0 ≤ℤ side e (point q) → pos 0 ≤ℤ side e (point r) → pos 0 ≤ℤ side e z
+pub triangle_least : (e : Edge) (z : Vector) (p q r : Point) → Place z
+    → InTriangle z (point p) (point q) (point r) → pos 0 ≤ℤ side e (point p)
+    → pos 0 ≤ℤ side e (point q) → pos 0 ≤ℤ side e (point r) → pos 0 ≤ℤ side e z
 triangle_least e z p q r hz t a b c =
     let m = mean t.i (point p) t.j (point q) t.k (point r) in
     let u = product_nonnegative t.i (side e (point p)) t.i_least a in
@@ -36,7 +41,9 @@ triangle_least e z p q r hz t a b c =
     let k = side_same e z m t.is in
     cancel_least m.n (side e z) (mean_place z p q r t) (omega (arith, ints, g, k))
 
-pub triangle_most : (e : Edge) (z : Vector) (p q r : Point) → Place z → InTriangle z (point p) (point q) (point r) → side e (point p) ≤ℤ pos 0 → side e (point q) ≤ℤ pos 0 → side e (point r) ≤ℤ pos 0 → side e z ≤ℤ pos 0
+pub triangle_most : (e : Edge) (z : Vector) (p q r : Point) → Place z
+    → InTriangle z (point p) (point q) (point r) → side e (point p) ≤ℤ pos 0
+    → side e (point q) ≤ℤ pos 0 → side e (point r) ≤ℤ pos 0 → side e z ≤ℤ pos 0
 triangle_most e z p q r hz t a b c =
     let m = mean t.i (point p) t.j (point q) t.k (point r) in
     let u = times_most t.i (side e (point p)) t.i_least a in
@@ -48,7 +55,9 @@ triangle_most e z p q r hz t a b c =
     cancel_most m.n (side e z) (mean_place z p q r t) (omega (arith, ints, g, k))
 
 -- ---- the width
-pub triangle_low : (l : ℤ) (z : Vector) (p q r : Point) → Place z → InTriangle z (point p) (point q) (point r) → l ≤ℤ p.x → l ≤ℤ q.x → l ≤ℤ r.x → (l *ℤ z.n) ≤ℤ z.x
+pub triangle_low : (l : ℤ) (z : Vector) (p q r : Point) → Place z
+    → InTriangle z (point p) (point q) (point r) → l ≤ℤ p.x → l ≤ℤ q.x → l ≤ℤ r.x
+    → (l *ℤ z.n) ≤ℤ z.x
 triangle_low l z p q r hz t a b c =
     let m = mean t.i (point p) t.j (point q) t.k (point r) in
     let u = product_nonnegative t.i (p.x -ℤ l) t.i_least (omega (arith, ints, a)) in
@@ -65,7 +74,9 @@ triangle_low l z p q r hz t a b c =
     let n = cancel_least m.n (z.x -ℤ (l *ℤ z.n)) (mean_place z p q r t) (omega (arith, ints, g, k, i, j)) in
     omega (arith, ints, n)
 
-pub triangle_high : (l : ℤ) (z : Vector) (p q r : Point) → Place z → InTriangle z (point p) (point q) (point r) → p.x ≤ℤ l → q.x ≤ℤ l → r.x ≤ℤ l → z.x ≤ℤ (l *ℤ z.n)
+pub triangle_high : (l : ℤ) (z : Vector) (p q r : Point) → Place z
+    → InTriangle z (point p) (point q) (point r) → p.x ≤ℤ l → q.x ≤ℤ l → r.x ≤ℤ l
+    → z.x ≤ℤ (l *ℤ z.n)
 triangle_high l z p q r hz t a b c =
     let m = mean t.i (point p) t.j (point q) t.k (point r) in
     let u = product_nonnegative t.i (l -ℤ p.x) t.i_least (omega (arith, ints, a)) in
@@ -96,7 +107,8 @@ side-swapped a b c =
     ring (SIDE (at 0) (at 1) (at 4) (at 5) (at 2) (at 3) one) (minus (num (pos 0)) (SIDE (at 0) (at 1) (at 2) (at 3) (at 4) (at 5) one)) (vars (a.x ∷ a.y ∷ b.x ∷ b.y ∷ c.x ∷ c.y ∷ [])) refl
 
 -- ---- two lines with one end
-fan-low : (m a b : Point) (z : Vector) → (b.x -ℤ m.x) *ℤ side (line m a) z ≡ ((a.x -ℤ m.x) *ℤ side (line m b) z) +ℤ (side (line m a) (point b) *ℤ (z.x -ℤ (m.x *ℤ z.n)))
+fan-low : (m a b : Point) (z : Vector)
+    → (b.x -ℤ m.x) *ℤ side (line m a) z ≡ ((a.x -ℤ m.x) *ℤ side (line m b) z) +ℤ (side (line m a) (point b) *ℤ (z.x -ℤ (m.x *ℤ z.n)))
 unfolding side
 fan-low m a b z =
     let MX = at 0 in let MY = at 1 in let AX = at 2 in let AY = at 3 in let BX = at 4 in let BY = at 5 in
@@ -104,7 +116,8 @@ fan-low m a b z =
     ring (times (minus BX MX) (SIDE MX MY AX AY X Y N)) (plus (times (minus AX MX) (SIDE MX MY BX BY X Y N)) (times (SIDE MX MY AX AY BX BY (num (pos 1))) (minus X (times MX N))))
     (vars (m.x ∷ m.y ∷ a.x ∷ a.y ∷ b.x ∷ b.y ∷ z.x ∷ z.y ∷ z.n ∷ [])) refl
 
-fan-high : (m a b : Point) (z : Vector) → (m.x -ℤ b.x) *ℤ side (line a m) z ≡ ((m.x -ℤ a.x) *ℤ side (line b m) z) +ℤ (side (line a m) (point b) *ℤ ((m.x *ℤ z.n) -ℤ z.x))
+fan-high : (m a b : Point) (z : Vector)
+    → (m.x -ℤ b.x) *ℤ side (line a m) z ≡ ((m.x -ℤ a.x) *ℤ side (line b m) z) +ℤ (side (line a m) (point b) *ℤ ((m.x *ℤ z.n) -ℤ z.x))
 unfolding side
 fan-high m a b z =
     let MX = at 0 in let MY = at 1 in let AX = at 2 in let AY = at 3 in let BX = at 4 in let BY = at 5 in
@@ -112,14 +125,18 @@ fan-high m a b z =
     ring (times (minus MX BX) (SIDE AX AY MX MY X Y N)) (plus (times (minus MX AX) (SIDE BX BY MX MY X Y N)) (times (SIDE AX AY MX MY BX BY (num (pos 1))) (minus (times MX N) X)))
     (vars (m.x ∷ m.y ∷ a.x ∷ a.y ∷ b.x ∷ b.y ∷ z.x ∷ z.y ∷ z.n ∷ [])) refl
 
-pub fan_low_least : (m a b : Point) (z : Vector) → m.x <ℤ b.x → m.x ≤ℤ a.x → pos 0 ≤ℤ side (line m a) (point b) → (m.x *ℤ z.n) ≤ℤ z.x → pos 0 ≤ℤ side (line m b) z → pos 0 ≤ℤ side (line m a) z
+pub fan_low_least : (m a b : Point) (z : Vector) → m.x <ℤ b.x → m.x ≤ℤ a.x
+    → pos 0 ≤ℤ side (line m a) (point b) → (m.x *ℤ z.n) ≤ℤ z.x → pos 0 ≤ℤ side (line m b) z
+    → pos 0 ≤ℤ side (line m a) z
 fan_low_least m a b z hb ha d l k =
     let u = product_nonnegative (a.x -ℤ m.x) (side (line m b) z) (omega (arith, ints, ha)) k in
     let v = product_nonnegative (side (line m a) (point b)) (z.x -ℤ (m.x *ℤ z.n)) d (omega (arith, ints, l)) in
     let e = fan-low m a b z in
     cancel_least (b.x -ℤ m.x) (side (line m a) z) (omega (arith, ints, hb)) (omega (arith, ints, u, v, e))
 
-pub fan_high_least : (m a b : Point) (z : Vector) → b.x <ℤ m.x → a.x ≤ℤ m.x → pos 0 ≤ℤ side (line a m) (point b) → z.x ≤ℤ (m.x *ℤ z.n) → pos 0 ≤ℤ side (line b m) z → pos 0 ≤ℤ side (line a m) z
+pub fan_high_least : (m a b : Point) (z : Vector) → b.x <ℤ m.x → a.x ≤ℤ m.x
+    → pos 0 ≤ℤ side (line a m) (point b) → z.x ≤ℤ (m.x *ℤ z.n) → pos 0 ≤ℤ side (line b m) z
+    → pos 0 ≤ℤ side (line a m) z
 fan_high_least m a b z hb ha d l k =
     let u = product_nonnegative (m.x -ℤ a.x) (side (line b m) z) (omega (arith, ints, ha)) k in
     let v = product_nonnegative (side (line a m) (point b)) ((m.x *ℤ z.n) -ℤ z.x) d (omega (arith, ints, l)) in
@@ -132,14 +149,18 @@ not_positive a b h k =
     let e = ring (times (at 0) (at 1)) (times (at 1) (at 0)) (vars (a ∷ b ∷ [])) refl in
     omega (arith, ints, p, e)
 
-pub fan_low_most : (m a b : Point) (z : Vector) → m.x <ℤ b.x → m.x ≤ℤ a.x → side (line m a) (point b) ≤ℤ pos 0 → (m.x *ℤ z.n) ≤ℤ z.x → side (line m b) z ≤ℤ pos 0 → side (line m a) z ≤ℤ pos 0
+pub fan_low_most : (m a b : Point) (z : Vector) → m.x <ℤ b.x → m.x ≤ℤ a.x
+    → side (line m a) (point b) ≤ℤ pos 0 → (m.x *ℤ z.n) ≤ℤ z.x → side (line m b) z ≤ℤ pos 0
+    → side (line m a) z ≤ℤ pos 0
 fan_low_most m a b z hb ha d l k =
     let u = times_most (a.x -ℤ m.x) (side (line m b) z) (omega (arith, ints, ha)) k in
     let v = not_positive (side (line m a) (point b)) (z.x -ℤ (m.x *ℤ z.n)) d (omega (arith, ints, l)) in
     let e = fan-low m a b z in
     cancel_most (b.x -ℤ m.x) (side (line m a) z) (omega (arith, ints, hb)) (omega (arith, ints, u, v, e))
 
-pub fan_high_most : (m a b : Point) (z : Vector) → b.x <ℤ m.x → a.x ≤ℤ m.x → side (line a m) (point b) ≤ℤ pos 0 → z.x ≤ℤ (m.x *ℤ z.n) → side (line b m) z ≤ℤ pos 0 → side (line a m) z ≤ℤ pos 0
+pub fan_high_most : (m a b : Point) (z : Vector) → b.x <ℤ m.x → a.x ≤ℤ m.x
+    → side (line a m) (point b) ≤ℤ pos 0 → z.x ≤ℤ (m.x *ℤ z.n) → side (line b m) z ≤ℤ pos 0
+    → side (line a m) z ≤ℤ pos 0
 fan_high_most m a b z hb ha d l k =
     let u = times_most (m.x -ℤ a.x) (side (line b m) z) (omega (arith, ints, ha)) k in
     let v = not_positive (side (line a m) (point b)) ((m.x *ℤ z.n) -ℤ z.x) d (omega (arith, ints, l)) in

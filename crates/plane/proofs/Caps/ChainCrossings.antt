@@ -1,5 +1,6 @@
 -- A chain of straights that rises along x: a segment with one end not over it and the other not under it has a place on it.
-use Rattle.std.proofs.Common.{◌≡◌, ℤ, pos, ◌+ℤ◌, ◌*ℤ◌, ◌-ℤ◌, ◌<ℤ◌, ◌≤ℤ◌, ◌⊎◌, inl, inr, List, [], ◌∷◌, refl, arith, ◌∙◌, subst}
+use Rattle.std.proofs.Common.{◌≡◌, ℤ, pos, ◌+ℤ◌, ◌*ℤ◌, ◌-ℤ◌, ◌<ℤ◌, ◌≤ℤ◌, ◌⊎◌, inl, inr, List, []}
+use Rattle.std.proofs.Common.{◌∷◌, refl, arith, ◌∙◌, subst}
 use Rattle.std.proofs.lemmas.Int.{ints, by_lt_z}
 use Rattle.plane.specs.declared.kinds.Point.{Point}
 use Rattle.plane.specs.Forms.Vectors.{Vector, Place, mix, Edge, side}
@@ -10,7 +11,8 @@ use Rattle.plane.proofs.Algebra.Ring.{at, num, plus, minus, times, vars, ring}
 use Rattle.plane.proofs.Linear.Signs.{mix_place}
 use Rattle.plane.proofs.Windings.Ways.{way_mix, way_start, way_end}
 use Rattle.plane.proofs.Caps.CapStrips.{further}
-use Rattle.plane.proofs.Caps.CapCrossings.{IsTilt, Most, Least, NotRight, side_tilt, under_tilt, under_side, wall_x, wall_left, not_right_low, column_mix}
+use Rattle.plane.proofs.Caps.CapCrossings.{IsTilt, Most, Least, NotRight, side_tilt, under_tilt}
+use Rattle.plane.proofs.Caps.CapCrossings.{under_side, wall_x, wall_left, not_right_low, column_mix}
 
 abbrev pub Rises : Point → List Point → Type 0
 Rises p [] = Unit {0}
@@ -35,7 +37,8 @@ pub record Met (p : Point) (ps : List Point) (a z : Vector) : Type 0 where
   pub way : IsOnWay a z at
   pub on : OnChain at p ps
 
-pub at_chain : (R S : Edge → Vector → Type 0) (z : Vector) (p : Point) (ps : List Point) → ((e : Edge) → R e z → S e z) → AtChain R z p ps → AtChain S z p ps
+pub at_chain : (R S : Edge → Vector → Type 0) (z : Vector) (p : Point) (ps : List Point)
+    → ((e : Edge) → R e z → S e z) → AtChain R z p ps → AtChain S z p ps
 at_chain R S z p [] f h = tt
 at_chain R S z p (q ∷ rest) f h = ((λ k. f (line p q) (h.0 k)), at_chain R S z q rest f h.1)
 
@@ -43,11 +46,14 @@ last_least : (p : Point) (ps : List Point) → Rises p ps → p.x ≤ℤ (last p
 last_least p [] h = omega (arith, ints)
 last_least p (q ∷ rest) h = let k = last_least q rest h.1 in let l = h.0 in omega (arith, ints, k, l)
 
-chain_left : (R : Edge → Vector → Type 0) (z : Vector) (p : Point) (ps : List Point) → Place z → Rises p ps → z.x <ℤ (p.x *ℤ z.n) → AtChain R z p ps
+chain_left : (R : Edge → Vector → Type 0) (z : Vector) (p : Point) (ps : List Point) → Place z
+    → Rises p ps → z.x <ℤ (p.x *ℤ z.n) → AtChain R z p ps
 chain_left R z p [] hz h l = tt
 chain_left R z p (q ∷ rest) hz h l = let m = further p.x q.x z.n hz h.0 in ((λ k. absurd (let a = k.low in omega (arith, ints, a, l))), chain_left R z q rest hz h.1 (omega (arith, ints, l, m)))
 
-chain_rest : (R : Edge → Vector → ℤ) (p q : Point) (rest : List Point) (a : Vector) → IsTilt R → Place a → p.x <ℤ q.x → Rises q rest → a.x ≤ℤ (q.x *ℤ a.n) → R (line p q) a ≤ℤ pos 0 → AtChain (Most R) a q rest
+chain_rest : (R : Edge → Vector → ℤ) (p q : Point) (rest : List Point) (a : Vector) → IsTilt R
+    → Place a → p.x <ℤ q.x → Rises q rest → a.x ≤ℤ (q.x *ℤ a.n) → R (line p q) a ≤ℤ pos 0
+    → AtChain (Most R) a q rest
 chain_rest R p q [] a r ha h g l k = tt
 chain_rest R p q (d ∷ rest) a r ha h g l k =
     by_lt_z a.x (q.x *ℤ a.n)
@@ -58,7 +64,8 @@ chain_rest R p q (d ∷ rest) a r ha h g l k =
     ((λ c. r.corner p q d a h g.0 e k), chain_left (Most R) a d rest ha g.1 (omega (arith, ints, e, n))))
 
 -- a place is not over the chain, or not under it
-pub chain_split : (z : Vector) (p : Point) (ps : List Point) → Place z → Rises p ps → AtChain (Most side) z p ps ⊎ AtChain (Least side) z p ps
+pub chain_split : (z : Vector) (p : Point) (ps : List Point) → Place z → Rises p ps
+    → AtChain (Most side) z p ps ⊎ AtChain (Least side) z p ps
 chain_split z p [] hz h = inl tt
 chain_split z p (q ∷ rest) hz h =
     by_lt_z (q.x *ℤ z.n) z.x
@@ -78,19 +85,23 @@ chain_split z p (q ∷ rest) hz h =
 later_met : (p q : Point) (rest : List Point) (a z : Vector) → Met q rest a z → Met p (q ∷ rest) a z
 later_met p q rest a z m = record { at = m.at; way = m.way; on = inr m.on }
 
-first_part : (p : Point) (ps : List Point) (a z o : Vector) → IsOnWay a z o → Met p ps a o → Met p ps a z
+first_part : (p : Point) (ps : List Point) (a z o : Vector) → IsOnWay a z o → Met p ps a o
+    → Met p ps a z
 first_part p ps a z o w m = record { at = m.at; way = subst (λ (v : Vector). IsOnWay a z v) (back m.way.is) (way_mix a z a o m.way.s m.way.t m.way.s_least m.way.t_least m.way.some (way_start a z) w); on = m.on }
   where
     back : {x y : Vector} → x ≡ y → y ≡ x
     back {x} e = subst (λ (v : Vector). v ≡ x) e refl
 
-last_part : (p : Point) (ps : List Point) (a z o : Vector) → IsOnWay a z o → Met p ps o z → Met p ps a z
+last_part : (p : Point) (ps : List Point) (a z o : Vector) → IsOnWay a z o → Met p ps o z
+    → Met p ps a z
 last_part p ps a z o w m = record { at = m.at; way = subst (λ (v : Vector). IsOnWay a z v) (back m.way.is) (way_mix a z o z m.way.s m.way.t m.way.s_least m.way.t_least m.way.some w (way_end a z)); on = m.on }
   where
     back : {x y : Vector} → x ≡ y → y ≡ x
     back {x} e = subst (λ (v : Vector). v ≡ x) e refl
 
-met_here : (R : Edge → Vector → ℤ) (p q : Point) (rest : List Point) (a z : Vector) → IsTilt R → InColumn p q a → InColumn p q z → R (line p q) a ≤ℤ pos 0 → pos 0 ≤ℤ R (line p q) z → Met p (q ∷ rest) a z
+met_here : (R : Edge → Vector → ℤ) (p q : Point) (rest : List Point) (a z : Vector) → IsTilt R
+    → InColumn p q a → InColumn p q z → R (line p q) a ≤ℤ pos 0 → pos 0 ≤ℤ R (line p q) z
+    → Met p (q ∷ rest) a z
 met_here R p q rest a z r ka kz low high =
     by_lt_z (pos 0) (y -ℤ x)
     (λ (k : pos 0 <ℤ (y -ℤ x)). at_weights y (pos 0 -ℤ x) high (omega (arith, ints, low)) (omega (arith, ints, k)) (balance x y))
@@ -108,7 +119,8 @@ met_here R p q rest a z r ka kz low high =
     alone : (x y : ℤ) → x ≡ pos 0 → (pos 1 *ℤ x) +ℤ (pos 0 *ℤ y) ≡ pos 0
     alone x y e = ring (plus (times (num (pos 1)) (at 0)) (times (num (pos 0)) (at 1))) (at 0) (vars (x ∷ y ∷ [])) refl ∙ e
 
-    at_weights : (s t : ℤ) → pos 0 ≤ℤ s → pos 0 ≤ℤ t → pos 0 <ℤ (s +ℤ t) → (s *ℤ R (line p q) a) +ℤ (t *ℤ R (line p q) z) ≡ pos 0 → Met p (q ∷ rest) a z
+    at_weights : (s t : ℤ) → pos 0 ≤ℤ s → pos 0 ≤ℤ t → pos 0 <ℤ (s +ℤ t)
+        → (s *ℤ R (line p q) a) +ℤ (t *ℤ R (line p q) z) ≡ pos 0 → Met p (q ∷ rest) a z
     at_weights s t hs ht some e = record {
       at = mix s a t z;
       way = record { s = s; t = t; s_least = hs; t_least = ht; some = some; is = refl };
@@ -121,7 +133,8 @@ Onward p a z = ((p.x *ℤ a.n) <ℤ a.x) ⊎ ((p.x *ℤ z.n) <ℤ z.x)
 abbrev Later : (Edge → Vector → ℤ) → Point → List Point → Vector → Type 0
 Later R q rest z = (a : Vector) → Place a → (q.x *ℤ a.n) ≤ℤ a.x → a.x ≤ℤ ((last q rest).x *ℤ a.n) → NotRight a z → AtChain (Most R) a q rest → Onward q a z → Met q rest a z
 
-crosses_at : (R : Edge → Vector → ℤ) (p q : Point) (rest : List Point) (a z : Vector) → IsTilt R → Place a → Place z → Rises p (q ∷ rest)
+crosses_at : (R : Edge → Vector → ℤ) (p q : Point) (rest : List Point) (a z : Vector) → IsTilt R
+    → Place a → Place z → Rises p (q ∷ rest)
     → (p.x *ℤ a.n) ≤ℤ a.x → a.x ≤ℤ ((last q rest).x *ℤ a.n) → z.x ≤ℤ ((last q rest).x *ℤ z.n) → NotRight a z → AtChain (Most R) a p (q ∷ rest) → AtChain (Least R) z p (q ∷ rest) → Later R q rest z
     → Met p (q ∷ rest) a z
 crosses_at R p q rest a z r ha hz h l ra rz nr most least later =
@@ -173,7 +186,8 @@ crosses_at R p q rest a z r ha hz h l ra rz nr most least later =
             let i = ring (times (at 0) (minus (at 1) (at 2))) (minus (times (at 1) (at 0)) (times (at 2) (at 0))) (vars (o.n ∷ (last q rest).x ∷ q.x ∷ [])) refl in
             omega (arith, ints, p, i, e)
 
-crosses : (R : Edge → Vector → ℤ) (p q : Point) (rest : List Point) (a z : Vector) → IsTilt R → Place a → Place z → Rises p (q ∷ rest)
+crosses : (R : Edge → Vector → ℤ) (p q : Point) (rest : List Point) (a z : Vector) → IsTilt R
+    → Place a → Place z → Rises p (q ∷ rest)
     → (p.x *ℤ a.n) ≤ℤ a.x → a.x ≤ℤ ((last q rest).x *ℤ a.n) → z.x ≤ℤ ((last q rest).x *ℤ z.n) → NotRight a z → AtChain (Most R) a p (q ∷ rest) → AtChain (Least R) z p (q ∷ rest)
     → Met p (q ∷ rest) a z
 crosses R p q [] a z r ha hz h l ra rz nr most least =
@@ -186,7 +200,9 @@ crosses R p q (d ∷ rest) a z r ha hz h l ra rz nr most least =
     crosses_at R p q (d ∷ rest) a z r ha hz h l ra rz nr most least (λ o ho ol or_ onr omost w. crosses R q d rest o z r ho hz h.1 ol or_ rz onr omost least.1)
 
 -- from u, not over the chain, to v, not under it, both between its ends
-pub chain_met : (p q : Point) (rest : List Point) (u v : Vector) → Place u → Place v → Rises p (q ∷ rest) → (p.x *ℤ u.n) ≤ℤ u.x → u.x ≤ℤ ((last q rest).x *ℤ u.n) → (p.x *ℤ v.n) ≤ℤ v.x → v.x ≤ℤ ((last q rest).x *ℤ v.n)
+pub chain_met : (p q : Point) (rest : List Point) (u v : Vector) → Place u → Place v
+    → Rises p (q ∷ rest) → (p.x *ℤ u.n) ≤ℤ u.x → u.x ≤ℤ ((last q rest).x *ℤ u.n)
+    → (p.x *ℤ v.n) ≤ℤ v.x → v.x ≤ℤ ((last q rest).x *ℤ v.n)
     → AtChain (Most side) u p (q ∷ rest) → AtChain (Least side) v p (q ∷ rest) → Met p (q ∷ rest) u v
 chain_met p q rest u v hu hv h lu ru lv rv under over =
     by_lt_z (v.x *ℤ u.n) (u.x *ℤ v.n)

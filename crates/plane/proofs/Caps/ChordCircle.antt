@@ -1,5 +1,6 @@
 -- The circle over its chord: where it is, and that it is convex.
-use Rattle.std.proofs.Common.{◌≡◌, ℤ, pos, ◌+ℤ◌, ◌*ℤ◌, ◌-ℤ◌, ◌<ℤ◌, ◌≤ℤ◌, [], ◌∷◌, refl, arith, ap, ◌∙◌}
+use Rattle.std.proofs.Common.{◌≡◌, ℤ, pos, ◌+ℤ◌, ◌*ℤ◌, ◌-ℤ◌, ◌<ℤ◌, ◌≤ℤ◌, [], ◌∷◌, refl, arith, ap}
+use Rattle.std.proofs.Common.{◌∙◌}
 use Rattle.std.proofs.lemmas.Int.{ints, by_lt_z}
 use Rattle.plane.specs.Forms.Vectors.{Vector, Place, mix}
 use Rattle.plane.specs.Tubes.Caps.{Cap, IsCap, shape, InSlab}
@@ -11,7 +12,8 @@ abbrev pub SHAPE : Expr → Expr → Expr → Expr → Expr → Expr → Expr
 SHAPE g l k x y n = plus (times g (times x (minus x (times l n)))) (times y (plus y (times k n)))
 
 -- ---- over the chord's line, what is not outside is in the slab
-outside_slab : (G x m r : ℤ) → pos 0 <ℤ G → pos 0 <ℤ (x *ℤ (x -ℤ m)) → pos 0 ≤ℤ r → ((G *ℤ (x *ℤ (x -ℤ m))) +ℤ r) ≤ℤ pos 0 → ⊥
+outside_slab : (G x m r : ℤ) → pos 0 <ℤ G → pos 0 <ℤ (x *ℤ (x -ℤ m)) → pos 0 ≤ℤ r
+    → ((G *ℤ (x *ℤ (x -ℤ m))) +ℤ r) ≤ℤ pos 0 → ⊥
 outside_slab G x m r hG hx hr h = let p = product_positive G (x *ℤ (x -ℤ m)) hG hx in omega (arith, ints, p, hr, h)
 
 left_product : (x m : ℤ) → x <ℤ pos 0 → pos 0 ≤ℤ m → pos 0 <ℤ (x *ℤ (x -ℤ m))
@@ -23,12 +25,14 @@ left_product x m h k =
 right_product : (x m : ℤ) → pos 0 ≤ℤ m → m <ℤ x → pos 0 <ℤ (x *ℤ (x -ℤ m))
 right_product x m h k = product_positive x (x -ℤ m) (omega (arith, ints)) (omega (arith, ints))
 
-rest_least : (c : Cap) (v : Vector) → IsCap c → Place v → pos 0 ≤ℤ v.y → pos 0 ≤ℤ (v.y *ℤ (v.y +ℤ (c.sag *ℤ v.n)))
+rest_least : (c : Cap) (v : Vector) → IsCap c → Place v → pos 0 ≤ℤ v.y
+    → pos 0 ≤ℤ (v.y *ℤ (v.y +ℤ (c.sag *ℤ v.n)))
 rest_least c v hc hv hy =
     let s = product_positive c.sag v.n hc.sag hv in
     product_nonnegative v.y (v.y +ℤ (c.sag *ℤ v.n)) hy (omega (arith, ints, s, hy))
 
-pub cap_slab : (c : Cap) (v : Vector) → IsCap c → Place v → pos 0 ≤ℤ v.y → shape c v ≤ℤ pos 0 → InSlab c v
+pub cap_slab : (c : Cap) (v : Vector) → IsCap c → Place v → pos 0 ≤ℤ v.y → shape c v ≤ℤ pos 0
+    → InSlab c v
 unfolding shape
 cap_slab c v hc hv hy h =
     let m = c.chord *ℤ v.n in
@@ -68,7 +72,8 @@ rise_is c p q h =
     equal : (a b d : ℤ) → a -ℤ b ≡ d → d ≡ pos 0 → a ≡ b
     equal a b d e z = omega (arith, ints)
 
-pub shape_rises : (c : Cap) (p q : Vector) → IsCap c → Place p → Place q → p.x *ℤ q.n ≡ q.x *ℤ p.n → pos 0 ≤ℤ p.y → (p.y *ℤ q.n) <ℤ (q.y *ℤ p.n)
+pub shape_rises : (c : Cap) (p q : Vector) → IsCap c → Place p → Place q → p.x *ℤ q.n ≡ q.x *ℤ p.n
+    → pos 0 ≤ℤ p.y → (p.y *ℤ q.n) <ℤ (q.y *ℤ p.n)
     → ((q.n *ℤ q.n) *ℤ shape c p) <ℤ ((p.n *ℤ p.n) *ℤ shape c q)
 shape_rises c p q hc hp hq hx hy h =
     let m = product_positive p.n q.n hp hq in
@@ -97,7 +102,8 @@ shape-mix c s p t q =
     (vars (c.size ∷ c.chord ∷ c.sag ∷ s ∷ t ∷ p.x ∷ p.y ∷ p.n ∷ q.x ∷ q.y ∷ q.n ∷ [])) refl
 
 -- places inside are convex, also with one of them on the circle
-pub inside_mix : (c : Cap) (s : ℤ) (p : Vector) (t : ℤ) (q : Vector) → IsCap c → Place p → Place q → pos 0 <ℤ s → pos 0 ≤ℤ t
+pub inside_mix : (c : Cap) (s : ℤ) (p : Vector) (t : ℤ) (q : Vector) → IsCap c → Place p → Place q
+    → pos 0 <ℤ s → pos 0 ≤ℤ t
     → shape c p <ℤ pos 0 → shape c q ≤ℤ pos 0 → shape c (mix s p t q) <ℤ pos 0
 inside_mix c s p t q hc hp hq hs ht a b =
     let dx = (q.n *ℤ p.x) -ℤ (p.n *ℤ q.x) in

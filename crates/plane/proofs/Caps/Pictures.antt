@@ -1,5 +1,6 @@
 -- The picture of points: ends of the chord, sides of straights, triangles.
-use Rattle.std.proofs.Common.{◌≡◌, ℤ, pos, ◌+ℤ◌, ◌*ℤ◌, ◌<ℤ◌, ◌≤ℤ◌, inl, inr, List, [], ◌∷◌, refl, arith, ap, ◌∙◌, subst, sym}
+use Rattle.std.proofs.Common.{◌≡◌, ℤ, pos, ◌+ℤ◌, ◌*ℤ◌, ◌<ℤ◌, ◌≤ℤ◌, inl, inr, List, [], ◌∷◌, refl}
+use Rattle.std.proofs.Common.{arith, ap, ◌∙◌, subst, sym}
 use Rattle.std.proofs.lemmas.Int.{ints, by_lt_z}
 use Rattle.plane.specs.declared.kinds.Point.{Point}
 use Rattle.plane.specs.Forms.Vectors.{Vector, Place, Same, point, mix, side}
@@ -40,7 +41,8 @@ bow-to h =
     (vars (h.from.x ∷ h.from.y ∷ h.to.x ∷ h.to.y ∷ bend h ∷ [])) refl
 
 -- ---- the side of a straight
-pub side-seen : (h : HalfArc) (p q z : Point) → side (line (seen_point h p) (seen_point h q)) (point (seen_point h z)) ≡ chord h *ℤ outward h p q z
+pub side-seen : (h : HalfArc) (p q z : Point)
+    → side (line (seen_point h p) (seen_point h q)) (point (seen_point h z)) ≡ chord h *ℤ outward h p q z
 unfolding side along bow chord outward
 side-seen h p q z =
     let W = at 0 in let T = at 1 in let D = at 2 in let AX = at 3 in let AY = at 4 in
@@ -54,22 +56,26 @@ side-seen h p q z =
     (vars (wide h ∷ tall h ∷ bend h ∷ h.from.x ∷ h.from.y ∷ p.x ∷ p.y ∷ q.x ∷ q.y ∷ z.x ∷ z.y ∷ [])) refl
 
 -- ---- triangles
-pub mean-mix : (i : ℤ) (p : Vector) (j : ℤ) (q : Vector) (k : ℤ) (r : Vector) → mix (pos 1) (mix i p j q) k r ≡ mean i p j q k r
+pub mean-mix : (i : ℤ) (p : Vector) (j : ℤ) (q : Vector) (k : ℤ) (r : Vector)
+    → mix (pos 1) (mix i p j q) k r ≡ mean i p j q k r
 mean-mix i p j q k r = vector_eq _ _ (one i p.x j q.x k r.x) (one i p.y j q.y k r.y) (one i p.n j q.n k r.n)
   where
-    one : (i x j y k z : ℤ) → (pos 1 *ℤ ((i *ℤ x) +ℤ (j *ℤ y))) +ℤ (k *ℤ z) ≡ ((i *ℤ x) +ℤ (j *ℤ y)) +ℤ (k *ℤ z)
+    one : (i x j y k z : ℤ)
+        → (pos 1 *ℤ ((i *ℤ x) +ℤ (j *ℤ y))) +ℤ (k *ℤ z) ≡ ((i *ℤ x) +ℤ (j *ℤ y)) +ℤ (k *ℤ z)
     one i x j y k z =
         let m = plus (times (at 0) (at 1)) (times (at 2) (at 3)) in
         ring (plus (times (num (pos 1)) m) (times (at 4) (at 5))) (plus m (times (at 4) (at 5))) (vars (i ∷ x ∷ j ∷ y ∷ k ∷ z ∷ [])) refl
 
-seen-mean : (h : HalfArc) (i : ℤ) (p : Vector) (j : ℤ) (q : Vector) (k : ℤ) (r : Vector) → seen h (mean i p j q k r) ≡ mean i (seen h p) j (seen h q) k (seen h r)
+seen-mean : (h : HalfArc) (i : ℤ) (p : Vector) (j : ℤ) (q : Vector) (k : ℤ) (r : Vector)
+    → seen h (mean i p j q k r) ≡ mean i (seen h p) j (seen h q) k (seen h r)
 seen-mean h i p j q k r =
     ap (λ (v : Vector). seen h v) (sym (mean-mix i p j q k r))
     ∙ seen-mix h (pos 1) (mix i p j q) k r
     ∙ ap (λ (v : Vector). mix (pos 1) v k (seen h r)) (seen-mix h i p j q)
     ∙ mean-mix i (seen h p) j (seen h q) k (seen h r)
 
-pub triangle_seen : (h : HalfArc) (z p q r : Vector) → InTriangle z p q r → InTriangle (seen h z) (seen h p) (seen h q) (seen h r)
+pub triangle_seen : (h : HalfArc) (z p q r : Vector) → InTriangle z p q r
+    → InTriangle (seen h z) (seen h p) (seen h q) (seen h r)
 triangle_seen h z p q r t = record {
   i = t.i;
   j = t.j;
@@ -81,7 +87,8 @@ triangle_seen h z p q r t = record {
   is = subst (λ (v : Vector). Same (seen h z) v) (seen-mean h t.i p t.j q t.k r) (seen_same h z (mean t.i p t.j q t.k r) t.is);
 }
 
-pub triangle_only : (h : HalfArc) (z p q r : Vector) → IsCap (cap h) → InTriangle (seen h z) (seen h p) (seen h q) (seen h r) → InTriangle z p q r
+pub triangle_only : (h : HalfArc) (z p q r : Vector) → IsCap (cap h)
+    → InTriangle (seen h z) (seen h p) (seen h q) (seen h r) → InTriangle z p q r
 triangle_only h z p q r hc t = record {
   i = t.i;
   j = t.j;
@@ -94,10 +101,12 @@ triangle_only h z p q r hc t = record {
 }
 
 -- the tube on the picture
-pub tube_only : (h : HalfArc) (v : Point) (bs : List Bay) (z : Vector) → IsCap (cap h) → InTube (seen_point h v) (seen_bays h bs) (seen h z) → InTube v bs z
+pub tube_only : (h : HalfArc) (v : Point) (bs : List Bay) (z : Vector) → IsCap (cap h)
+    → InTube (seen_point h v) (seen_bays h bs) (seen h z) → InTube v bs z
 tube_only h v bs z hc (inl t) = inl (bays_only v bs t)
   where
-    bays_only : (v : Point) (bs : List Bay) → InBays (seen_point h v) (seen_bays h bs) (seen h z) → InBays v bs z
+    bays_only : (v : Point) (bs : List Bay) → InBays (seen_point h v) (seen_bays h bs) (seen h z)
+        → InBays v bs z
     bays_only v [] t = t
     bays_only v (b ∷ rest) (inl t) = inl (triangle_only h z (point v) (point b.inner) (point b.outer) hc t)
     bays_only v (b ∷ rest) (inr t) = inr (bays_only b.inner rest t)
@@ -109,10 +118,12 @@ tube_only h v bs z hc (inr t) = inr (gaps_only bs t)
     gaps_only (b ∷ (d ∷ rest)) (inl t) = inl (triangle_only h z (point b.inner) (point b.outer) (point d.outer) hc t)
     gaps_only (b ∷ (d ∷ rest)) (inr t) = inr (gaps_only (d ∷ rest) t)
 
-pub tube_seen : (h : HalfArc) (v : Point) (bs : List Bay) (z : Vector) → InTube v bs z → InTube (seen_point h v) (seen_bays h bs) (seen h z)
+pub tube_seen : (h : HalfArc) (v : Point) (bs : List Bay) (z : Vector) → InTube v bs z
+    → InTube (seen_point h v) (seen_bays h bs) (seen h z)
 tube_seen h v bs z (inl t) = inl (bays_seen v bs t)
   where
-    bays_seen : (v : Point) (bs : List Bay) → InBays v bs z → InBays (seen_point h v) (seen_bays h bs) (seen h z)
+    bays_seen : (v : Point) (bs : List Bay) → InBays v bs z
+        → InBays (seen_point h v) (seen_bays h bs) (seen h z)
     bays_seen v [] t = t
     bays_seen v (b ∷ rest) (inl t) = inl (triangle_seen h z (point v) (point b.inner) (point b.outer) t)
     bays_seen v (b ∷ rest) (inr t) = inr (bays_seen b.inner rest t)
@@ -125,7 +136,8 @@ tube_seen h v bs z (inr t) = inr (gaps_seen bs t)
     gaps_seen (b ∷ (d ∷ rest)) (inr t) = inr (gaps_seen (d ∷ rest) t)
 
 -- ---- a triangle whose corners are over the circle's lower part
-pub over_triangle : (c : Cap) (z p q r : Vector) → IsCap c → Place z → Place p → Place q → Place r → IsOver c p → IsOver c q → IsOver c r → InTriangle z p q r → IsOver c z
+pub over_triangle : (c : Cap) (z p q r : Vector) → IsCap c → Place z → Place p → Place q → Place r
+    → IsOver c p → IsOver c q → IsOver c r → InTriangle z p q r → IsOver c z
 over_triangle c z p q r hc hz hp hq hr op oq or_ t =
     by_lt_z (pos 0) (t.i +ℤ t.j)
     (λ (k : pos 0 <ℤ (t.i +ℤ t.j)).
@@ -150,7 +162,8 @@ over_triangle c z p q r hc hz hp hq hr op oq or_ t =
     at_mix : (m : Vector) → m ≡ mean t.i p t.j q t.k r → Place m → IsOver c m → IsOver c z
     at_mix m e hm om = over_same c z m hz hm (subst (λ (v : Vector). Same z v) (sym e) t.is) om
 
-    one_rest : (x y w : ℤ) → t.i ≡ pos 0 → t.j ≡ pos 0 → (pos 0 *ℤ x) +ℤ (t.k *ℤ w) ≡ ((t.i *ℤ x) +ℤ (t.j *ℤ y)) +ℤ (t.k *ℤ w)
+    one_rest : (x y w : ℤ) → t.i ≡ pos 0 → t.j ≡ pos 0
+        → (pos 0 *ℤ x) +ℤ (t.k *ℤ w) ≡ ((t.i *ℤ x) +ℤ (t.j *ℤ y)) +ℤ (t.k *ℤ w)
     one_rest x y w a b =
         let u = ap (λ (v : ℤ). v *ℤ x) a in
         let v = ap (λ (v : ℤ). v *ℤ y) b in

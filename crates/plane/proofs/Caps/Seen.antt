@@ -1,13 +1,16 @@
 -- A half arc's own picture: it is linear, and the circle is that of a cap.
-use Rattle.std.proofs.Common.{◌≡◌, ℤ, pos, ◌+ℤ◌, ◌*ℤ◌, ◌-ℤ◌, ◌<ℤ◌, ◌≤ℤ◌, [], ◌∷◌, refl, arith, ◌∙◌, subst, sym}
+use Rattle.std.proofs.Common.{◌≡◌, ℤ, pos, ◌+ℤ◌, ◌*ℤ◌, ◌-ℤ◌, ◌<ℤ◌, ◌≤ℤ◌, [], ◌∷◌, refl, arith, ◌∙◌}
+use Rattle.std.proofs.Common.{subst, sym}
 use Rattle.std.proofs.lemmas.Int.{ints, by_lt_z}
 use Rattle.plane.specs.Forms.Vectors.{Vector, Same, mix}
-use Rattle.plane.specs.Forms.Arcs.{HalfArc, wide, tall, third_x, third_y, bend, circle_x, circle_y, chord, facing, power, along, bow, seen}
+use Rattle.plane.specs.Forms.Arcs.{HalfArc, wide, tall, third_x, third_y, bend, circle_x, circle_y}
+use Rattle.plane.specs.Forms.Arcs.{chord, facing, power, along, bow, seen}
 use Rattle.plane.specs.Tubes.Caps.{IsCap, shape, cap}
 use Rattle.plane.proofs.Algebra.Laws.{product_positive, square_nonnegative}
 use Rattle.plane.proofs.Algebra.Scaling.{cancel_zero, times_le, product_of_zero}
 use Rattle.plane.proofs.Algebra.Ring.{Expr, at, num, plus, minus, times, vars, ring}
-use Rattle.plane.proofs.Caps.CapOver.{cancel_below, cancel_least, cancel_most, times_below, times_most}
+use Rattle.plane.proofs.Caps.CapOver.{cancel_below, cancel_least, cancel_most, times_below}
+use Rattle.plane.proofs.Caps.CapOver.{times_most}
 use Rattle.plane.proofs.Linear.Clear.{vector_eq}
 
 -- the circle by its chord
@@ -29,7 +32,8 @@ chord-form h v =
     (vars (wide h ∷ tall h ∷ third_x h ∷ third_y h ∷ (v.x -ℤ (h.from.x *ℤ v.n)) ∷ (v.y -ℤ (h.from.y *ℤ v.n)) ∷ v.n ∷ [])) refl
 
 -- the picture is linear
-pub along-mix : (h : HalfArc) (s : ℤ) (p : Vector) (t : ℤ) (q : Vector) → along h (mix s p t q) ≡ (s *ℤ along h p) +ℤ (t *ℤ along h q)
+pub along-mix : (h : HalfArc) (s : ℤ) (p : Vector) (t : ℤ) (q : Vector)
+    → along h (mix s p t q) ≡ (s *ℤ along h p) +ℤ (t *ℤ along h q)
 unfolding along
 along-mix h s p t q =
     let f : Expr → Expr → Expr → Expr = λ x y n. plus (times (at 0) (minus x (times (at 2) n))) (times (at 1) (minus y (times (at 3) n))) in
@@ -37,7 +41,8 @@ along-mix h s p t q =
     ring (f (m (at 6) (at 9)) (m (at 7) (at 10)) (m (at 8) (at 11))) (m (f (at 6) (at 7) (at 8)) (f (at 9) (at 10) (at 11)))
     (vars (wide h ∷ tall h ∷ h.from.x ∷ h.from.y ∷ s ∷ t ∷ p.x ∷ p.y ∷ p.n ∷ q.x ∷ q.y ∷ q.n ∷ [])) refl
 
-pub bow-mix : (h : HalfArc) (s : ℤ) (p : Vector) (t : ℤ) (q : Vector) → bow h (mix s p t q) ≡ (s *ℤ bow h p) +ℤ (t *ℤ bow h q)
+pub bow-mix : (h : HalfArc) (s : ℤ) (p : Vector) (t : ℤ) (q : Vector)
+    → bow h (mix s p t q) ≡ (s *ℤ bow h p) +ℤ (t *ℤ bow h q)
 unfolding bow
 bow-mix h s p t q =
     let f : Expr → Expr → Expr → Expr = λ x y n. minus (num (pos 0)) (times (at 12) (minus (times (at 0) (minus y (times (at 3) n))) (times (at 1) (minus x (times (at 2) n))))) in
@@ -45,11 +50,13 @@ bow-mix h s p t q =
     ring (f (m (at 6) (at 9)) (m (at 7) (at 10)) (m (at 8) (at 11))) (m (f (at 6) (at 7) (at 8)) (f (at 9) (at 10) (at 11)))
     (vars (wide h ∷ tall h ∷ h.from.x ∷ h.from.y ∷ s ∷ t ∷ p.x ∷ p.y ∷ p.n ∷ q.x ∷ q.y ∷ q.n ∷ bend h ∷ [])) refl
 
-pub seen-mix : (h : HalfArc) (s : ℤ) (p : Vector) (t : ℤ) (q : Vector) → seen h (mix s p t q) ≡ mix s (seen h p) t (seen h q)
+pub seen-mix : (h : HalfArc) (s : ℤ) (p : Vector) (t : ℤ) (q : Vector)
+    → seen h (mix s p t q) ≡ mix s (seen h p) t (seen h q)
 seen-mix h s p t q = vector_eq _ _ (along-mix h s p t q) (bow-mix h s p t q) refl
 
 -- the picture shows each place where it is
-along_cross : (h : HalfArc) (z m : Vector) → ((along h z *ℤ m.n) -ℤ (along h m *ℤ z.n)) ≡ (wide h *ℤ ((z.x *ℤ m.n) -ℤ (m.x *ℤ z.n))) +ℤ (tall h *ℤ ((z.y *ℤ m.n) -ℤ (m.y *ℤ z.n)))
+along_cross : (h : HalfArc) (z m : Vector)
+    → ((along h z *ℤ m.n) -ℤ (along h m *ℤ z.n)) ≡ (wide h *ℤ ((z.x *ℤ m.n) -ℤ (m.x *ℤ z.n))) +ℤ (tall h *ℤ ((z.y *ℤ m.n) -ℤ (m.y *ℤ z.n)))
 unfolding along
 along_cross h z m =
     let f : Expr → Expr → Expr → Expr = λ x y n. plus (times (at 0) (minus x (times (at 2) n))) (times (at 1) (minus y (times (at 3) n))) in
@@ -57,7 +64,8 @@ along_cross h z m =
     (plus (times (at 0) (minus (times (at 4) (at 9)) (times (at 7) (at 6)))) (times (at 1) (minus (times (at 5) (at 9)) (times (at 8) (at 6)))))
     (vars (wide h ∷ tall h ∷ h.from.x ∷ h.from.y ∷ z.x ∷ z.y ∷ z.n ∷ m.x ∷ m.y ∷ m.n ∷ [])) refl
 
-bow_cross : (h : HalfArc) (z m : Vector) → ((bow h z *ℤ m.n) -ℤ (bow h m *ℤ z.n)) ≡ bend h *ℤ ((tall h *ℤ ((z.x *ℤ m.n) -ℤ (m.x *ℤ z.n))) -ℤ (wide h *ℤ ((z.y *ℤ m.n) -ℤ (m.y *ℤ z.n))))
+bow_cross : (h : HalfArc) (z m : Vector)
+    → ((bow h z *ℤ m.n) -ℤ (bow h m *ℤ z.n)) ≡ bend h *ℤ ((tall h *ℤ ((z.x *ℤ m.n) -ℤ (m.x *ℤ z.n))) -ℤ (wide h *ℤ ((z.y *ℤ m.n) -ℤ (m.y *ℤ z.n))))
 unfolding bow
 bow_cross h z m =
     let f : Expr → Expr → Expr → Expr = λ x y n. minus (num (pos 0)) (times (at 10) (minus (times (at 0) (minus y (times (at 3) n))) (times (at 1) (minus x (times (at 2) n))))) in
@@ -87,12 +95,14 @@ seen_same h z m e =
     }
 
 -- and only there
-unturned : (w t x y : ℤ) → ((w *ℤ w) +ℤ (t *ℤ t)) *ℤ x ≡ (w *ℤ ((w *ℤ x) +ℤ (t *ℤ y))) +ℤ (t *ℤ ((t *ℤ x) -ℤ (w *ℤ y)))
+unturned : (w t x y : ℤ)
+    → ((w *ℤ w) +ℤ (t *ℤ t)) *ℤ x ≡ (w *ℤ ((w *ℤ x) +ℤ (t *ℤ y))) +ℤ (t *ℤ ((t *ℤ x) -ℤ (w *ℤ y)))
 unturned w t x y =
     let W = at 0 in let T = at 1 in let X = at 2 in let Y = at 3 in
     ring (times (plus (times W W) (times T T)) X) (plus (times W (plus (times W X) (times T Y))) (times T (minus (times T X) (times W Y)))) (vars (w ∷ t ∷ x ∷ y ∷ [])) refl
 
-unturned_too : (w t x y : ℤ) → ((w *ℤ w) +ℤ (t *ℤ t)) *ℤ y ≡ (t *ℤ ((w *ℤ x) +ℤ (t *ℤ y))) -ℤ (w *ℤ ((t *ℤ x) -ℤ (w *ℤ y)))
+unturned_too : (w t x y : ℤ)
+    → ((w *ℤ w) +ℤ (t *ℤ t)) *ℤ y ≡ (t *ℤ ((w *ℤ x) +ℤ (t *ℤ y))) -ℤ (w *ℤ ((t *ℤ x) -ℤ (w *ℤ y)))
 unturned_too w t x y =
     let W = at 0 in let T = at 1 in let X = at 2 in let Y = at 3 in
     ring (times (plus (times W W) (times T T)) Y) (minus (times T (plus (times W X) (times T Y))) (times W (minus (times T X) (times W Y)))) (vars (w ∷ t ∷ x ∷ y ∷ [])) refl
@@ -118,22 +128,28 @@ seen_only h z m hc e =
     }
 
 -- ---- the signs of the power are those of the shape
-pub power_below : (h : HalfArc) (v : Vector) → IsCap (cap h) → shape (cap h) (seen h v) <ℤ pos 0 → power h v <ℤ pos 0
+pub power_below : (h : HalfArc) (v : Vector) → IsCap (cap h) → shape (cap h) (seen h v) <ℤ pos 0
+    → power h v <ℤ pos 0
 power_below h v hc k = cancel_below (chord h) (power h v) hc.chord (subst (λ (z : ℤ). z <ℤ pos 0) (sym (chord-form h v)) k)
 
-pub power_most : (h : HalfArc) (v : Vector) → IsCap (cap h) → shape (cap h) (seen h v) ≤ℤ pos 0 → power h v ≤ℤ pos 0
+pub power_most : (h : HalfArc) (v : Vector) → IsCap (cap h) → shape (cap h) (seen h v) ≤ℤ pos 0
+    → power h v ≤ℤ pos 0
 power_most h v hc k = cancel_most (chord h) (power h v) hc.chord (subst (λ (z : ℤ). z ≤ℤ pos 0) (sym (chord-form h v)) k)
 
-pub power_least : (h : HalfArc) (v : Vector) → IsCap (cap h) → pos 0 ≤ℤ shape (cap h) (seen h v) → pos 0 ≤ℤ power h v
+pub power_least : (h : HalfArc) (v : Vector) → IsCap (cap h) → pos 0 ≤ℤ shape (cap h) (seen h v)
+    → pos 0 ≤ℤ power h v
 power_least h v hc k = cancel_least (chord h) (power h v) hc.chord (subst (λ (z : ℤ). pos 0 ≤ℤ z) (sym (chord-form h v)) k)
 
-pub shape_below : (h : HalfArc) (v : Vector) → IsCap (cap h) → power h v <ℤ pos 0 → shape (cap h) (seen h v) <ℤ pos 0
+pub shape_below : (h : HalfArc) (v : Vector) → IsCap (cap h) → power h v <ℤ pos 0
+    → shape (cap h) (seen h v) <ℤ pos 0
 shape_below h v hc k = subst (λ (z : ℤ). z <ℤ pos 0) (chord-form h v) (times_below (chord h) (power h v) hc.chord k)
 
-pub shape_most : (h : HalfArc) (v : Vector) → IsCap (cap h) → power h v ≤ℤ pos 0 → shape (cap h) (seen h v) ≤ℤ pos 0
+pub shape_most : (h : HalfArc) (v : Vector) → IsCap (cap h) → power h v ≤ℤ pos 0
+    → shape (cap h) (seen h v) ≤ℤ pos 0
 shape_most h v hc k = subst (λ (z : ℤ). z ≤ℤ pos 0) (chord-form h v) (times_most (chord h) (power h v) (let l = hc.chord in omega (arith, ints, l)) k)
 
-pub shape_least : (h : HalfArc) (v : Vector) → IsCap (cap h) → pos 0 ≤ℤ power h v → pos 0 ≤ℤ shape (cap h) (seen h v)
+pub shape_least : (h : HalfArc) (v : Vector) → IsCap (cap h) → pos 0 ≤ℤ power h v
+    → pos 0 ≤ℤ shape (cap h) (seen h v)
 shape_least h v hc k = subst (λ (z : ℤ). pos 0 ≤ℤ z) (chord-form h v) (let p = times_le (chord h) (pos 0) (power h v) (let l = hc.chord in omega (arith, ints, l)) k in omega (arith, ints, p))
 
 -- ---- a half arc of less than half a turn makes a cap

@@ -1,5 +1,6 @@
 -- Two places over the circle's lower part have one sign where the segment between them does not hit the half arc.
-use Rattle.std.proofs.Common.{◌≡◌, ℤ, pos, ◌+ℤ◌, ◌*ℤ◌, ◌-ℤ◌, ◌<ℤ◌, ◌≤ℤ◌, ◌⊎◌, inl, inr, [], ◌∷◌, refl, arith, subst, sym}
+use Rattle.std.proofs.Common.{◌≡◌, ℤ, pos, ◌+ℤ◌, ◌*ℤ◌, ◌-ℤ◌, ◌<ℤ◌, ◌≤ℤ◌, ◌⊎◌, inl, inr, [], ◌∷◌}
+use Rattle.std.proofs.Common.{refl, arith, subst, sym}
 use Rattle.std.proofs.lemmas.Int.{ints, by_lt_z}
 use Rattle.plane.specs.Forms.Vectors.{Vector, Place, mix, Between}
 use Rattle.plane.specs.Forms.Arcs.{HalfArc, power, bow, seen, SameSign}
@@ -32,7 +33,8 @@ hits_back h p q k = record {
   v_out = k.v_out;
 }
 
-pub over_away : (h : HalfArc) (v : Vector) → IsCap (cap h) → IsOver (cap h) (seen h v) → pos 0 ≤ℤ power h v → pos 0 ≤ℤ bow h v
+pub over_away : (h : HalfArc) (v : Vector) → IsCap (cap h) → IsOver (cap h) (seen h v)
+    → pos 0 ≤ℤ power h v → pos 0 ≤ℤ bow h v
 over_away h v hc o k = away o.over
   where
     away : (shape (cap h) (seen h v) <ℤ pos 0) ⊎ (pos 0 ≤ℤ bow h v) → pos 0 ≤ℤ bow h v
@@ -40,7 +42,8 @@ over_away h v hc o k = away o.over
     away (inr l) = l
 
 -- from a place that is not outside to one that is not inside the segment hits the half arc
-pub crossing_hit : (h : HalfArc) (p q : Vector) → IsCap (cap h) → Place p → Place q → IsOver (cap h) (seen h p) → IsOver (cap h) (seen h q)
+pub crossing_hit : (h : HalfArc) (p q : Vector) → IsCap (cap h) → Place p → Place q
+    → IsOver (cap h) (seen h p) → IsOver (cap h) (seen h q)
     → power h p ≤ℤ pos 0 → pos 0 ≤ℤ power h q → HitsArc h p q
 crossing_hit h p q hc hp hq op oq a b =
     let away = over_away h q hc oq b in
@@ -78,7 +81,8 @@ crossing_hit h p q hc hp hq op oq a b =
       v_out = b;
     })
 
-pub sign_kept : (h : HalfArc) (p q : Vector) → IsCap (cap h) → Place p → Place q → IsOver (cap h) (seen h p) → IsOver (cap h) (seen h q) → (HitsArc h p q → ⊥) → SameSign h p q
+pub sign_kept : (h : HalfArc) (p q : Vector) → IsCap (cap h) → Place p → Place q
+    → IsOver (cap h) (seen h p) → IsOver (cap h) (seen h q) → (HitsArc h p q → ⊥) → SameSign h p q
 sign_kept h p q hc hp hq op oq miss =
     let on : power h p ≤ℤ pos 0 → pos 0 ≤ℤ power h q → SameSign h p q = λ a b. absurd (miss (crossing_hit h p q hc hp hq op oq a b)) in
     let back : power h q ≤ℤ pos 0 → pos 0 ≤ℤ power h p → SameSign h p q = λ a b. absurd (miss (hits_back h q p (crossing_hit h q p hc hq hp oq op a b))) in

@@ -10,7 +10,8 @@ use Rattle.plane.specs.Tubes.CapStrips.{line}
 pub record IsFence (c : Cap) (p q : Point) : Type 0 where
   pub low : pos 0 ≤ℤ p.y
   pub high : pos 0 ≤ℤ q.y
-  pub clear : (s t : ℤ) → pos 0 ≤ℤ s → pos 0 ≤ℤ t → pos 0 <ℤ (s +ℤ t) → pos 0 ≤ℤ shape c (mix s (point p) t (point q))
+  pub clear : (s t : ℤ) → pos 0 ≤ℤ s → pos 0 ≤ℤ t → pos 0 <ℤ (s +ℤ t)
+      → pos 0 ≤ℤ shape c (mix s (point p) t (point q))
 
 -- the outer corner stands strictly over the straight between the two inner ones
 pub record IsArch (p : Point) (b : Bay) : Type 0 where

@@ -17,24 +17,29 @@ use Rattle.plane.proofs.Linear.Straights.{straight_between, between_straight}
 use Rattle.plane.proofs.Covers.NotApart.{control_end, one_point}
 
 -- ---- a straight from its other end
-turned : (a b : Point) (z : Vector) → Place z → IsOnStraight (point a) (point b) z → IsOnStraight (point b) (point a) z
+turned : (a b : Point) (z : Vector) → Place z → IsOnStraight (point a) (point b) z
+    → IsOnStraight (point b) (point a) z
 turned a b z Z on =
     let A = place_point a in
     let B = place_point b in
     between_straight (point b) (point a) z B A Z (between_back z (point a) (point b) (straight_between (point a) (point b) z A B Z on))
 
-along : (a b p q : Point) (z : Vector) → a ≡ p → b ≡ q → IsOnStraight (point a) (point b) z → IsOnStraight (point p) (point q) z
+along : (a b p q : Point) (z : Vector) → a ≡ p → b ≡ q → IsOnStraight (point a) (point b) z
+    → IsOnStraight (point p) (point q) z
 along a b p q z e f on = subst (λ (y : Point). IsOnStraight (point p) (point y) z) f (subst (λ (x : Point). IsOnStraight (point x) (point b) z) e on)
 
-edge_on : (e : Edge) (c : Curve) (z : Vector) → IsEdgeOf e c → Place z → edges.OnStraight e z → IsOnStraight (point c.from) (point c.to) z
+edge_on : (e : Edge) (c : Curve) (z : Vector) → IsEdgeOf e c → Place z → edges.OnStraight e z
+    → IsOnStraight (point c.from) (point c.to) z
 edge_on e c z (inl h) Z on = along e.low e.high c.from c.to z h.0 h.1 on
 edge_on e c z (inr h) Z on = turned c.to c.from z Z (along e.low e.high c.to c.from z h.0 h.1 on)
 
-pub on_edge : (e : Edge) (c : Curve) (z : Vector) → IsEdgeOf e c → Place z → IsOnStraight (point c.from) (point c.to) z → edges.OnStraight e z
+pub on_edge : (e : Edge) (c : Curve) (z : Vector) → IsEdgeOf e c → Place z
+    → IsOnStraight (point c.from) (point c.to) z → edges.OnStraight e z
 on_edge e c z (inl h) Z on = along c.from c.to e.low e.high z (sym h.0) (sym h.1) on
 on_edge e c z (inr h) Z on = along c.to c.from e.low e.high z (sym h.0) (sym h.1) (turned c.from c.to z Z on)
 
-pub on_edge_is : (e : Edge) (c : Curve) (z : Vector) → IsEdgeOf e c → c.kind ≡ kind.Straight → Place z → edges.OnStraight e z ↔ IsOn c z
+pub on_edge_is : (e : Edge) (c : Curve) (z : Vector) → IsEdgeOf e c → c.kind ≡ kind.Straight
+    → Place z → edges.OnStraight e z ↔ IsOn c z
 on_edge_is e c z h k Z = (
   (λ on. subst (λ (k : CurveKind). IsOnKind k c z) (sym k) (edge_on e c z h Z on)),
   (λ on. on_edge e c z h Z (subst (λ (k : CurveKind). IsOnKind k c z) k on)),
@@ -47,7 +52,8 @@ end_of_edge e c p (inl h) (inr k) = inr (h.1 ∙ k)
 end_of_edge e c p (inr h) (inl k) = inr (h.1 ∙ k)
 end_of_edge e c p (inr h) (inr k) = inl (h.0 ∙ k)
 
-control_of : (c : Curve) (p : Point) (z : Vector) → Same z (point p) → (c.from ≡ p) ⊎ (c.to ≡ p) → IsControl c z
+control_of : (c : Curve) (p : Point) (z : Vector) → Same z (point p) → (c.from ≡ p) ⊎ (c.to ≡ p)
+    → IsControl c z
 control_of c p z s (inl k) = inl (subst (λ (q : Point). Same z (point q)) (sym k) s)
 control_of c p z s (inr k) = inr (subst (λ (q : Point). Same z (point q)) (sym k) s)
 
@@ -57,7 +63,8 @@ edge_end e c p (inl h) (inr k) = inr (sym h.1 ∙ k)
 edge_end e c p (inr h) (inl k) = inr (sym h.0 ∙ k)
 edge_end e c p (inr h) (inr k) = inl (sym h.1 ∙ k)
 
-common_from : (s t : Edge) (c d : Curve) (z : Vector) → IsEdgeOf s c → IsEdgeOf t d → Place z → IsControl c z × IsControl d z → edges.CommonEnd s t z
+common_from : (s t : Edge) (c d : Curve) (z : Vector) → IsEdgeOf s c → IsEdgeOf t d → Place z
+    → IsControl c z × IsControl d z → edges.CommonEnd s t z
 common_from s t c d z hs ht Z both =
     let (p, of_c, zp) = control_end c z both.0 in
     let (q, of_d, zq) = control_end d z both.1 in
@@ -65,10 +72,12 @@ common_from s t c d z hs ht Z both =
     record { at = p; of_first = end_of_edge s c p hs of_c; of_second = end_of_edge t d p ht (subst (λ (r : Point). IsEndOf d r) (sym e) of_d); is = zp }
 
 -- a common end of two edges is a control point of both straights
-pub controls_from : (s t : Edge) (c d : Curve) (z : Vector) → IsEdgeOf s c → IsEdgeOf t d → edges.CommonEnd s t z → IsControl c z × IsControl d z
+pub controls_from : (s t : Edge) (c d : Curve) (z : Vector) → IsEdgeOf s c → IsEdgeOf t d
+    → edges.CommonEnd s t z → IsControl c z × IsControl d z
 controls_from s t c d z hs ht e = (control_of c e.at z e.is (edge_end s c e.at hs e.of_first), control_of d e.at z e.is (edge_end t d e.at ht e.of_second))
 
-pub bad_edges_is : (s t : Edge) (c d : Curve) → IsEdgeOf s c → IsEdgeOf t d → c.kind ≡ kind.Straight → d.kind ≡ kind.Straight → edges.Bad s t ↔ StraightsMeet c d
+pub bad_edges_is : (s t : Edge) (c d : Curve) → IsEdgeOf s c → IsEdgeOf t d → c.kind ≡ kind.Straight
+    → d.kind ≡ kind.Straight → edges.Bad s t ↔ StraightsMeet c d
 bad_edges_is s t c d hs ht kc kd = (
   (λ b. record {
     first = kc;

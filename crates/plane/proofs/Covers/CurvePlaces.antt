@@ -8,8 +8,10 @@ use Rattle.plane.specs.Rule.Places.{Vector, Place, Same, point}
 use Rattle.plane.specs.Rule.HalfArcs.{power}
 use Rattle.plane.specs.Rule.Curves.{arc, IsOnKind, HitsKind, IsOn, Hits, IsControl}
 use Rattle.plane.proofs.Linear.EdgePlaces.{place_point}
-use Rattle.plane.proofs.Covers.SamePlace.{same_refl, same_sym, on_straight_same, first_on, last_on, segment_same}
-use Rattle.plane.proofs.Covers.HalfArcPlaces.{not_inside_same, not_outside_same, away_same, on_half_arc_same, level, from_on, to_on}
+use Rattle.plane.proofs.Covers.SamePlace.{same_refl, same_sym, on_straight_same, first_on, last_on}
+use Rattle.plane.proofs.Covers.SamePlace.{segment_same}
+use Rattle.plane.proofs.Covers.HalfArcPlaces.{not_inside_same, not_outside_same, away_same}
+use Rattle.plane.proofs.Covers.HalfArcPlaces.{on_half_arc_same, level, from_on, to_on}
 
 -- no curve is of both kinds
 pub no_kind : (k : CurveKind) → k ≡ kind.Straight → k ≡ kind.HalfArc → ⊥
@@ -19,7 +21,8 @@ no_kind k e f = subst IsBent (sym f ∙ e) tt
     IsBent kind.Straight = ⊥
     IsBent kind.HalfArc = Unit {0}
 
-on_kind_same : (k : CurveKind) (c : Curve) (z m : Vector) → Place z → Place m → Same z m → IsOnKind k c z → IsOnKind k c m
+on_kind_same : (k : CurveKind) (c : Curve) (z m : Vector) → Place z → Place m → Same z m
+    → IsOnKind k c z → IsOnKind k c m
 on_kind_same kind.Straight c z m Z M h on = on_straight_same (point c.from) (point c.to) z m (place_point c.from) (place_point c.to) Z M (same_sym z m h) on
 on_kind_same kind.HalfArc c z m Z M h on = on_half_arc_same (arc c) z m Z M h on
 
@@ -27,7 +30,8 @@ pub on_same : (c : Curve) (z m : Vector) → Place z → Place m → Same z m �
 on_same c = on_kind_same c.kind c
 
 -- ---- a segment between equal places is that place alone
-hits_kind_same : (k : CurveKind) (c : Curve) (p q : Vector) → Place p → Place q → Same p q → HitsKind k c p q → IsOnKind k c q
+hits_kind_same : (k : CurveKind) (c : Curve) (p q : Vector) → Place p → Place q → Same p q
+    → HitsKind k c p q → IsOnKind k c q
 hits_kind_same kind.Straight c p q P Q h hit =
     on_straight_same (point c.from) (point c.to) hit.z q (place_point c.from) (place_point c.to) hit.place Q (same_sym hit.z q (segment_same p q hit.z P Q hit.place h hit.of_segment)) hit.of_curve
 hits_kind_same kind.HalfArc c p q P Q h hit =
@@ -41,7 +45,8 @@ hits_kind_same kind.HalfArc c p q P Q h hit =
 pub hits_same : (c : Curve) (p q : Vector) → Place p → Place q → Same p q → Hits c p q → IsOn c q
 hits_same c = hits_kind_same c.kind c
 
-hits_kind_alone : (k : CurveKind) (c : Curve) (z : Vector) → Place z → IsOnKind k c z → HitsKind k c z z
+hits_kind_alone : (k : CurveKind) (c : Curve) (z : Vector) → Place z → IsOnKind k c z
+    → HitsKind k c z z
 hits_kind_alone kind.Straight c z Z on = record { z = z; place = Z; of_segment = first_on z z Z Z; of_curve = on }
 hits_kind_alone kind.HalfArc c z Z on =
     let e = on.circle in

@@ -1,8 +1,10 @@
 -- Equal places lie alike to a half arc, and its control points are on it.
-use Rattle.std.proofs.Common.{◌≡◌, ℕ, ℤ, pos, ◌+ℤ◌, ◌*ℤ◌, ◌-ℤ◌, ◌<ℤ◌, ◌≤ℤ◌, [], ◌∷◌, refl, arith, ap, sym, ◌∙◌}
+use Rattle.std.proofs.Common.{◌≡◌, ℕ, ℤ, pos, ◌+ℤ◌, ◌*ℤ◌, ◌-ℤ◌, ◌<ℤ◌, ◌≤ℤ◌, [], ◌∷◌, refl, arith}
+use Rattle.std.proofs.Common.{ap, sym, ◌∙◌}
 use Rattle.std.proofs.lemmas.Int.{ints}
 use Rattle.plane.specs.Rule.Places.{Vector, Place, Same, point}
-use Rattle.plane.specs.Rule.HalfArcs.{HalfArc, wide, tall, off_x, off_y, bend, circle_x, circle_y, power, bow, IsOnHalfArc}
+use Rattle.plane.specs.Rule.HalfArcs.{HalfArc, wide, tall, off_x, off_y, bend, circle_x, circle_y}
+use Rattle.plane.specs.Rule.HalfArcs.{power, bow, IsOnHalfArc}
 use Rattle.plane.proofs.Algebra.Laws.{product_positive}
 use Rattle.plane.proofs.Algebra.Ring.{Expr, at, num, plus, minus, times, vars, ring}
 use Rattle.plane.proofs.Algebra.Scaling.{cancel_le, product_of_zero, times_le}
@@ -20,7 +22,8 @@ POWER d a b x y n = times d (minus (times d (plus (times x x) (times y y))) (tim
 abbrev shape : (d a b x y n : ℤ) → ℤ
 shape d a b x y n = d *ℤ ((d *ℤ ((x *ℤ x) +ℤ (y *ℤ y))) -ℤ (((a *ℤ x) +ℤ (b *ℤ y)) *ℤ n))
 
-scaled_shape : (d a b x y n k : ℤ) → (k *ℤ k) *ℤ shape d a b x y n ≡ shape d a b (k *ℤ x) (k *ℤ y) (k *ℤ n)
+scaled_shape : (d a b x y n k : ℤ)
+    → (k *ℤ k) *ℤ shape d a b x y n ≡ shape d a b (k *ℤ x) (k *ℤ y) (k *ℤ n)
 scaled_shape d a b x y n k =
     ring (times (times (at 6) (at 6)) (POWER (at 0) (at 1) (at 2) (at 3) (at 4) (at 5))) (POWER (at 0) (at 1) (at 2) (times (at 6) (at 3)) (times (at 6) (at 4)) (times (at 6) (at 5)))
     (vars (d ∷ a ∷ b ∷ x ∷ y ∷ n ∷ k ∷ [])) refl
@@ -31,14 +34,16 @@ same_shape d a b x y n u v m e f g = ap (λ (w : ℤ). shape d a b w y n) e ∙ 
 swap : (a b : ℤ) → a *ℤ b ≡ b *ℤ a
 swap a b = ring (times (at 0) (at 1)) (times (at 1) (at 0)) (vars (a ∷ b ∷ [])) refl
 
-pub power_same : (h : HalfArc) (z m : Vector) → Same z m → (m.n *ℤ m.n) *ℤ power h z ≡ (z.n *ℤ z.n) *ℤ power h m
+pub power_same : (h : HalfArc) (z m : Vector) → Same z m
+    → (m.n *ℤ m.n) *ℤ power h z ≡ (z.n *ℤ z.n) *ℤ power h m
 unfolding power
 power_same h z m e =
     scaled_shape (bend h) (circle_x h) (circle_y h) (off_x h z) (off_y h z) z.n m.n
     ∙ same_shape (bend h) (circle_x h) (circle_y h) _ _ _ _ _ _ (offset h.from.x z.x z.n m.x m.n e.x) (offset h.from.y z.y z.n m.y m.n e.y) (swap m.n z.n)
     ∙ sym (scaled_shape (bend h) (circle_x h) (circle_y h) (off_x h m) (off_y h m) m.n z.n)
 
-chord_form : (d w t x y k : ℤ) → k *ℤ (pos 0 -ℤ (d *ℤ ((w *ℤ y) -ℤ (t *ℤ x)))) ≡ pos 0 -ℤ (d *ℤ ((w *ℤ (k *ℤ y)) -ℤ (t *ℤ (k *ℤ x))))
+chord_form : (d w t x y k : ℤ)
+    → k *ℤ (pos 0 -ℤ (d *ℤ ((w *ℤ y) -ℤ (t *ℤ x)))) ≡ pos 0 -ℤ (d *ℤ ((w *ℤ (k *ℤ y)) -ℤ (t *ℤ (k *ℤ x))))
 chord_form d w t x y k =
     let F : Expr → Expr → Expr = λ x y. minus (num (pos 0)) (times (at 0) (minus (times (at 1) y) (times (at 2) x))) in
     ring (times (at 5) (F (at 3) (at 4))) (F (times (at 5) (at 3)) (times (at 5) (at 4))) (vars (d ∷ w ∷ t ∷ x ∷ y ∷ k ∷ [])) refl
@@ -66,19 +71,23 @@ same_most a b x y A B e h =
     cancel_le b y (pos 0) B (omega (arith, ints, p, e, times_zero a, times_zero b))
 
 -- what holds of a place holds of an equal one
-pub not_inside_same : (h : HalfArc) (z m : Vector) → Place z → Place m → Same z m → pos 0 ≤ℤ power h z → pos 0 ≤ℤ power h m
+pub not_inside_same : (h : HalfArc) (z m : Vector) → Place z → Place m → Same z m
+    → pos 0 ≤ℤ power h z → pos 0 ≤ℤ power h m
 not_inside_same h z m Z M e p = same_least (m.n *ℤ m.n) (z.n *ℤ z.n) (power h z) (power h m) (product_positive m.n m.n M M) (product_positive z.n z.n Z Z) (power_same h z m e) p
 
-pub not_outside_same : (h : HalfArc) (z m : Vector) → Place z → Place m → Same z m → power h z ≤ℤ pos 0 → power h m ≤ℤ pos 0
+pub not_outside_same : (h : HalfArc) (z m : Vector) → Place z → Place m → Same z m
+    → power h z ≤ℤ pos 0 → power h m ≤ℤ pos 0
 not_outside_same h z m Z M e p = same_most (m.n *ℤ m.n) (z.n *ℤ z.n) (power h z) (power h m) (product_positive m.n m.n M M) (product_positive z.n z.n Z Z) (power_same h z m e) p
 
-pub away_same : (h : HalfArc) (z m : Vector) → Place z → Place m → Same z m → pos 0 ≤ℤ bow h z → pos 0 ≤ℤ bow h m
+pub away_same : (h : HalfArc) (z m : Vector) → Place z → Place m → Same z m → pos 0 ≤ℤ bow h z
+    → pos 0 ≤ℤ bow h m
 away_same h z m Z M e p = same_least m.n z.n (bow h z) (bow h m) M Z (bow_same h z m e) p
 
 pub level : (a : ℤ) → a ≤ℤ pos 0 → pos 0 ≤ℤ a → a ≡ pos 0
 level a h k = omega (arith, ints, h, k)
 
-pub on_half_arc_same : (h : HalfArc) (z m : Vector) → Place z → Place m → Same z m → IsOnHalfArc h z → IsOnHalfArc h m
+pub on_half_arc_same : (h : HalfArc) (z m : Vector) → Place z → Place m → Same z m → IsOnHalfArc h z
+    → IsOnHalfArc h m
 on_half_arc_same h z m Z M e on =
     let c = on.circle in
     record {

@@ -1,5 +1,6 @@
 -- Two curves that are bad are not apart.
-use Rattle.std.proofs.Common.{◌≡◌, ℕ, ◌+◌, ◌-◌, ◌<◌, ℤ, pos, ◌+ℤ◌, ◌*ℤ◌, ◌<ℤ◌, ◌≤ℤ◌, ◌⊎◌, inl, inr, [], ◌∷◌, refl, arith, subst, sym, ap, ◌∙◌}
+use Rattle.std.proofs.Common.{◌≡◌, ℕ, ◌+◌, ◌-◌, ◌<◌, ℤ, pos, ◌+ℤ◌, ◌*ℤ◌, ◌<ℤ◌, ◌≤ℤ◌, ◌⊎◌, inl, inr}
+use Rattle.std.proofs.Common.{[], ◌∷◌, refl, arith, subst, sym, ap, ◌∙◌}
 use Rattle.std.proofs.lemmas.Int.{ints}
 use Rattle.plane.specs.declared.kinds.Point.{Point}
 use Rattle.plane.specs.declared.kinds.Curve.{Curve}
@@ -9,7 +10,9 @@ use Rattle.plane.specs.Rule.Straights.{IsOnStraight}
 use Rattle.plane.specs.Rule.HalfArcs.{HalfArc, bend, IsOnHalfArc, HitsHalfArc}
 use Rattle.plane.specs.Rule.Curves.{arc, IsOnKind, HitsKind, IsOn, Hits, IsControl}
 use Rattle.plane.specs.Rule.Triangles.{Apart}
-use Rattle.plane.specs.Rule.BadPairs.{StraightsMeet, IsEndOf, EndsOn, sixteenth, IsTrialCrossing, HaveNoCommonEnd, IsCrossedOnTrial, AreOneArc, AreBad, straights_meet, end_meets, crossed, one_arc}
+use Rattle.plane.specs.Rule.BadPairs.{StraightsMeet, IsEndOf, EndsOn, sixteenth, IsTrialCrossing}
+use Rattle.plane.specs.Rule.BadPairs.{HaveNoCommonEnd, IsCrossedOnTrial, AreOneArc, AreBad}
+use Rattle.plane.specs.Rule.BadPairs.{straights_meet, end_meets, crossed, one_arc}
 use Rattle.plane.proofs.Algebra.Laws.{product_nonnegative}
 use Rattle.plane.proofs.Algebra.Ring.{at, num, plus, times, vars, ring}
 use Rattle.plane.proofs.Linear.EdgePlaces.{place_point}
@@ -20,7 +23,8 @@ use Rattle.plane.proofs.Covers.HalfArcPlaces.{bow_same, from-bow, to-bow}
 use Rattle.plane.proofs.Covers.CurvePlaces.{control_on}
 use Rattle.plane.proofs.Covers.StraightCovers.{apart_controls, covered_place}
 use Rattle.plane.proofs.Covers.OneArc.{summit, summit_place, summit_on, summit_high}
-use Rattle.plane.proofs.Covers.SameArc.{through, back, other_circle, other_bow, power-back, bow-back}
+use Rattle.plane.proofs.Covers.SameArc.{through, back, other_circle, other_bow, power-back}
+use Rattle.plane.proofs.Covers.SameArc.{bow-back}
 
 pub apart_back : (c d : Curve) → Apart c d → Apart d c
 apart_back c d h = record {
@@ -62,10 +66,13 @@ weighed a b k l m n s t kl mn z zn pn qn e =
     (times (plus (times (at 6) (plus (times (at 2) (at 0)) (times (at 3) (at 1)))) (times (at 7) (plus (times (at 4) (at 0)) (times (at 5) (at 1))))) (at 9)) E refl in
     i ∙ ap (λ (v : ℤ). z *ℤ ((s *ℤ v) +ℤ (t *ℤ (m +ℤ n)))) kl ∙ ap (λ (v : ℤ). z *ℤ ((s *ℤ pos 16) +ℤ (t *ℤ v))) mn ∙ e ∙ sym j
 
-sixteenths : (k : ℕ) → k < 16 → (pos (16 - k) +ℤ pos k ≡ pos 16) × (pos (16 - (k + 1)) +ℤ pos (k + 1) ≡ pos 16)
+sixteenths : (k : ℕ) → k < 16
+    → (pos (16 - k) +ℤ pos k ≡ pos 16) × (pos (16 - (k + 1)) +ℤ pos (k + 1) ≡ pos 16)
 sixteenths k h = (omega (arith, ints, h), omega (arith, ints, h))
 
-pub on_sixteenths : (c : Curve) (k : ℕ) → k < 16 → (z : Vector) → Place z → IsOnStraight (sixteenth c k) (sixteenth c (k + 1)) z → IsOnStraight (point c.from) (point c.to) z
+pub on_sixteenths : (c : Curve) (k : ℕ) → k < 16 → (z : Vector) → Place z
+    → IsOnStraight (sixteenth c k) (sixteenth c (k + 1)) z
+    → IsOnStraight (point c.from) (point c.to) z
 on_sixteenths c k h z Z on =
     let P : Place (sixteenth c k) = omega (arith, ints) in
     let Q : Place (sixteenth c (k + 1)) = omega (arith, ints) in
@@ -93,14 +100,16 @@ on_sixteenths c k h z Z on =
     both : (a b : ℤ) → pos 0 ≤ℤ a → pos 0 ≤ℤ b → pos 0 ≤ℤ (a +ℤ b)
     both a b h k = omega (arith, ints, h, k)
 
-    some : (s t k l m n : ℤ) → k +ℤ l ≡ pos 16 → m +ℤ n ≡ pos 16 → pos 0 <ℤ (s +ℤ t) → pos 0 <ℤ (((s *ℤ k) +ℤ (t *ℤ m)) +ℤ ((s *ℤ l) +ℤ (t *ℤ n)))
+    some : (s t k l m n : ℤ) → k +ℤ l ≡ pos 16 → m +ℤ n ≡ pos 16 → pos 0 <ℤ (s +ℤ t)
+        → pos 0 <ℤ (((s *ℤ k) +ℤ (t *ℤ m)) +ℤ ((s *ℤ l) +ℤ (t *ℤ n)))
     some s t k l m n kl mn h =
         let i = ring (plus (plus (times (at 0) (at 2)) (times (at 1) (at 4))) (plus (times (at 0) (at 3)) (times (at 1) (at 5)))) (plus (times (at 0) (plus (at 2) (at 3))) (times (at 1) (plus (at 4) (at 5)))) (vars (s ∷ t ∷ k ∷ l ∷ m ∷ n ∷ [])) refl in
         let j = ap (λ (v : ℤ). s *ℤ v) kl in
         let g = ap (λ (v : ℤ). t *ℤ v) mn in
         omega (arith, ints, i, j, g, h)
 
-trial_hits : (h : HalfArc) (p q : Vector) → Place p → Place q → IsTrialCrossing h p q → HitsHalfArc h p q
+trial_hits : (h : HalfArc) (p q : Vector) → Place p → Place q → IsTrialCrossing h p q
+    → HitsHalfArc h p q
 trial_hits h p q P Q t = elim t.changes [
   | inl s ↦ let a = s.0 in let b = s.1 in record {
     u = p;
@@ -128,14 +137,16 @@ trial_hits h p q P Q t = elim t.changes [
   }
 ]
 
-pub control_end : (c : Curve) (z : Vector) → IsControl c z → (p : Point) × IsEndOf c p × Same z (point p)
+pub control_end : (c : Curve) (z : Vector) → IsControl c z
+    → (p : Point) × IsEndOf c p × Same z (point p)
 control_end c z (inl h) = (c.from, inl refl, h)
 control_end c z (inr h) = (c.to, inr refl, h)
 
 pub one_point : (p q : Point) → Same (point p) (point q) → p ≡ q
 one_point p q h = let x = h.x in let y = h.y in point_eq p q (omega (arith, ints, x)) (omega (arith, ints, y))
 
-no_common_control : (c d : Curve) → HaveNoCommonEnd c d → (z : Vector) → Place z → IsControl c z × IsControl d z → ⊥
+no_common_control : (c d : Curve) → HaveNoCommonEnd c d → (z : Vector) → Place z
+    → IsControl c z × IsControl d z → ⊥
 no_common_control c d none z Z both =
     let (p, of_c, zp) = control_end c z both.0 in
     let (q, of_d, zq) = control_end d z both.1 in

@@ -1,8 +1,10 @@
 -- Two half arcs of one circle over one chord on one side: a place in the middle of the one is on the other.
-use Rattle.std.proofs.Common.{◌≡◌, ℤ, pos, ◌+ℤ◌, ◌*ℤ◌, ◌-ℤ◌, ◌<ℤ◌, ◌≤ℤ◌, List, [], ◌∷◌, refl, arith, ap, ◌∙◌}
+use Rattle.std.proofs.Common.{◌≡◌, ℤ, pos, ◌+ℤ◌, ◌*ℤ◌, ◌-ℤ◌, ◌<ℤ◌, ◌≤ℤ◌, List, [], ◌∷◌, refl, arith}
+use Rattle.std.proofs.Common.{ap, ◌∙◌}
 use Rattle.std.proofs.lemmas.Int.{ints, by_lt_z}
 use Rattle.plane.specs.Rule.Places.{Vector, Place}
-use Rattle.plane.specs.Rule.HalfArcs.{HalfArc, wide, tall, third_x, third_y, off_x, off_y, bend, circle_x, circle_y, power, bow, IsOnHalfArc}
+use Rattle.plane.specs.Rule.HalfArcs.{HalfArc, wide, tall, third_x, third_y, off_x, off_y, bend}
+use Rattle.plane.specs.Rule.HalfArcs.{circle_x, circle_y, power, bow, IsOnHalfArc}
 use Rattle.plane.proofs.Algebra.Laws.{product_positive, square_nonnegative, square_zero}
 use Rattle.plane.proofs.Algebra.Ring.{Expr, at, num, plus, minus, times, vars, ring}
 use Rattle.plane.proofs.Algebra.Scaling.{product_of_zero}
@@ -35,11 +37,13 @@ FORM ex ey tx ty x y n =
     minus (times (BEND ex ey tx ty) (SQ x y))
     (times (plus (times (minus (times (SQ ex ey) ty) (times (SQ tx ty) ey)) x) (times (minus (times ex (SQ tx ty)) (times tx (SQ ex ey))) y)) n)
 
-pub power-form : (h : HalfArc) (v : Vector) → power h v ≡ bend_at (wide h) (tall h) (third_x h) (third_y h) *ℤ form_at (wide h) (tall h) (third_x h) (third_y h) (off_x h v) (off_y h v) v.n
+pub power-form : (h : HalfArc) (v : Vector)
+    → power h v ≡ bend_at (wide h) (tall h) (third_x h) (third_y h) *ℤ form_at (wide h) (tall h) (third_x h) (third_y h) (off_x h v) (off_y h v) v.n
 unfolding power bend circle_x circle_y
 power-form h v = refl
 
-pub bow-form : (h : HalfArc) (v : Vector) → bow h v ≡ pos 0 -ℤ (bend_at (wide h) (tall h) (third_x h) (third_y h) *ℤ chord_at (wide h) (tall h) (off_x h v) (off_y h v))
+pub bow-form : (h : HalfArc) (v : Vector)
+    → bow h v ≡ pos 0 -ℤ (bend_at (wide h) (tall h) (third_x h) (third_y h) *ℤ chord_at (wide h) (tall h) (off_x h v) (off_y h v))
 unfolding bow bend
 bow-form h v = refl
 
@@ -80,7 +84,8 @@ some_square x y u v n =
     let q = ap (λ (z : ℤ). z *ℤ u) y0 in
     absurd (n (omega (arith, ints, p, q))))
 
-pub is_bent : (h : HalfArc) → (bend h ≡ pos 0 → ⊥) → bend_at (wide h) (tall h) (third_x h) (third_y h) ≡ pos 0 → ⊥
+pub is_bent : (h : HalfArc) → (bend h ≡ pos 0 → ⊥)
+    → bend_at (wide h) (tall h) (third_x h) (third_y h) ≡ pos 0 → ⊥
 unfolding bend
 is_bent h n = n
 
@@ -89,7 +94,8 @@ deep_positive h n =
     some_square (wide h -ℤ (pos 2 *ℤ third_x h)) (tall h -ℤ (pos 2 *ℤ third_y h)) (third_x h) (third_y h)
     (λ e. is_bent h n (turned (wide h) (tall h) (third_x h) (third_y h) ∙ e))
   where
-    turned : (ex ey tx ty : ℤ) → bend_at ex ey tx ty ≡ ((ex -ℤ (pos 2 *ℤ tx)) *ℤ ty) -ℤ ((ey -ℤ (pos 2 *ℤ ty)) *ℤ tx)
+    turned : (ex ey tx ty : ℤ)
+        → bend_at ex ey tx ty ≡ ((ex -ℤ (pos 2 *ℤ tx)) *ℤ ty) -ℤ ((ey -ℤ (pos 2 *ℤ ty)) *ℤ tx)
     turned ex ey tx ty = let two = num (pos 2) in
         ring (BEND (at 0) (at 1) (at 2) (at 3)) (minus (times (minus (at 0) (times two (at 2))) (at 3)) (times (minus (at 1) (times two (at 3))) (at 2))) (vars (ex ∷ ey ∷ tx ∷ ty ∷ [])) refl
 
@@ -110,19 +116,23 @@ SEEN_Y = plus (times DEEP (at 1)) (times (SQ (at 0) (at 1)) (minus (at 1) (times
 abbrev given : HalfArc → List ℤ
 given h = wide h ∷ tall h ∷ third_x h ∷ third_y h ∷ []
 
-pub on_form : (h : HalfArc) → form_at (wide h) (tall h) (third_x h) (third_y h) (seen_x h) (seen_y h) (pos 2 *ℤ deep h) ≡ pos 0
+pub on_form : (h : HalfArc)
+    → form_at (wide h) (tall h) (third_x h) (third_y h) (seen_x h) (seen_y h) (pos 2 *ℤ deep h) ≡ pos 0
 on_form h = ring (FORM (at 0) (at 1) (at 2) (at 3) SEEN_X SEEN_Y (times (num (pos 2)) DEEP)) (num (pos 0)) (vars (given h)) refl
 
-pub summit-form : (h : HalfArc) (ex ey tx ty : ℤ) → form_at ex ey tx ty (off_x h (summit h)) (off_y h (summit h)) (summit h).n ≡ form_at ex ey tx ty (seen_x h) (seen_y h) (pos 2 *ℤ deep h)
+pub summit-form : (h : HalfArc) (ex ey tx ty : ℤ)
+    → form_at ex ey tx ty (off_x h (summit h)) (off_y h (summit h)) (summit h).n ≡ form_at ex ey tx ty (seen_x h) (seen_y h) (pos 2 *ℤ deep h)
 unfolding summit
 summit-form h ex ey tx ty =
     ap (λ (x : ℤ). form_at ex ey tx ty x (off_y h (summit h)) (pos 2 *ℤ deep h)) (summit-x h) ∙ ap (λ (y : ℤ). form_at ex ey tx ty (seen_x h) y (pos 2 *ℤ deep h)) (summit-y h)
 
-chord-high : (h : HalfArc) → chord_at (wide h) (tall h) (seen_x h) (seen_y h) ≡ pos 0 -ℤ (pos 2 *ℤ (broad h *ℤ bend_at (wide h) (tall h) (third_x h) (third_y h)))
+chord-high : (h : HalfArc)
+    → chord_at (wide h) (tall h) (seen_x h) (seen_y h) ≡ pos 0 -ℤ (pos 2 *ℤ (broad h *ℤ bend_at (wide h) (tall h) (third_x h) (third_y h)))
 chord-high h =
     ring (minus (times (at 0) SEEN_Y) (times (at 1) SEEN_X)) (minus (num (pos 0)) (times (num (pos 2)) (times (SQ (at 0) (at 1)) (BEND (at 0) (at 1) (at 2) (at 3))))) (vars (given h)) refl
 
-pub summit-chord : (h : HalfArc) → chord_at (wide h) (tall h) (off_x h (summit h)) (off_y h (summit h)) ≡ pos 0 -ℤ (pos 2 *ℤ (broad h *ℤ bend_at (wide h) (tall h) (third_x h) (third_y h)))
+pub summit-chord : (h : HalfArc)
+    → chord_at (wide h) (tall h) (off_x h (summit h)) (off_y h (summit h)) ≡ pos 0 -ℤ (pos 2 *ℤ (broad h *ℤ bend_at (wide h) (tall h) (third_x h) (third_y h)))
 summit-chord h =
     ap (λ (x : ℤ). chord_at (wide h) (tall h) x (off_y h (summit h))) (summit-x h) ∙ ap (λ (y : ℤ). chord_at (wide h) (tall h) (seen_x h) y) (summit-y h) ∙ chord-high h
 

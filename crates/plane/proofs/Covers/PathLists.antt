@@ -21,7 +21,8 @@ route d _ _ P (goes p q s off Q miss path) =
     let r = route d q s Q path in
     record { rest = q ∷ r.rest; arrives = r.arrives; places = ((P, off), r.places); clear = (miss, r.clear) }
 
-path_on : (d : Plan) (q p : Vector) (rest : List Vector) → Last (λ z. Same z q) (p ∷ rest) → Each (λ z. Place z × IsOff d z) (p ∷ rest) → Neighbours (IsClear d) (p ∷ rest) → Path d p q
+path_on : (d : Plan) (q p : Vector) (rest : List Vector) → Last (λ z. Same z q) (p ∷ rest)
+    → Each (λ z. Place z × IsOff d z) (p ∷ rest) → Neighbours (IsClear d) (p ∷ rest) → Path d p q
 path_on d q p [] a e n = ends p q a e.0.1
 path_on d q p (r ∷ rest) a e n = goes p r q e.0.1 e.1.0.0 n.0 (path_on d q r rest a e.1 n.1)
 
@@ -40,7 +41,8 @@ joined_is_path d p q P = (
   (λ h. let r = route d p q P h in record { first = p; rest = r.rest; begins = same_refl p; ends = r.arrives; places = r.places; clear = r.clear }),
 )
 
-pub outer_is_path : (d : Plan) (p : Vector) → Place p → IsOuter d p ↔ ((b : ℤ) → (q : Vector) × Place q × Path d p q × (q.x <ℤ (b *ℤ q.n)))
+pub outer_is_path : (d : Plan) (p : Vector) → Place p
+    → IsOuter d p ↔ ((b : ℤ) → (q : Vector) × Place q × Path d p q × (q.x <ℤ (b *ℤ q.n)))
 outer_is_path d p P = (
   (λ h b. let (q, Q, j, l) = h b in (q, Q, joined_path d p q P j, l)),
   (λ h b. let (q, Q, j, l) = h b in (q, Q, (joined_is_path d p q P).1 j, l)),

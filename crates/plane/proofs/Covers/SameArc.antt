@@ -1,13 +1,17 @@
 -- Half arcs with the same two control points on one side of one circle: each has the other's summit on it.
-use Rattle.std.proofs.Common.{◌≡◌, ℤ, pos, ◌*ℤ◌, ◌-ℤ◌, ◌<ℤ◌, ◌≤ℤ◌, [], ◌∷◌, refl, arith, ap, sym, ◌∙◌}
+use Rattle.std.proofs.Common.{◌≡◌, ℤ, pos, ◌*ℤ◌, ◌-ℤ◌, ◌<ℤ◌, ◌≤ℤ◌, [], ◌∷◌, refl, arith, ap, sym}
+use Rattle.std.proofs.Common.{◌∙◌}
 use Rattle.std.proofs.lemmas.Int.{ints}
 use Rattle.plane.specs.declared.kinds.Point.{Point}
 use Rattle.plane.specs.Rule.Places.{Vector, point}
-use Rattle.plane.specs.Rule.HalfArcs.{HalfArc, wide, tall, third_x, third_y, off_x, off_y, bend, circle_x, circle_y, power, bow}
+use Rattle.plane.specs.Rule.HalfArcs.{HalfArc, wide, tall, third_x, third_y, off_x, off_y, bend}
+use Rattle.plane.specs.Rule.HalfArcs.{circle_x, circle_y, power, bow}
 use Rattle.plane.proofs.Algebra.Laws.{product_nonnegative, square_nonnegative}
 use Rattle.plane.proofs.Algebra.Ring.{Expr, at, num, plus, minus, times, vars, ring}
 use Rattle.plane.proofs.Algebra.Scaling.{cancel_zero, product_of_zero}
-use Rattle.plane.proofs.Covers.OneArc.{bend_at, form_at, chord_at, broad, is_bent, square_positive, power-form, bow-form, summit, summit-form, on_form, summit-chord, same_form}
+use Rattle.plane.proofs.Covers.OneArc.{bend_at, form_at, chord_at, broad, is_bent, square_positive}
+use Rattle.plane.proofs.Covers.OneArc.{power-form, bow-form, summit, summit-form, on_form}
+use Rattle.plane.proofs.Covers.OneArc.{summit-chord, same_form}
 
 zero_factor : (d f : ℤ) → (d ≡ pos 0 → ⊥) → d *ℤ f ≡ pos 0 → f ≡ pos 0
 zero_factor d f n e =
@@ -21,13 +25,15 @@ through h u = record { from = h.from; to = h.to; third = u }
 one : (u f : ℤ) → u -ℤ (f *ℤ pos 1) ≡ u -ℤ f
 one u f = omega (arith, ints)
 
-point_form : (h : HalfArc) (u : Point) → form_at (wide h) (tall h) (third_x h) (third_y h) (off_x h (point u)) (off_y h (point u)) (pos 1)
+point_form : (h : HalfArc) (u : Point)
+    → form_at (wide h) (tall h) (third_x h) (third_y h) (off_x h (point u)) (off_y h (point u)) (pos 1)
     ≡ form_at (wide h) (tall h) (third_x h) (third_y h) (third_x (through h u)) (third_y (through h u)) (pos 1)
 point_form h u =
     ap (λ (x : ℤ). form_at (wide h) (tall h) (third_x h) (third_y h) x (off_y h (point u)) (pos 1)) (one u.x h.from.x)
     ∙ ap (λ (y : ℤ). form_at (wide h) (tall h) (third_x h) (third_y h) (third_x (through h u)) y (pos 1)) (one u.y h.from.y)
 
-pub other_circle : (h : HalfArc) (u : Point) → (bend h ≡ pos 0 → ⊥) → power h (point u) ≡ pos 0 → power (through h u) (summit h) ≡ pos 0
+pub other_circle : (h : HalfArc) (u : Point) → (bend h ≡ pos 0 → ⊥) → power h (point u) ≡ pos 0
+    → power (through h u) (summit h) ≡ pos 0
 other_circle h u n on =
     let k = through h u in
     let d = bend_at (wide h) (tall h) (third_x h) (third_y h) in
@@ -40,11 +46,13 @@ other_circle h u n on =
     let both = same_form (wide h) (tall h) (third_x h) (third_y h) (third_x k) (third_y k) (off_x h z) (off_y h z) z.n zero ∙ product_of_zero g _ first in
     power-form k z ∙ product_of_zero g _ (zero_factor d _ m both)
 
-point_chord : (h : HalfArc) (u : Point) → chord_at (wide h) (tall h) (off_x h (point u)) (off_y h (point u)) ≡ bend_at (wide h) (tall h) (third_x (through h u)) (third_y (through h u))
+point_chord : (h : HalfArc) (u : Point)
+    → chord_at (wide h) (tall h) (off_x h (point u)) (off_y h (point u)) ≡ bend_at (wide h) (tall h) (third_x (through h u)) (third_y (through h u))
 point_chord h u =
     ap (λ (x : ℤ). chord_at (wide h) (tall h) x (off_y h (point u))) (one u.x h.from.x) ∙ ap (λ (y : ℤ). chord_at (wide h) (tall h) (third_x (through h u)) y) (one u.y h.from.y)
 
-pub other_bow : (h : HalfArc) (u : Point) → bow h (point u) <ℤ pos 0 → pos 0 ≤ℤ bow (through h u) (summit h)
+pub other_bow : (h : HalfArc) (u : Point) → bow h (point u) <ℤ pos 0
+    → pos 0 ≤ℤ bow (through h u) (summit h)
 other_bow h u side =
     let k = through h u in
     let d = bend_at (wide h) (tall h) (third_x h) (third_y h) in

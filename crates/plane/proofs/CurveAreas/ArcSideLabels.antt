@@ -1,5 +1,6 @@
 -- The ends of every segment that crosses a half arc have the labels outside the inner and outside the outer chain of its tube.
-use Rattle.std.proofs.Common.{◌≡◌, ℕ, ◌<◌, List, [], ◌∷◌, length, ℤ, pos, ◌<ℤ◌, ◌⊎◌, inl, inr, refl, ap, sym, ◌∙◌, subst}
+use Rattle.std.proofs.Common.{◌≡◌, ℕ, ◌<◌, List, [], ◌∷◌, length, ℤ, pos, ◌<ℤ◌, ◌⊎◌, inl, inr, refl}
+use Rattle.std.proofs.Common.{ap, sym, ◌∙◌, subst}
 use Rattle.plane.specs.declared.kinds.Point.{Point}
 use Rattle.plane.specs.declared.kinds.CurveKind.TheVariants as kind
 use Rattle.plane.specs.Forms.Vectors.{Vector, Place, Same, point, Edge, On}
@@ -15,8 +16,10 @@ use Rattle.plane.specs.Faces.Halves.{Half, edge_of}
 use Rattle.plane.specs.Faces.Labels.{Labels}
 use Rattle.plane.specs.Tubes.Bays.{Bay, IsTube, AtEnds}
 use Rattle.plane.specs.Tubes.Bays as one
-use Rattle.plane.specs.CurveRuns.Extended.{Tubes, InTubeAt, AtArcEnd, AreTubes, HasLabel, IsOnWay, IsFreeOfCurves}
-use Rattle.plane.specs.CurveRuns.TubedRuns.{owned, IsTubedRun, AreTubeLabels, arc_at, tube_label, tubes, MeetsArc}
+use Rattle.plane.specs.CurveRuns.Extended.{Tubes, InTubeAt, AtArcEnd, AreTubes, HasLabel, IsOnWay}
+use Rattle.plane.specs.CurveRuns.Extended.{IsFreeOfCurves}
+use Rattle.plane.specs.CurveRuns.TubedRuns.{owned, IsTubedRun, AreTubeLabels, arc_at, tube_label}
+use Rattle.plane.specs.CurveRuns.TubedRuns.{tubes, MeetsArc}
 use Rattle.plane.proofs.FaceLemmas.Drawn.{hits_curve}
 use Rattle.plane.proofs.Windings.CommonPlaces.{decide_number}
 use Rattle.plane.proofs.Windings.Ways.{way_mix, way_start, way_end, way_place}
@@ -29,13 +32,15 @@ use Rattle.plane.proofs.HalfArcs.Misses.{inside_misses}
 use Rattle.plane.proofs.OneTube.TubeStrips.{tube_cap}
 use Rattle.plane.proofs.TubedRuns.OwnedEdges.{owner_is}
 use Rattle.plane.proofs.TubedRuns.ArcEdges.{at_ends}
-use Rattle.plane.proofs.TubedRuns.RunTubes.{are_tubes, arc_fits, arc_bent, edge_in_tube, tube_owner, tube_places}
+use Rattle.plane.proofs.TubedRuns.RunTubes.{are_tubes, arc_fits, arc_bent, edge_in_tube, tube_owner}
+use Rattle.plane.proofs.TubedRuns.RunTubes.{tube_places}
 use Rattle.plane.proofs.TubedRuns.TubedCurves.{way_between, part_hits, tube_of, hits_bent}
 use Rattle.plane.proofs.TubedRuns.TubedOff.{in_its_tube}
 use Rattle.plane.proofs.TubedRuns.TubedLabels.{off_label}
 use Rattle.plane.proofs.TubePaths.Extended.{label_kept}
 use Rattle.plane.proofs.HalfArcs.AfterArcs.{after_misses}
-use Rattle.plane.proofs.HalfArcs.ArcEntries.{IsInnerEntry, IsOuterEntry, IsThroughEnd, inner_entry, outer_entry}
+use Rattle.plane.proofs.HalfArcs.ArcEntries.{IsInnerEntry, IsOuterEntry, IsThroughEnd, inner_entry}
+use Rattle.plane.proofs.HalfArcs.ArcEntries.{outer_entry}
 use Rattle.plane.proofs.TubePaths.LoneTubeEnds.{lone_end}
 use Rattle.plane.proofs.TubePaths.ThroughEnds.{IsFreeBut, one_tube, label_there}
 use Rattle.plane.proofs.Covers.CurvePlaces.{no_kind}
@@ -111,7 +116,8 @@ module _ (w : ℤ) (d : Plan) (bays : ℕ → List Bay) (m : ℕ) (E : ℕ → E
   }
 
   -- a part of it that does not hit the half arc hits no curve
-  clear_free : (a b : Vector) → Place a → Place b → IsOnWay p q a → IsOnWay p q b → (HitsHalfArc h a b → ⊥) → IsFreeOfCurves r T (MeetsArc d) a b
+  clear_free : (a b : Vector) → Place a → Place b → IsOnWay p q a → IsOnWay p q b
+      → (HitsHalfArc h a b → ⊥) → IsFreeOfCurves r T (MeetsArc d) a b
   clear_free a b A B wa wb misses = record {
     straights = (part_free a b wa wb).straights;
     arcs = λ e k u v ku kv hit. elim (decide_number e c) [
@@ -120,7 +126,8 @@ module _ (w : ℤ) (d : Plan) (bays : ℕ → List Bay) (m : ℕ) (E : ℕ → E
     ];
   }
 
-  clear_label : (a b : Vector) → Place a → Place b → IsOnWay p q a → IsOnWay p q b → (HitsHalfArc h a b → ⊥) → (k n : ℕ) → HasLabel r lab T a k → HasLabel r lab T b n → k ≡ n
+  clear_label : (a b : Vector) → Place a → Place b → IsOnWay p q a → IsOnWay p q b
+      → (HitsHalfArc h a b → ⊥) → (k n : ℕ) → HasLabel r lab T a k → HasLabel r lab T b n → k ≡ n
   clear_label a b A B wa wb misses = label_kept r whole lab L.matched T (MeetsArc d) all a b A B (clear_free a b A B wa wb misses)
 
   -- ---- the places where it enters the tube, on each side
@@ -140,11 +147,13 @@ module _ (w : ℤ) (d : Plan) (bays : ℕ → List Bay) (m : ℕ) (E : ℕ → E
   place : (y : Vector) → IsOnWay p q y → Place y
   place y k = way_place p q y P Q k
 
-  inner_told : (y : Vector) → IsInnerEntry h (bays i) p q y → (k : ℕ) → HasLabel r lab T p k → k ≡ inside i
+  inner_told : (y : Vector) → IsInnerEntry h (bays i) p q y → (k : ℕ) → HasLabel r lab T p k
+      → k ≡ inside i
   inner_told y e k hp = clear_label p y P (place y e.way) (way_start p q) e.way (λ hit. inside_misses h p y hc P (place y e.way) x.inside e.inside (hits_arc h p y P (place y e.way) hit)) k (inside i) hp
       (inl (c, lc, in_tube y e.there, inl (subst (λ (j : ℕ). power (arc (curve d j)) y <ℤ pos 0) (sym tube.2) e.inside, ap inside (sym tube.2))))
 
-  outer_told : (y : Vector) → IsOuterEntry h (bays i) p q y → (k : ℕ) → HasLabel r lab T q k → k ≡ outside i
+  outer_told : (y : Vector) → IsOuterEntry h (bays i) p q y → (k : ℕ) → HasLabel r lab T q k
+      → k ≡ outside i
   outer_told y e k hq = sym (clear_label y q (place y e.way) Q e.way (way_end p q) (λ hit. after_misses h p q y hc P Q e.way x.inside e.outside (hits_arc h y q (place y e.way) Q hit)) (outside i) k
       (inl (c, lc, in_tube y e.there, inr (subst (λ (j : ℕ). pos 0 <ℤ power (arc (curve d j)) y) (sym tube.2) e.outside, ap outside (sym tube.2)))) hq)
 
@@ -165,7 +174,8 @@ module _ (w : ℤ) (d : Plan) (bays : ℕ → List Bay) (m : ℕ) (E : ℕ → E
           | inr n ↦ absurd (all.labels k.0 c k.1 lc n (ap (tube_label d) k.2))
         ]
 
-    lone : (v : Point) → Same y (point v) → (f : ℕ) → f < m → IsEnd (E f) v → (owned d bays f).curve ≡ i
+    lone : (v : Point) → Same y (point v) → (f : ℕ) → f < m → IsEnd (E f) v
+        → (owned d bays f).curve ≡ i
     lone v same f k end =
         let s = free_but.straights y e.way f k (on_end end) in
         let on = subst (λ (n : ℕ). On w (E n) y) (sym s.4) (on_end end) in
@@ -187,7 +197,8 @@ module _ (w : ℤ) (d : Plan) (bays : ℕ → List Bay) (m : ℕ) (E : ℕ → E
     equal : T.inner c ≡ T.outer c
     equal = ap inside tube.2 ∙ one_side ∙ sym (ap outside tube.2)
 
-    end_told : (a : Vector) → Place a → IsOnWay p q a → (k : ℕ) → HasLabel r lab T a k → k ≡ inside i
+    end_told : (a : Vector) → Place a → IsOnWay p q a → (k : ℕ) → HasLabel r lab T a k
+        → k ≡ inside i
     end_told a A wa k ha = label_there r whole lab L.matched T (MeetsArc d) all c lc equal a y A Y (part_free a y wa e.way) k there ha ∙ ap inside tube.2
 
   -- ---- both ends

@@ -1,5 +1,6 @@
 -- Each straight of a drawing with half arcs is crossed by a segment that hits no other curve; its ends have the labels of the straight's sides.
-use Rattle.std.proofs.Common.{◌≡◌, ℕ, suc, ◌+◌, ◌<◌, ◌≤◌, List, ◌∷◌, length, ℤ, pos, ◌+ℤ◌, ◌*ℤ◌, ◌-ℤ◌, ◌≤ℤ◌, inl, inr, refl, arith, ap, sym, ◌∙◌, subst}
+use Rattle.std.proofs.Common.{◌≡◌, ℕ, suc, ◌+◌, ◌<◌, ◌≤◌, List, ◌∷◌, length, ℤ, pos, ◌+ℤ◌, ◌*ℤ◌}
+use Rattle.std.proofs.Common.{◌-ℤ◌, ◌≤ℤ◌, inl, inr, refl, arith, ap, sym, ◌∙◌, subst}
 use Rattle.std.proofs.lemmas.Int.{ints}
 use Rattle.plane.specs.declared.kinds.Point.{Point}
 use Rattle.plane.specs.declared.kinds.CurveKind.TheVariants as kind
@@ -20,7 +21,8 @@ use Rattle.plane.specs.Tubes.Bays.{Bay}
 use Rattle.plane.specs.Tubes.Windings.{tiles}
 use Rattle.plane.specs.CurveRuns.Extended.{Tubes, AreTubes, InTubeAt, AtArcEnd, HasLabel, IsOnWay}
 use Rattle.plane.proofs.TubePaths.PieceWords.{AreSides}
-use Rattle.plane.specs.CurveRuns.TubedRuns.{whole, owned, IsOfTube, IsTubedRun, AreTubeLabels, arc_at, tubes, MeetsArc}
+use Rattle.plane.specs.CurveRuns.TubedRuns.{whole, owned, IsOfTube, IsTubedRun, AreTubeLabels}
+use Rattle.plane.specs.CurveRuns.TubedRuns.{arc_at, tubes, MeetsArc}
 use Rattle.plane.proofs.Linear.EdgePlaces.{side-turn, place_point}
 use Rattle.plane.proofs.Linear.Vectors.{side-mix}
 use Rattle.plane.proofs.Algebra.Laws.{product_nonnegative, weight_at_most}
@@ -65,7 +67,8 @@ module _ (w : ℤ) (d : Plan) (bays : ℕ → List Bay) (m : ℕ) (E : ℕ → E
   too_great n i l e k = omega (arith, e, k)
 
   -- an edge that is no tube's is in a tube at most at its ends
-  at_end : (e c : ℕ) → e < m → c < T.count → ((h : Half) → Has h (T.halves c) → edge_of h ≡ e → ⊥) → (z : Vector) → Place z → On w (E e) z → InTubeAt T c z → AtArcEnd T c z
+  at_end : (e c : ℕ) → e < m → c < T.count → ((h : Half) → Has h (T.halves c) → edge_of h ≡ e → ⊥)
+      → (z : Vector) → Place z → On w (E e) z → InTubeAt T c z → AtArcEnd T c z
   at_end e c le lc not_its z Z on in_c =
       elim (look_below (λ k. Same z (point (r.step k).at)) r.steps (λ k. decide_same z (point (r.step k).at))) [
         | inr none ↦ absurd (edge_outside r run lab L.matched (T.label c) (T.first c) (T.bay c) (T.bays c) (T.halves c) (all.tube c lc) e z le not_its Z (λ k l s. none (k, l, s)) on in_c)
@@ -115,13 +118,16 @@ module _ (w : ℤ) (d : Plan) (bays : ℕ → List Bay) (m : ℕ) (E : ℕ → E
     ]
 
     -- an end of the segment is in a cell with the label of its side, and in no tube
-    end_label : (h : Half) (z : Vector) → Place z → Beside r h (sector r z) → label_of lab r (sector r z) ≡ mark lab h
+    end_label : (h : Half) (z : Vector) → Place z → Beside r h (sector r z)
+        → label_of lab r (sector r z) ≡ mark lab h
     end_label h z Z b = beside_label r run lab L.matched T (MeetsArc d) all sides h z Z b
 
-    plain : (h : Half) (z : Vector) → Place z → Beside r h (sector r z) → mark lab h ≤ length d.points → (c : ℕ) → label_of lab r (sector r z) ≡ T.label c → ⊥
+    plain : (h : Half) (z : Vector) → Place z → Beside r h (sector r z)
+        → mark lab h ≤ length d.points → (c : ℕ) → label_of lab r (sector r z) ≡ T.label c → ⊥
     plain h z Z b most c k = too_great (length d.points) (arc_at d c) (mark lab h) (sym k ∙ end_label h z Z b) most
 
-    labelled : (h : Half) (z : Vector) → Place z → IsOffEdges r z → Beside r h (sector r z) → mark lab h ≤ length d.points → HasLabel r lab T z (mark lab h)
+    labelled : (h : Half) (z : Vector) → Place z → IsOffEdges r z → Beside r h (sector r z)
+        → mark lab h ≤ length d.points → HasLabel r lab T z (mark lab h)
     labelled h z Z off b most = inr ((λ c lc k. plain h z Z b most c (tube_label_of r run lab L.matched T (MeetsArc d) all sides c lc z Z off k)), off, sym (end_label h z Z b))
 
     p_label : HasLabel r lab T p (lab.above e)
@@ -148,7 +154,9 @@ module _ (w : ℤ) (d : Plan) (bays : ℕ → List Bay) (m : ℕ) (E : ℕ → E
       off : IsOffEdges r z
       off f lf on = not_end (at_end e c le lc not_its z Z (subst (λ (n : ℕ). On w (E n) z) (alone f lf on) on) in_c)
 
-      free_to : (o : Vector) → Place o → IsOnWay p q o → ((s t : ℤ) → pos 0 ≤ℤ s → pos 0 ≤ℤ t → (s *ℤ side (E e) z) +ℤ (t *ℤ side (E e) o) ≡ pos 0 → t ≡ pos 0) → IsFree r z o
+      free_to : (o : Vector) → Place o → IsOnWay p q o
+          → ((s t : ℤ) → pos 0 ≤ℤ s → pos 0 ≤ℤ t → (s *ℤ side (E e) z) +ℤ (t *ℤ side (E e) o) ≡ pos 0 → t ≡ pos 0)
+          → IsFree r z o
       free_to o O k apart f lf = mix_clear w (E f) z o Z O (λ s t hs ht some on.
           let y = only (mix s z t o) (way_mix p q z o s t hs ht some on_way k) f lf on in
           let on_e = subst (λ (n : ℕ). On w (E n) (mix s z t o)) y on in

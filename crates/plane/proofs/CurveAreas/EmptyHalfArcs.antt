@@ -36,11 +36,14 @@ module _ (w : ℤ) (d : Plan) (ps : List Placed) (bays : ℕ → List Bay) (m : 
   abbrev Label : Vector → ℕ → Type 0
   Label z l = HasLabel (replay w m E steps) lab (tubes other bays within inside outside) z l
 
-  lost : pos 0 <ℤ w → (k : ℕ → ℕ) → ((j : ℕ) → j < length d.points → Label (point (object d j)) (k j)) → (z : Vector) (l : ℕ) → Place z → IsOff d z → Label z l
+  lost : pos 0 <ℤ w → (k : ℕ → ℕ)
+      → ((j : ℕ) → j < length d.points → Label (point (object d j)) (k j)) → (z : Vector) (l : ℕ)
+      → Place z → IsOff d z → Label z l
       → IsLost d z ↔ ((l ≡ 0 → ⊥) × ((j : ℕ) → j < length d.points → l ≡ k j → ⊥))
   lost heavy k points z l Z off h = lost_is w d ps bays m E steps lab within inside outside swept is L face faces fine none heavy z l k Z off h points
 
-  pub empty_inside : pos 0 <ℤ w → (k : ℕ → ℕ) → ((j : ℕ) → j < length d.points → Label (point (object d j)) (k j))
+  pub empty_inside : pos 0 <ℤ w → (k : ℕ → ℕ)
+      → ((j : ℕ) → j < length d.points → Label (point (object d j)) (k j))
       → ((p : Vector) × (q : Vector) × CrossesHalfArc d i p q × IsLost d p) ↔ ((inside i ≡ 0 → ⊥) × ((j : ℕ) → j < length d.points → inside i ≡ k j → ⊥))
   empty_inside heavy k points = (
     (λ (p, q, x, y). (lost heavy k points p (inside i) x.p_place x.p_off (inner_end w other bays m E steps lab within inside outside swept is L i fits bent p q (crosses_without d ps i p q x))).0 y),
@@ -50,7 +53,8 @@ module _ (w : ℤ) (d : Plan) (ps : List Placed) (bays : ℕ → List Bay) (m : 
         (c.0, c.1, x, (lost heavy k points c.0 (inside i) x.p_place x.p_off c.3.0).1 u)),
   )
 
-  pub empty_outside : pos 0 <ℤ w → (k : ℕ → ℕ) → ((j : ℕ) → j < length d.points → Label (point (object d j)) (k j))
+  pub empty_outside : pos 0 <ℤ w → (k : ℕ → ℕ)
+      → ((j : ℕ) → j < length d.points → Label (point (object d j)) (k j))
       → ((p : Vector) × (q : Vector) × CrossesHalfArc d i p q × IsLost d q) ↔ ((outside i ≡ 0 → ⊥) × ((j : ℕ) → j < length d.points → outside i ≡ k j → ⊥))
   empty_outside heavy k points = (
     (λ (p, q, x, y). (lost heavy k points q (outside i) x.q_place x.q_off (outer_end w other bays m E steps lab within inside outside swept is L i fits bent p q (crosses_without d ps i p q x))).0 y),

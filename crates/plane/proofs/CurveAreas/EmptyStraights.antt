@@ -43,13 +43,16 @@ module _ (w : ℤ) (d : Plan) (ps : List Placed) (bays : ℕ → List Bay) (m : 
   renamed : (k : ℕ → ℕ) (l n : ℕ) → l ≡ n → Unnamed k l → Unnamed k n
   renamed k l n s u = ((λ x. u.0 (s ∙ x)), (λ j f x. u.1 j f (s ∙ x)))
 
-  lost : pos 0 <ℤ w → (k : ℕ → ℕ) → ((j : ℕ) → j < length d.points → Label (point (object d j)) (k j)) → (z : Vector) (l : ℕ) → Place z → IsOff d z → Label z l → IsLost d z ↔ Unnamed k l
+  lost : pos 0 <ℤ w → (k : ℕ → ℕ)
+      → ((j : ℕ) → j < length d.points → Label (point (object d j)) (k j)) → (z : Vector) (l : ℕ)
+      → Place z → IsOff d z → Label z l → IsLost d z ↔ Unnamed k l
   lost heavy k points z l Z off h = lost_is w d ps bays m E steps lab within inside outside swept is L face faces fine none heavy z l k Z off h points
 
   off_has : (z : Vector) → Place z → IsOff d z → (l : ℕ) × Label z l
   off_has z Z off = off_label w wide bays m E steps lab within inside outside swept is L z Z off
 
-  pub empty_above : pos 0 <ℤ w → (k : ℕ → ℕ) → ((j : ℕ) → j < length d.points → Label (point (object d j)) (k j))
+  pub empty_above : pos 0 <ℤ w → (k : ℕ → ℕ)
+      → ((j : ℕ) → j < length d.points → Label (point (object d j)) (k j))
       → ((p : Vector) × (q : Vector) × CrossesCurve d (E e) i p q × IsLost d p) ↔ ((lab.above e ≡ 0 → ⊥) × ((j : ℕ) → j < length d.points → lab.above e ≡ k j → ⊥))
   empty_above heavy k points = (
     (λ (p, q, x, y).
@@ -62,7 +65,8 @@ module _ (w : ℤ) (d : Plan) (ps : List Placed) (bays : ℕ → List Bay) (m : 
         (c.0, c.1, x, (lost heavy k points c.0 (lab.above e) x.p_place x.p_off c.3.0).1 u)),
   )
 
-  pub empty_below : pos 0 <ℤ w → (k : ℕ → ℕ) → ((j : ℕ) → j < length d.points → Label (point (object d j)) (k j))
+  pub empty_below : pos 0 <ℤ w → (k : ℕ → ℕ)
+      → ((j : ℕ) → j < length d.points → Label (point (object d j)) (k j))
       → ((p : Vector) × (q : Vector) × CrossesCurve d (E e) i p q × IsLost d q) ↔ ((lab.below e ≡ 0 → ⊥) × ((j : ℕ) → j < length d.points → lab.below e ≡ k j → ⊥))
   empty_below heavy k points = (
     (λ (p, q, x, y).

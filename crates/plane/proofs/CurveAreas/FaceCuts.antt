@@ -1,5 +1,6 @@
 -- In a settled run with face numbers a curve has one face on both sides exactly where the numbers of its two sides are equal.
-use Rattle.std.proofs.Common.{◌≡◌, ◌↔◌, ℕ, ◌<◌, length, List, [], ℤ, inl, inr, refl, sym, ◌∙◌, subst}
+use Rattle.std.proofs.Common.{◌≡◌, ◌↔◌, ℕ, ◌<◌, length, List, [], ℤ, inl, inr, refl, sym, ◌∙◌}
+use Rattle.std.proofs.Common.{subst}
 use Rattle.plane.specs.declared.kinds.CurveKind.TheVariants as kind
 use Rattle.plane.specs.declared.kinds.Placed.{Placed}
 use Rattle.plane.specs.Forms.Vectors.{Edge}
@@ -11,11 +12,13 @@ use Rattle.plane.specs.Faces.Labels.{Labels}
 use Rattle.plane.specs.Faces.Halves.{Half, under, over}
 use Rattle.plane.specs.Faces.Classes.{IsFaces, numbers}
 use Rattle.plane.specs.Tubes.Bays.{Bay}
-use Rattle.plane.specs.CurveRuns.TubedRuns.{whole, owned, IsOfTube, IsTubedRun, AreTubeLabels, half_within}
+use Rattle.plane.specs.CurveRuns.TubedRuns.{whole, owned, IsOfTube, IsTubedRun, AreTubeLabels}
+use Rattle.plane.specs.CurveRuns.TubedRuns.{half_within}
 use Rattle.plane.specs.CurveRuns.Levels.{AreWide, IsSettledRun, beside_inner, beside_outer}
 use Rattle.plane.proofs.Runs.RunWeights.{RunWeight, run_weight}
 use Rattle.plane.proofs.TubedRuns.OwnedEdges.{IsOfStraight, owner_is}
-use Rattle.plane.proofs.CurveAreas.CutCurves.{cut_with, cut_without, straight_equal, arc_equal, straight_is_cut, arc_is_cut}
+use Rattle.plane.proofs.CurveAreas.CutCurves.{cut_with, cut_without, straight_equal, arc_equal}
+use Rattle.plane.proofs.CurveAreas.CutCurves.{straight_is_cut, arc_is_cut}
 use Rattle.plane.proofs.CurveAreas.FaceLabels as as_labels
 
 module _ (d : Plan) (bays : ℕ → List Bay) (m : ℕ) (E : ℕ → Edge) (steps : List Step) (is : IsTubedRun d bays m E steps) (wide : AreWide d bays) (settled : IsSettledRun d bays m E) (v : ℤ) (face : Half → ℕ) (given : IsFaces (replay v m E steps) face) where
@@ -55,7 +58,8 @@ module _ (d : Plan) (bays : ℕ → List Bay) (m : ℕ) (E : ℕ → Edge) (step
     | inr b ↦ absurd (subst IsOfTube part b.part)
   ]
 
-  pub straight_cut_by_faces : (e : ℕ) → e < m → (owned d bays e).part ≡ whole → IsCut d (owned d bays e).curve ↔ (face (over e) ≡ face (under e))
+  pub straight_cut_by_faces : (e : ℕ) → e < m → (owned d bays e).part ≡ whole
+      → IsCut d (owned d bays e).curve ↔ (face (over e) ≡ face (under e))
   straight_cut_by_faces e l part =
       let s = of_straight e l part in
       let i = (owned d bays e).curve in
@@ -68,7 +72,8 @@ module _ (d : Plan) (bays : ℕ → List Bay) (m : ℕ) (E : ℕ → Edge) (step
             (as_labels.forth d bays m E steps is wide settled v face given (over e) (under e) l l k))),
       )
 
-  pub arc_cut_by_faces : (i : ℕ) → i < length d.curves → (curve d i).kind ≡ kind.HalfArc → IsCut d i ↔ (beside_inner d bays E face i ≡ beside_outer d bays E face i)
+  pub arc_cut_by_faces : (i : ℕ) → i < length d.curves → (curve d i).kind ≡ kind.HalfArc
+      → IsCut d i ↔ (beside_inner d bays E face i ≡ beside_outer d bays E face i)
   arc_cut_by_faces i fits bent =
       let a = as_labels.same_inner d bays m E steps is wide settled v face given i in
       let b = as_labels.same_outer d bays m E steps is wide settled v face given i in (

@@ -1,6 +1,7 @@
 -- Any face numbers of a settled run as labels that meet a certificate's rules, as if the drawing had as many points as they need: the numbers stay, but for
 -- the half-edges that face a tube from within.
-use Rattle.std.proofs.Common.{◌≡◌, ◌⊎◌, ℕ, zero, suc, ◌+◌, ◌<◌, ◌≤◌, List, [], ◌∷◌, length, ℤ, pos, inl, inr, refl, arith, ap, sym, ◌∙◌, subst}
+use Rattle.std.proofs.Common.{◌≡◌, ◌⊎◌, ℕ, zero, suc, ◌+◌, ◌<◌, ◌≤◌, List, [], ◌∷◌, length, ℤ, pos}
+use Rattle.std.proofs.Common.{inl, inr, refl, arith, ap, sym, ◌∙◌, subst}
 use Rattle.plane.specs.declared.kinds.Point.{Point}
 use Rattle.plane.specs.declared.kinds.Placed.{Placed}
 use Rattle.plane.specs.Forms.Vectors.{Vector, Place, Edge}
@@ -14,9 +15,11 @@ use Rattle.plane.specs.Faces.Classes.{IsFaces, numbers, face_of}
 use Rattle.plane.specs.Tubes.Bays.{Bay}
 use Rattle.plane.specs.CurveRuns.Extended.{Tubes, InTubeAt, AreTubes, HasLabel}
 use Rattle.plane.proofs.TubePaths.PieceWords.{AreSides}
-use Rattle.plane.specs.CurveRuns.TubedRuns.{owned, IsOfTube, IsTubedRun, AreTubeLabels, tube_label, half_within, first_edge, arc_at, tubes, MeetsArc}
+use Rattle.plane.specs.CurveRuns.TubedRuns.{owned, IsOfTube, IsTubedRun, AreTubeLabels, tube_label}
+use Rattle.plane.specs.CurveRuns.TubedRuns.{half_within, first_edge, arc_at, tubes, MeetsArc}
 use Rattle.plane.specs.CurveRuns.RegionPoints.{HasRegion}
-use Rattle.plane.specs.CurveRuns.Levels.{AreWide, IsSettledRun, AreFacesOfTubes, AreCertificateNumbers, beside_inner, beside_outer}
+use Rattle.plane.specs.CurveRuns.Levels.{AreWide, IsSettledRun, AreFacesOfTubes}
+use Rattle.plane.specs.CurveRuns.Levels.{AreCertificateNumbers, beside_inner, beside_outer}
 use Rattle.plane.specs.CurveRuns.FacedTubes.{faced}
 use Rattle.plane.specs.CurveRuns.FacePlaces.{HasFace, PointHasFace}
 use Rattle.plane.proofs.Strips.OneStrip.{by_last}
@@ -99,7 +102,8 @@ module _ (d : Plan) (bays : ℕ → List Bay) (m : ℕ) (E : ℕ → Edge) (step
   by_faced : (h : Half) → (faced d bays E h ≡ 0) ⊎ ((c : ℕ) × (faced d bays E h ≡ suc c))
   by_faced h = by_number (faced d bays E h) refl
     where
-      by_number : (n : ℕ) → faced d bays E h ≡ n → (faced d bays E h ≡ 0) ⊎ ((c : ℕ) × (faced d bays E h ≡ suc c))
+      by_number : (n : ℕ) → faced d bays E h ≡ n
+          → (faced d bays E h ≡ 0) ⊎ ((c : ℕ) × (faced d bays E h ≡ suc c))
       by_number zero e = inl e
       by_number (suc c) e = inr (c, e)
 
@@ -110,7 +114,8 @@ module _ (d : Plan) (bays : ℕ → List Bay) (m : ℕ) (E : ℕ → Edge) (step
   is_faced h c e = faced_is d bays E h c e
 
   -- what has the number of a half-edge that faces a tube faces it
-  faces_too : (g h : Half) (c : ℕ) → edge_of g < m → edge_of h < m → faced d bays E g ≡ suc c → face g ≡ face h → faced d bays E h ≡ suc c
+  faces_too : (g h : Half) (c : ℕ) → edge_of g < m → edge_of h < m → faced d bays E g ≡ suc c
+      → face g ≡ face h → faced d bays E h ≡ suc c
   faces_too g h c lg lh e q =
       let a = is_faced g c e in
       let o = beside.own (edge_of g) h lg lh a.part (sym (ap face a.is) ∙ q) in
@@ -182,7 +187,8 @@ module _ (d : Plan) (bays : ℕ → List Bay) (m : ℕ) (E : ℕ → Edge) (step
   pub same_outer : (i : ℕ) → beside_outer full bays E num i ≡ beside_outer d bays E face i
   same_outer i = num_plain (twin (half_within d bays E (first_edge bays 0 d.curves i + length (bays i)))) (faced_twin d bays E (first_edge bays 0 d.curves i + length (bays i)))
 
-  pub fine : (g h : Half) → edge_of g < m → edge_of h < m → mark (numbers num) g ≡ mark (numbers num) h → num g ≡ num h
+  pub fine : (g h : Half) → edge_of g < m → edge_of h < m
+      → mark (numbers num) g ≡ mark (numbers num) h → num g ≡ num h
   fine g h lg lh e = sym (number_is num g) ∙ e ∙ number_is num h
 
   pub none : (h : Half) → edge_of h < m → mark (numbers num) h ≡ 0 → num h ≡ 0
@@ -220,7 +226,9 @@ module _ (d : Plan) (bays : ℕ → List Bay) (m : ℕ) (E : ℕ → Edge) (step
     sides = are_sides w full bays m E steps (numbers num) (half_within d bays E) (beside_inner full bays E num) (beside_outer full bays E num) swept full_run labels
 
     -- a cell that faces no tube keeps its number
-    pub cell_number : (c : Sector) → IsSector r c → ((e : ℕ) → AtBefore (r.list c.strip) c.index e → faced d bays E (over e) ≡ 0) → face_of r num c ≡ face_of r face c
+    pub cell_number : (c : Sector) → IsSector r c
+        → ((e : ℕ) → AtBefore (r.list c.strip) c.index e → faced d bays E (over e) ≡ 0)
+        → face_of r num c ≡ face_of r face c
     cell_number c C clear = elim (first_or_edge (r.list c.strip) c.index C.index) [
       | inl z ↦ ap (λ (i : ℕ). label_at (numbers num) 0 i (r.list c.strip)) z ∙ sym (ap (λ (i : ℕ). label_at (numbers face) 0 i (r.list c.strip)) z)
       | inr e ↦ label_before (numbers num) 0 c.index (r.list c.strip) e.0 e.1 ∙ num_plain (over e.0) (clear e.0 e.1) ∙ sym (label_before (numbers face) 0 c.index (r.list c.strip) e.0 e.1)
@@ -233,7 +241,9 @@ module _ (d : Plan) (bays : ℕ → List Bay) (m : ℕ) (E : ℕ → Edge) (step
     ]
 
     -- the cell of a place in no tube faces none
-    clear_cell : (z : Vector) → Place z → ((c : ℕ) → c < T.count → InTubeAt T c z → ⊥) → IsOffEdges r z → (e : ℕ) → AtBefore (r.list (sector r z).strip) (sector r z).index e → faced d bays E (over e) ≡ 0
+    clear_cell : (z : Vector) → Place z → ((c : ℕ) → c < T.count → InTubeAt T c z → ⊥)
+        → IsOffEdges r z → (e : ℕ) → AtBefore (r.list (sector r z).strip) (sector r z).index e
+        → faced d bays E (over e) ≡ 0
     clear_cell z Z out off e b = elim (by_faced (over e)) [
       | inl a ↦ a
       | inr a ↦
@@ -250,16 +260,19 @@ module _ (d : Plan) (bays : ℕ → List Bay) (m : ℕ) (E : ℕ → Edge) (step
     ]
 
     -- ---- places
-    pub relabel : (z : Vector) (n : ℕ) → Place z → HasFace d bays r face z n → HasLabel r (numbers num) T z n
+    pub relabel : (z : Vector) (n : ℕ) → Place z → HasFace d bays r face z n
+        → HasLabel r (numbers num) T z n
     relabel z n Z (inl h) = inl (h.0, h.1, h.2, elim h.3 [ inl a ↦ inl (a.0, a.1 ∙ sym (same_inner (arc_at d h.0))) | inr a ↦ inr (a.0, a.1 ∙ sym (same_outer (arc_at d h.0))) ])
     relabel z n Z (inr h) = inr (h.0, h.1, h.2 ∙ sym (cell_number (sector r z) (cell_is r whole.run whole.law z Z) (clear_cell z Z h.0 h.1)))
 
-    pub relabel_back : (z : Vector) (n : ℕ) → Place z → HasLabel r (numbers num) T z n → HasFace d bays r face z n
+    pub relabel_back : (z : Vector) (n : ℕ) → Place z → HasLabel r (numbers num) T z n
+        → HasFace d bays r face z n
     relabel_back z n Z (inl h) = inl (h.0, h.1, h.2, elim h.3 [ inl a ↦ inl (a.0, a.1 ∙ same_inner (arc_at d h.0)) | inr a ↦ inr (a.0, a.1 ∙ same_outer (arc_at d h.0)) ])
     relabel_back z n Z (inr h) = inr (h.0, h.1, h.2 ∙ cell_number (sector r z) (cell_is r whole.run whole.law z Z) (clear_cell z Z h.0 h.1))
 
     -- ---- points, by positions with any weight in the replay
-    pub region : (u : ℤ) (a : Point) (n : ℕ) → PointHasFace d bays (replay u m E steps) face a n → HasRegion full bays r (numbers num) (beside_inner full bays E num) (beside_outer full bays E num) a n
+    pub region : (u : ℤ) (a : Point) (n : ℕ) → PointHasFace d bays (replay u m E steps) face a n
+        → HasRegion full bays r (numbers num) (beside_inner full bays E num) (beside_outer full bays E num) a n
     region u a n (inl h) =
         let at_w = located_to u w m E steps a h.strip h.index h.located in
         let C : IsSector r (record { strip = h.strip; index = h.index }) = record { strip = at_w.fits; index = at_w.index } in

@@ -1,5 +1,6 @@
 -- In a settled run with face numbers: what they tell of places, of points, of the ends of crossing segments and of empty sides.
-use Rattle.std.proofs.Common.{◌≡◌, ◌↔◌, ℕ, ◌<◌, length, List, [], ℤ, pos, ◌<ℤ◌, inl, inr, sym, ◌∙◌, subst}
+use Rattle.std.proofs.Common.{◌≡◌, ◌↔◌, ℕ, ◌<◌, length, List, [], ℤ, pos, ◌<ℤ◌, inl, inr, sym, ◌∙◌}
+use Rattle.std.proofs.Common.{subst}
 use Rattle.plane.specs.declared.kinds.Point.{Point}
 use Rattle.plane.specs.declared.kinds.Placed.{Placed}
 use Rattle.plane.specs.declared.kinds.CurveKind.TheVariants as kind
@@ -15,7 +16,8 @@ use Rattle.plane.specs.Faces.Halves.{Half, under, over, edge_of, mark}
 use Rattle.plane.specs.Faces.Classes.{IsFaces, numbers}
 use Rattle.plane.specs.Tubes.Bays.{Bay}
 use Rattle.plane.specs.CurveRuns.Extended.{HasLabel}
-use Rattle.plane.specs.CurveRuns.TubedRuns.{whole, owned, IsOfTube, IsTubedRun, AreTubeLabels, half_within, tubes}
+use Rattle.plane.specs.CurveRuns.TubedRuns.{whole, owned, IsOfTube, IsTubedRun, AreTubeLabels}
+use Rattle.plane.specs.CurveRuns.TubedRuns.{half_within, tubes}
 use Rattle.plane.specs.CurveRuns.RegionPoints.{HasRegion}
 use Rattle.plane.specs.CurveRuns.Levels.{AreWide, IsSettledRun, beside_inner, beside_outer}
 use Rattle.plane.specs.CurveRuns.FacePlaces.{HasFace, PointHasFace}
@@ -24,8 +26,10 @@ use Rattle.plane.proofs.Runs.RunWeights.{RunWeight, points_of, points_has, run_w
 use Rattle.plane.proofs.TubedRuns.OwnedEdges.{IsOfStraight, owner_is}
 use Rattle.plane.proofs.TubedRuns.FacedTubes.{faced_whole}
 use Rattle.plane.proofs.TubedRuns.TubedLabels.{off_label}
-use Rattle.plane.proofs.CurveAreas.TubedFaces.{joined_is_label, outer_is_label, joined_with, joined_without, outer_with, outer_without}
-use Rattle.plane.proofs.CurveAreas.RegionPoints.{region_label, point_off, points_joined, point_outer}
+use Rattle.plane.proofs.CurveAreas.TubedFaces.{joined_is_label, outer_is_label, joined_with}
+use Rattle.plane.proofs.CurveAreas.TubedFaces.{joined_without, outer_with, outer_without}
+use Rattle.plane.proofs.CurveAreas.RegionPoints.{region_label, point_off, points_joined}
+use Rattle.plane.proofs.CurveAreas.RegionPoints.{point_outer}
 use Rattle.plane.proofs.CurveAreas.ArcSideLabels.{inner_end, outer_end}
 use Rattle.plane.proofs.CurveAreas.StraightCrossings.{above_label, below_label}
 use Rattle.plane.proofs.CurveAreas.EmptyHalfArcs as arcs
@@ -102,22 +106,26 @@ module _ (d : Plan) (bays : ℕ → List Bay) (m : ℕ) (E : ℕ → Edge) (step
     pub place_numbered : (z : Vector) → Place z → IsOff d z → (n : ℕ) × Face z n
     place_numbered z Z off = let k = off_label w full bays m E steps lab within inside outside swept full_run L z Z off in (k.0, to_face z k.0 Z k.1)
 
-    pub places_joined : (p q : Vector) (l k : ℕ) → Place p → Place q → IsOff d p → Face p l → Face q k → Joined d p q ↔ (l ≡ k)
+    pub places_joined : (p q : Vector) (l k : ℕ) → Place p → Place q → IsOff d p → Face p l
+        → Face q k → Joined d p q ↔ (l ≡ k)
     places_joined p q l k P Q off hp hq =
         let b = joined_is_label w full bays m E steps lab within inside outside swept full_run L num faces fine none p q l k P Q off (to_label p l P hp) (to_label q k Q hq) in
         ((λ j. b.0 (joined_without d extra p q j)), (λ e. joined_with d extra p q (b.1 e)))
 
-    pub place_outer : pos 0 <ℤ w → (p : Vector) (l : ℕ) → Place p → IsOff d p → Face p l → IsOuter d p ↔ (l ≡ 0)
+    pub place_outer : pos 0 <ℤ w → (p : Vector) (l : ℕ) → Place p → IsOff d p → Face p l
+        → IsOuter d p ↔ (l ≡ 0)
     place_outer heavy p l P off hp =
         let b = outer_is_label w full bays m E steps lab within inside outside swept full_run L num faces fine none heavy p l P off (to_label p l P hp) in
         ((λ o. b.0 (outer_without d extra p o)), (λ e. outer_with d extra p (b.1 e)))
 
     -- ---- the ends of crossing segments
-    pub inner_number : (i : ℕ) → i < length d.curves → (curve d i).kind ≡ kind.HalfArc → (p q : Vector) → CrossesHalfArc d i p q → Face p (beside_inner d bays E face i)
+    pub inner_number : (i : ℕ) → i < length d.curves → (curve d i).kind ≡ kind.HalfArc
+        → (p q : Vector) → CrossesHalfArc d i p q → Face p (beside_inner d bays E face i)
     inner_number i l bent p q x = to_face p (beside_inner d bays E face i) x.p_place
         (subst (λ (n : ℕ). Label p n) (same_inner i) (inner_end w full bays m E steps lab within inside outside swept full_run L i l bent p q (arcs.crosses_without d extra i p q x)))
 
-    pub outer_number : (i : ℕ) → i < length d.curves → (curve d i).kind ≡ kind.HalfArc → (p q : Vector) → CrossesHalfArc d i p q → Face q (beside_outer d bays E face i)
+    pub outer_number : (i : ℕ) → i < length d.curves → (curve d i).kind ≡ kind.HalfArc
+        → (p q : Vector) → CrossesHalfArc d i p q → Face q (beside_outer d bays E face i)
     outer_number i l bent p q x = to_face q (beside_outer d bays E face i) x.q_place
         (subst (λ (n : ℕ). Label q n) (same_outer i) (outer_end w full bays m E steps lab within inside outside swept full_run L i l bent p q (arcs.crosses_without d extra i p q x)))
 
@@ -145,25 +153,30 @@ module _ (d : Plan) (bays : ℕ → List Bay) (m : ℕ) (E : ℕ → Edge) (step
     abbrev u : RunWeight m E steps more
     u = run_weight m E steps more is.run
 
-    region : (a : Point) (n : ℕ) → PointHasFace d bays (replay v m E steps) face a n → HasRegion full bays (replay u.weight m E steps) lab inside outside a n
+    region : (a : Point) (n : ℕ) → PointHasFace d bays (replay v m E steps) face a n
+        → HasRegion full bays (replay u.weight m E steps) lab inside outside a n
     region a n h = as_labels.region d bays m E steps is wide settled v face given u.weight u.swept v a n h
 
-    point_label : (a : Point) (n : ℕ) → Has a more → PointHasFace d bays (replay v m E steps) face a n → Label u.weight u.swept (point a) n
+    point_label : (a : Point) (n : ℕ) → Has a more
+        → PointHasFace d bays (replay v m E steps) face a n → Label u.weight u.swept (point a) n
     point_label a n k h = region_label u.weight full bays m E steps lab within inside outside u.swept full_run (L u.weight u.swept) u.points a n u.heavy (u.known a k) (event_known m E steps more u) (region a n h)
 
   -- with some weight of the run
   abbrev W : RunWeight m E steps []
   W = u []
 
-  pub off_point : (a : Point) (n : ℕ) → PointHasFace d bays (replay v m E steps) face a n → IsOff d (point a)
+  pub off_point : (a : Point) (n : ℕ) → PointHasFace d bays (replay v m E steps) face a n
+      → IsOff d (point a)
   off_point a n h = point_off W.weight full bays m E steps lab within inside outside full_run (L W.weight W.swept) num (faces W.weight W.swept) fine none a n (region [] a n h)
 
-  pub joined_points : (a b : Point) (l k : ℕ) → PointHasFace d bays (replay v m E steps) face a l → PointHasFace d bays (replay v m E steps) face b k → Joined d (point a) (point b) ↔ (l ≡ k)
+  pub joined_points : (a b : Point) (l k : ℕ) → PointHasFace d bays (replay v m E steps) face a l
+      → PointHasFace d bays (replay v m E steps) face b k → Joined d (point a) (point b) ↔ (l ≡ k)
   joined_points a b l k ha hb =
       let j = points_joined W.weight full bays m E steps lab within inside outside full_run (L W.weight W.swept) num (faces W.weight W.swept) fine none a b l k (region [] a l ha) (region [] b k hb) in
       ((λ p. j.0 (joined_without d extra (point a) (point b) p)), (λ e. joined_with d extra (point a) (point b) (j.1 e)))
 
-  pub outer_point : (a : Point) (l : ℕ) → PointHasFace d bays (replay v m E steps) face a l → IsOuter d (point a) ↔ (l ≡ 0)
+  pub outer_point : (a : Point) (l : ℕ) → PointHasFace d bays (replay v m E steps) face a l
+      → IsOuter d (point a) ↔ (l ≡ 0)
   outer_point a l ha =
       let j = point_outer W.weight full bays m E steps lab within inside outside full_run (L W.weight W.swept) num (faces W.weight W.swept) fine none a l (region [] a l ha) in
       ((λ o. j.0 (outer_without d extra (point a) o)), (λ e. outer_with d extra (point a) (j.1 e)))
@@ -185,11 +198,13 @@ module _ (d : Plan) (bays : ℕ → List Bay) (m : ℕ) (E : ℕ → Edge) (step
     told : {A : Type 0} (a b : ℕ) → a ≡ b → A ↔ IsUnnamed d k a → A ↔ IsUnnamed d k b
     told a b e t = ((λ x. renamed a b e (t.0 x)), (λ n. t.1 (renamed b a (sym e) n)))
 
-    pub inside_empty : (i : ℕ) → i < length d.curves → (curve d i).kind ≡ kind.HalfArc → ((p : Vector) × (q : Vector) × CrossesHalfArc d i p q × IsLost d p) ↔ IsUnnamed d k (beside_inner d bays E face i)
+    pub inside_empty : (i : ℕ) → i < length d.curves → (curve d i).kind ≡ kind.HalfArc
+        → ((p : Vector) × (q : Vector) × CrossesHalfArc d i p q × IsLost d p) ↔ IsUnnamed d k (beside_inner d bays E face i)
     inside_empty i l bent = told (inside i) (beside_inner d bays E face i) (same_inner i)
         (arcs.empty_inside R.weight d extra bays m E steps lab within inside outside R.swept full_run (L R.weight R.swept) num (faces R.weight R.swept) fine none i l bent R.positive k labelled)
 
-    pub outside_empty : (i : ℕ) → i < length d.curves → (curve d i).kind ≡ kind.HalfArc → ((p : Vector) × (q : Vector) × CrossesHalfArc d i p q × IsLost d q) ↔ IsUnnamed d k (beside_outer d bays E face i)
+    pub outside_empty : (i : ℕ) → i < length d.curves → (curve d i).kind ≡ kind.HalfArc
+        → ((p : Vector) × (q : Vector) × CrossesHalfArc d i p q × IsLost d q) ↔ IsUnnamed d k (beside_outer d bays E face i)
     outside_empty i l bent = told (outside i) (beside_outer d bays E face i) (same_outer i)
         (arcs.empty_outside R.weight d extra bays m E steps lab within inside outside R.swept full_run (L R.weight R.swept) num (faces R.weight R.swept) fine none i l bent R.positive k labelled)
 

@@ -1,6 +1,7 @@
 -- Points of a drawing with half arcs, by their labels: joined where the labels are equal, outer where the label is 0; and places that
 -- belong to no point.
-use Rattle.std.proofs.Common.{◌≡◌, ◌↔◌, ℕ, suc, ◌+◌, ◌<◌, ◌≤◌, length, List, [], ◌∷◌, ℤ, pos, ◌<ℤ◌, inl, inr, refl, arith, ap, sym, ◌∙◌, subst}
+use Rattle.std.proofs.Common.{◌≡◌, ◌↔◌, ℕ, suc, ◌+◌, ◌<◌, ◌≤◌, length, List, [], ◌∷◌, ℤ, pos, ◌<ℤ◌}
+use Rattle.std.proofs.Common.{inl, inr, refl, arith, ap, sym, ◌∙◌, subst}
 use Rattle.plane.specs.declared.kinds.Point.{Point}
 use Rattle.plane.specs.declared.kinds.Placed.{Placed}
 use Rattle.plane.specs.Lists.{Has}
@@ -34,7 +35,8 @@ use Rattle.plane.proofs.TubedRuns.TubedCurves.{tube_of}
 use Rattle.plane.proofs.TubedRuns.TubedWeights.{labels_to}
 use Rattle.plane.proofs.TubePaths.TubedSides.{are_sides}
 use Rattle.plane.proofs.TubedRuns.TubedOff.{label_off}
-use Rattle.plane.proofs.CurveAreas.TubedFaces.{joined_is_label, outer_is_label, joined_with, joined_without, outer_with, outer_without}
+use Rattle.plane.proofs.CurveAreas.TubedFaces.{joined_is_label, outer_is_label, joined_with}
+use Rattle.plane.proofs.CurveAreas.TubedFaces.{joined_without, outer_with, outer_without}
 use Rattle.plane.proofs.TubePaths.WaysOut.{tube_label_of}
 
 -- ---- with a weight of the events and of the point
@@ -58,7 +60,9 @@ module _ (w : ℤ) (d : Plan) (bays : ℕ → List Bay) (m : ℕ) (E : ℕ → E
   too_great : (n i l : ℕ) → suc (n + i) ≡ l → l ≤ n → ⊥
   too_great n i l e k = omega (arith, e, k)
 
-  of_region : (pts : List Point) (v : Point) (l : ℕ) → Weight w pts → Has v pts → ((j : ℕ) → j < r.steps → Has (r.step j).at pts) → IsInRegion d r lab v l → HasLabel r lab T (point v) l
+  of_region : (pts : List Point) (v : Point) (l : ℕ) → Weight w pts → Has v pts
+      → ((j : ℕ) → j < r.steps → Has (r.step j).at pts) → IsInRegion d r lab v l
+      → HasLabel r lab T (point v) l
   of_region pts v l heavy known events p =
       let q = located_point r whole.run whole.law pts v p.strip p.index heavy known events p.located in
       let e : label_of lab r (sector r (point v)) ≡ l = ap (label_of lab r) q.1 ∙ p.label in
@@ -78,7 +82,9 @@ module _ (w : ℤ) (d : Plan) (bays : ℕ → List Bay) (m : ℕ) (E : ℕ → E
         ],
       )
 
-  pub region_label : (pts : List Point) (v : Point) (l : ℕ) → Weight w pts → Has v pts → ((j : ℕ) → j < r.steps → Has (r.step j).at pts) → HasRegion d bays r lab inside outside v l → HasLabel r lab T (point v) l
+  pub region_label : (pts : List Point) (v : Point) (l : ℕ) → Weight w pts → Has v pts
+      → ((j : ℕ) → j < r.steps → Has (r.step j).at pts) → HasRegion d bays r lab inside outside v l
+      → HasLabel r lab T (point v) l
   region_label pts v l heavy known events (inl p) = of_region pts v l heavy known events p
   region_label pts v l heavy known events (inr p) = of_tube v l p
 
@@ -86,7 +92,9 @@ module _ (w : ℤ) (d : Plan) (bays : ℕ → List Bay) (m : ℕ) (E : ℕ → E
 module _ (v : ℤ) (d : Plan) (bays : ℕ → List Bay) (m : ℕ) (E : ℕ → Edge) (steps : List Step) (lab : Labels) (within : ℕ → Half) (inside outside : ℕ → ℕ)
     (is : IsTubedRun d bays m E steps) (L : AreTubeLabels d bays (replay v m E steps) lab within inside outside) (face : Half → ℕ) (faces : IsFaces (replay v m E steps) face)
     (fine : (g h : Half) → edge_of g < m → edge_of h < m → mark lab g ≡ mark lab h → face g ≡ face h) (none : (h : Half) → edge_of h < m → mark lab h ≡ 0 → face h ≡ 0) where
-  region_to : (w : ℤ) (p : Point) (l : ℕ) → HasRegion d bays (replay v m E steps) lab inside outside p l → HasRegion d bays (replay w m E steps) lab inside outside p l
+  region_to : (w : ℤ) (p : Point) (l : ℕ)
+      → HasRegion d bays (replay v m E steps) lab inside outside p l
+      → HasRegion d bays (replay w m E steps) lab inside outside p l
   region_to w p l (inl c) = inl (record { strip = c.strip; index = c.index; located = located_to v w m E steps p c.strip c.index c.located; label = c.label; region = c.region })
   region_to w p l (inr c) = inr c
 
@@ -100,25 +108,38 @@ module _ (v : ℤ) (d : Plan) (bays : ℕ → List Bay) (m : ℕ) (E : ℕ → E
     pub there : IsFaces (replay u.weight m E steps) face
     there = faces_to v u.weight m E steps face faces
 
-    pub label : (p : Point) (l : ℕ) → Has p more → HasRegion d bays (replay v m E steps) lab inside outside p l → HasLabel (replay u.weight m E steps) lab (tubes d bays within inside outside) (point p) l
+    pub label : (p : Point) (l : ℕ) → Has p more
+        → HasRegion d bays (replay v m E steps) lab inside outside p l
+        → HasLabel (replay u.weight m E steps) lab (tubes d bays within inside outside) (point p) l
     label p l k h = region_label u.weight d bays m E steps lab within inside outside u.swept is here u.points p l u.heavy (u.known p k) (event_known m E steps more u) (region_to u.weight p l h)
 
-    off : (p : Point) (l : ℕ) → Has p more → HasRegion d bays (replay v m E steps) lab inside outside p l → IsOff d (point p)
+    off : (p : Point) (l : ℕ) → Has p more
+        → HasRegion d bays (replay v m E steps) lab inside outside p l → IsOff d (point p)
     off p l k h = label_off u.weight d bays m E steps lab within inside outside u.swept is here (point p) (place_point p) l (label p l k h)
 
-    joined_by : (p q : Point) (l k : ℕ) → Has p more → Has q more → HasRegion d bays (replay v m E steps) lab inside outside p l → HasRegion d bays (replay v m E steps) lab inside outside q k → Joined d (point p) (point q) ↔ (l ≡ k)
+    joined_by : (p q : Point) (l k : ℕ) → Has p more → Has q more
+        → HasRegion d bays (replay v m E steps) lab inside outside p l
+        → HasRegion d bays (replay v m E steps) lab inside outside q k
+        → Joined d (point p) (point q) ↔ (l ≡ k)
     joined_by p q l k hp hq a b = joined_is_label u.weight d bays m E steps lab within inside outside u.swept is here face there fine none (point p) (point q) l k (place_point p) (place_point q) (off p l hp a) (label p l hp a) (label q k hq b)
 
-    outer_by : (p : Point) (l : ℕ) → Has p more → HasRegion d bays (replay v m E steps) lab inside outside p l → IsOuter d (point p) ↔ (l ≡ 0)
+    outer_by : (p : Point) (l : ℕ) → Has p more
+        → HasRegion d bays (replay v m E steps) lab inside outside p l
+        → IsOuter d (point p) ↔ (l ≡ 0)
     outer_by p l hp a = outer_is_label u.weight d bays m E steps lab within inside outside u.swept is here face there fine none u.positive (point p) l (place_point p) (off p l hp a) (label p l hp a)
 
-  pub point_off : (p : Point) (l : ℕ) → HasRegion d bays (replay v m E steps) lab inside outside p l → IsOff d (point p)
+  pub point_off : (p : Point) (l : ℕ) → HasRegion d bays (replay v m E steps) lab inside outside p l
+      → IsOff d (point p)
   point_off p l a = off (p ∷ []) p l (inl refl) a
 
-  pub points_joined : (p q : Point) (l k : ℕ) → HasRegion d bays (replay v m E steps) lab inside outside p l → HasRegion d bays (replay v m E steps) lab inside outside q k → Joined d (point p) (point q) ↔ (l ≡ k)
+  pub points_joined : (p q : Point) (l k : ℕ)
+      → HasRegion d bays (replay v m E steps) lab inside outside p l
+      → HasRegion d bays (replay v m E steps) lab inside outside q k
+      → Joined d (point p) (point q) ↔ (l ≡ k)
   points_joined p q l k a b = joined_by (p ∷ q ∷ []) p q l k (inl refl) (inr (inl refl)) a b
 
-  pub point_outer : (p : Point) (l : ℕ) → HasRegion d bays (replay v m E steps) lab inside outside p l → IsOuter d (point p) ↔ (l ≡ 0)
+  pub point_outer : (p : Point) (l : ℕ)
+      → HasRegion d bays (replay v m E steps) lab inside outside p l → IsOuter d (point p) ↔ (l ≡ 0)
   point_outer p l a = outer_by (p ∷ []) p l (inl refl) a
 
 -- ---- places that belong to no point, with labels numbered as if the drawing had the points ps
@@ -131,7 +152,8 @@ module _ (w : ℤ) (d : Plan) (ps : List Placed) (bays : ℕ → List Bay) (m : 
   abbrev Label : Vector → ℕ → Type 0
   Label z l = HasLabel (replay w m E steps) lab (tubes wide bays within inside outside) z l
 
-  pub lost_is : pos 0 <ℤ w → (z : Vector) (l : ℕ) (k : ℕ → ℕ) → Place z → IsOff d z → Label z l → ((j : ℕ) → j < length d.points → Label (point (object d j)) (k j))
+  pub lost_is : pos 0 <ℤ w → (z : Vector) (l : ℕ) (k : ℕ → ℕ) → Place z → IsOff d z → Label z l
+      → ((j : ℕ) → j < length d.points → Label (point (object d j)) (k j))
       → IsLost d z ↔ ((l ≡ 0 → ⊥) × ((j : ℕ) → j < length d.points → l ≡ k j → ⊥))
   lost_is heavy z l k Z free h points = (
     (λ lost. (

@@ -10,7 +10,8 @@ use Rattle.plane.specs.Faces.Classes.{Across, Lead, IsFaces, numbers}
 use Rattle.plane.specs.Faces.Certified.{FoundLead}
 use Rattle.plane.specs.Tubes.Bays.{Bay}
 use Rattle.plane.specs.CurveRuns.TubedRuns.{IsTubedRun, AreTubeLabels, half_within}
-use Rattle.plane.specs.CurveRuns.Levels.{AreWide, IsSettledRun, AreCertificateNumbers, beside_inner, beside_outer}
+use Rattle.plane.specs.CurveRuns.Levels.{AreWide, IsSettledRun, AreCertificateNumbers, beside_inner}
+use Rattle.plane.specs.CurveRuns.Levels.{beside_outer}
 use Rattle.plane.specs.CurveRuns.CertifiedCurves.{ArePlaced, IsCurveRoot, CertifiedCurves}
 use Rattle.plane.proofs.Runs.RunWeights.{run_weight}
 use Rattle.plane.proofs.Turning.AnyWeight.{faces_to}
@@ -48,8 +49,13 @@ module _ (w : ℤ) (d : Plan) (bays : ℕ → List Bay) (m : ℕ) (E : ℕ → E
   none h lh e = sym (number_is face h) ∙ e
 
   module _ (placed : ArePlaced d bays r lab inside outside) where
-    pub reached : (Reached : Half → Type 0) → ((h : Half) → edge_of h < m → IsCurveRoot d bays r lab within inside outside h → Reached h) → ((g h : Half) → Reached g → Across r h g → Reached h) → (h : Half) → edge_of h < m → Reached h
+    pub reached : (Reached : Half → Type 0)
+        → ((h : Half) → edge_of h < m → IsCurveRoot d bays r lab within inside outside h → Reached h)
+        → ((g h : Half) → Reached g → Across r h g → Reached h) → (h : Half) → edge_of h < m
+        → Reached h
     reached Reached roots closed = run_reached d bays m E steps lab within inside outside is w L placed face faces fine none Reached roots closed
 
-    pub certified : (rank : Half → ℕ) (link : Half → Lead) → ((h : Half) → edge_of h < m → FoundLead r rank (IsCurveRoot d bays r lab within inside outside) h (link h)) → CertifiedCurves d bays r lab within inside outside rank link
+    pub certified : (rank : Half → ℕ) (link : Half → Lead)
+        → ((h : Half) → edge_of h < m → FoundLead r rank (IsCurveRoot d bays r lab within inside outside) h (link h))
+        → CertifiedCurves d bays r lab within inside outside rank link
     certified rank link found = run_certified d bays m E steps lab within inside outside is w L placed face faces fine none rank link found

@@ -1,9 +1,11 @@
 -- In a drawing with half arcs every segment that crosses a straight and hits no other curve tells the labels of the straight's two sides.
-use Rattle.std.proofs.Common.{◌≡◌, ℕ, suc, ◌+◌, ◌<◌, ◌≤◌, List, length, ℤ, pos, ◌+ℤ◌, ◌*ℤ◌, ◌<ℤ◌, ◌≤ℤ◌, [], ◌∷◌, inl, inr, refl, arith, ap, sym, ◌∙◌, subst}
+use Rattle.std.proofs.Common.{◌≡◌, ℕ, suc, ◌+◌, ◌<◌, ◌≤◌, List, length, ℤ, pos, ◌+ℤ◌, ◌*ℤ◌, ◌<ℤ◌}
+use Rattle.std.proofs.Common.{◌≤ℤ◌, [], ◌∷◌, inl, inr, refl, arith, ap, sym, ◌∙◌, subst}
 use Rattle.std.proofs.lemmas.Int.{ints}
 use Rattle.plane.specs.declared.kinds.CurveKind.TheVariants as kind
 use Rattle.plane.specs.Lists.{Has}
-use Rattle.plane.specs.Forms.Vectors.{Vector, Place, Between, mix, point, Edge, side, sweep, rise, On, HitsEdge}
+use Rattle.plane.specs.Forms.Vectors.{Vector, Place, Between, mix, point, Edge, side, sweep, rise}
+use Rattle.plane.specs.Forms.Vectors.{On, HitsEdge}
 use Rattle.plane.specs.Rule.Curves.{arc, HitsKind}
 use Rattle.plane.specs.Rule.Plans.{Plan, curve}
 use Rattle.plane.specs.Rule.CrossedCurves.{CrossesCurve}
@@ -16,7 +18,8 @@ use Rattle.plane.proofs.FaceLemmas.EdgeCrossings.{IsCrossing}
 use Rattle.plane.specs.Tubes.Bays.{Bay}
 use Rattle.plane.specs.CurveRuns.Extended.{Tubes, AreTubes, HasLabel, IsOnWay, IsFreeOfCurves}
 use Rattle.plane.proofs.TubePaths.PieceWords.{AreSides}
-use Rattle.plane.specs.CurveRuns.TubedRuns.{whole, owned, IsOfTube, IsTubedRun, AreTubeLabels, arc_at, tubes, MeetsArc}
+use Rattle.plane.specs.CurveRuns.TubedRuns.{whole, owned, IsOfTube, IsTubedRun, AreTubeLabels}
+use Rattle.plane.specs.CurveRuns.TubedRuns.{arc_at, tubes, MeetsArc}
 use Rattle.plane.proofs.Linear.EdgePlaces.{side-turn}
 use Rattle.plane.specs.declared.kinds.Point.{Point}
 use Rattle.plane.proofs.Linear.Vectors.{side-mix, rise-is}
@@ -48,7 +51,8 @@ use Rattle.plane.proofs.Algebra.Ring.{Expr, at, num, plus, times, vars, ring}
 use Rattle.plane.proofs.Covers.CurvePlaces.{no_kind}
 
 -- two edges that run against each other do not both rise
-against : (w : ℤ) (a b : Edge) → a.low ≡ b.high → a.high ≡ b.low → pos 0 <ℤ rise w a → pos 0 <ℤ rise w b → ⊥
+against : (w : ℤ) (a b : Edge) → a.low ≡ b.high → a.high ≡ b.low → pos 0 <ℤ rise w a
+    → pos 0 <ℤ rise w b → ⊥
 against w a b e f x y =
     let p = rise-is w a in
     let q = rise-is w b in
@@ -127,7 +131,8 @@ module _ (w : ℤ) (d : Plan) (bays : ℕ → List Bay) (m : ℕ) (E : ℕ → E
         same_edge (inr a) (inl b) = absurd (against w (E f) (E e) (a.0 ∙ sym b.1) (a.1 ∙ sym b.0) (swept.rises f lf) (swept.rises e le))
 
     -- an edge with a place of the segment is that of curve i or a tube's
-    own_or_tube : (z : Vector) → IsOnWay p q z → (f : ℕ) → f < m → (f ≡ e → ⊥) → On w (E f) z → (c : ℕ) × (c < T.count) × (h : Half) × Has h (T.halves c) × (edge_of h ≡ f)
+    own_or_tube : (z : Vector) → IsOnWay p q z → (f : ℕ) → f < m → (f ≡ e → ⊥) → On w (E f) z
+        → (c : ℕ) × (c < T.count) × (h : Half) × Has h (T.halves c) × (edge_of h ≡ f)
     own_or_tube z k f lf n on = elim (owner_is d bays m E steps is f lf) [
       | inl s ↦ elim (decide_number s.index i) [
         | inl j ↦ absurd (n (one_edge f lf (subst (λ (y : ℕ). IsEdgeOf (E f) (curve d y)) j s.edge)))
@@ -140,7 +145,8 @@ module _ (w : ℤ) (d : Plan) (bays : ℕ → List Bay) (m : ℕ) (E : ℕ → E
     ]
 
     -- no part of the segment hits a half arc
-    no_arc : (c : ℕ) → c < T.count → (u v : Vector) → IsOnWay p q u → IsOnWay p q v → MeetsArc d c u v → ⊥
+    no_arc : (c : ℕ) → c < T.count → (u v : Vector) → IsOnWay p q u → IsOnWay p q v
+        → MeetsArc d c u v → ⊥
     no_arc c lc u v a b hit =
         let bent = arc_bent w d bays m E steps lab within inside outside swept is L c lc in
         cross.clear (arc_at d c) (arc_fits w d bays m E steps lab within inside outside swept is L c lc) (λ k. no_kind (curve d i).kind straight (subst (λ (y : ℕ). (curve d y).kind ≡ kind.HalfArc) k bent))
@@ -211,7 +217,8 @@ module _ (w : ℤ) (d : Plan) (bays : ℕ → List Bay) (m : ℕ) (E : ℕ → E
       clear = λ f lf n hit. missed.2 missed.0 (omega (arith, ints)) f lf n hit;
     }
       where
-        off_at : (o : Vector) → Place o → (f : ℕ) → f < m → On w (E f) (close o) → (side (E e) (close o) ≡ pos 0 → ⊥) → Between (close o) (close p) (close q) → ⊥
+        off_at : (o : Vector) → Place o → (f : ℕ) → f < m → On w (E f) (close o)
+            → (side (E e) (close o) ≡ pos 0 → ⊥) → Between (close o) (close p) (close q) → ⊥
         off_at o O f lf on n b = elim (decide_number f e) [
           | inl k ↦ n (subst (λ (y : ℕ). On w (E y) (close o)) k on).line
           | inr k ↦ missed.2 missed.0 (omega (arith, ints)) f lf k (record { z = close o; place = C o O; between = b; on = on })
@@ -221,7 +228,8 @@ module _ (w : ℤ) (d : Plan) (bays : ℕ → List Bay) (m : ℕ) (E : ℕ → E
     told = crossing_tells r run.run run.law e (close p) (close q) le crossing
 
     -- from an end of the segment to near the straight no curve is hit
-    end_free : (o : Vector) → Place o → IsOnWay p q o → (side (E e) o ≡ pos 0 → ⊥) → IsFreeOfCurves r T (MeetsArc d) o (close o)
+    end_free : (o : Vector) → Place o → IsOnWay p q o → (side (E e) o ≡ pos 0 → ⊥)
+        → IsFreeOfCurves r T (MeetsArc d) o (close o)
     end_free o O k n = record {
       straights = λ v a f lf on. elim (decide_number f e) [
         | inl x ↦ absurd (not_on v a (subst (λ (y : ℕ). On w (E y) v) x on))
@@ -238,7 +246,9 @@ module _ (w : ℤ) (d : Plan) (bays : ℕ → List Bay) (m : ℕ) (E : ℕ → E
             let line = on.line in
             n (cancel_zero (a.s +ℤ a.t) (side (E e) o) a.some (omega (arith, ints, x, y, z, line)))
 
-    told_label : (h : Half) (c : Sector) → IsSector r c → (o : Vector) → Place o → IsOffEdges r (close o) → Linked r (sector r (close o)) c → Beside r h c → mark lab h ≤ length d.points → HasLabel r lab T (close o) (mark lab h)
+    told_label : (h : Half) (c : Sector) → IsSector r c → (o : Vector) → Place o
+        → IsOffEdges r (close o) → Linked r (sector r (close o)) c → Beside r h c
+        → mark lab h ≤ length d.points → HasLabel r lab T (close o) (mark lab h)
     told_label h c K o O off linked beside most =
         let e : label_of lab r (sector r (close o)) ≡ mark lab h = linked_label r run.run run.law lab L.matched (sector r (close o)) c linked ∙ cell_label r run lab L.matched T (MeetsArc d) all sides h c K beside in
         inr ((λ t lt k. too_great (length d.points) (arc_at d t) (mark lab h) (sym (tube_label_of r run lab L.matched T (MeetsArc d) all sides t lt (close o) (C o O) off k) ∙ e) most), off, sym e)

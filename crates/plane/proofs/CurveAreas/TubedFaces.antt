@@ -59,7 +59,8 @@ module _ (w : ℤ) (d : Plan) (bays : ℕ → List Bay) (m : ℕ) (E : ℕ → E
   ]
 
   -- cells with one label are linked
-  one_cell : (c e : Sector) → IsSector r c → IsSector r e → label_of lab r c ≡ label_of lab r e → Linked r c e
+  one_cell : (c e : Sector) → IsSector r c → IsSector r e → label_of lab r c ≡ label_of lab r e
+      → Linked r c e
   one_cell c e C D q = elim (wall r whole.run whole.law c C) [
     | inl b ↦ at_border (border_label r whole.run whole.law lab L.matched c C b)
     | inr g ↦ elim (wall r whole.run whole.law e D) [
@@ -74,7 +75,8 @@ module _ (w : ℤ) (d : Plan) (bays : ℕ → List Bay) (m : ℕ) (E : ℕ → E
       at_border : label_of lab r c ≡ 0 → Linked r c e
       at_border z = linked_join r c corner e (zero_cell c C z) (linked_back r e corner (zero_cell e D (sym q ∙ z)))
 
-  pub joined_is_label : (p q : Vector) (l k : ℕ) → Place p → Place q → IsOff d p → HasLabel r lab T p l → HasLabel r lab T q k → Joined d p q ↔ (l ≡ k)
+  pub joined_is_label : (p q : Vector) (l k : ℕ) → Place p → Place q → IsOff d p
+      → HasLabel r lab T p l → HasLabel r lab T q k → Joined d p q ↔ (l ≡ k)
   joined_is_label p q l k P Q off hp hq = (
     (λ j. joined_label w d bays m E steps lab within inside outside swept is L p q l k P Q j hp hq),
     (λ e.
@@ -87,7 +89,8 @@ module _ (w : ℤ) (d : Plan) (bays : ℕ → List Bay) (m : ℕ) (E : ℕ → E
         (path_back r whole lab L.matched T (MeetsArc d) all sides q b.0 Q b.1.path)))),
   )
 
-  pub outer_is_label : pos 0 <ℤ w → (p : Vector) (l : ℕ) → Place p → IsOff d p → HasLabel r lab T p l → IsOuter d p ↔ (l ≡ 0)
+  pub outer_is_label : pos 0 <ℤ w → (p : Vector) (l : ℕ) → Place p → IsOff d p
+      → HasLabel r lab T p l → IsOuter d p ↔ (l ≡ 0)
   outer_is_label heavy p l P off hp = (
     (λ o. outer_label w d bays m E steps lab within inside outside swept is L p l P o hp),
     (λ e.
@@ -114,8 +117,10 @@ module _ (d : Plan) (ps : List Placed) where
   pub outer_without : (p : Vector) → IsOuter d p → IsOuter with_points p
   outer_without p o b = let q = o b in (q.0, q.1, joined_without p q.0 q.2, q.3)
 
-  pub run_with : (bays : ℕ → List Bay) (m : ℕ) (E : ℕ → Edge) (steps : List Step) → IsTubedRun with_points bays m E steps → IsTubedRun d bays m E steps
+  pub run_with : (bays : ℕ → List Bay) (m : ℕ) (E : ℕ → Edge) (steps : List Step)
+      → IsTubedRun with_points bays m E steps → IsTubedRun d bays m E steps
   run_with bays m E steps is = record { tube = is.tube; count = is.count; edge = is.edge; run = is.run; corner = is.corner }
 
-  pub run_without : (bays : ℕ → List Bay) (m : ℕ) (E : ℕ → Edge) (steps : List Step) → IsTubedRun d bays m E steps → IsTubedRun with_points bays m E steps
+  pub run_without : (bays : ℕ → List Bay) (m : ℕ) (E : ℕ → Edge) (steps : List Step)
+      → IsTubedRun d bays m E steps → IsTubedRun with_points bays m E steps
   run_without bays m E steps is = record { tube = is.tube; count = is.count; edge = is.edge; run = is.run; corner = is.corner }

@@ -1,6 +1,7 @@
 -- A certificate over a run with tubes proves the partition rule of a drawing of straights and half arcs, all five parts.
 -- The weight in the replay may be any: the proof takes one of its own.
-use Rattle.std.proofs.Common.{◌≡◌, ℕ, suc, ◌+◌, ◌<◌, length, List, ℤ, pos, ◌<ℤ◌, ◌⊎◌, inl, inr, refl, arith, ap, sym, ◌∙◌, subst}
+use Rattle.std.proofs.Common.{◌≡◌, ℕ, suc, ◌+◌, ◌<◌, length, List, ℤ, pos, ◌<ℤ◌, ◌⊎◌, inl, inr}
+use Rattle.std.proofs.Common.{refl, arith, ap, sym, ◌∙◌, subst}
 use Rattle.plane.specs.declared.kinds.Point.{Point}
 use Rattle.plane.specs.Lists.{Has}
 use Rattle.plane.specs.Forms.Vectors.{Vector, Place, point, Edge}
@@ -18,10 +19,13 @@ use Rattle.plane.specs.Faces.Classes.{Lead}
 use Rattle.plane.specs.Tubes.Bays.{Bay}
 use Rattle.plane.specs.Tubes.Bays as one
 use Rattle.plane.specs.CurveRuns.Extended.{Tubes, AreTubes}
-use Rattle.plane.proofs.TubePaths.PieceWords.{Side, inner_side, outer_side, IsOnSide, AreSides, CurvePath, IsCurveOuter}
+use Rattle.plane.proofs.TubePaths.PieceWords.{Side, inner_side, outer_side, IsOnSide, AreSides}
+use Rattle.plane.proofs.TubePaths.PieceWords.{CurvePath, IsCurveOuter}
 use Rattle.plane.proofs.TubePaths.PieceWords as paths
-use Rattle.plane.specs.CurveRuns.TubedRuns.{owned, IsOfTube, IsTubedRun, AreTubeLabels, arc_at, tubes, MeetsArc}
-use Rattle.plane.specs.CurveRuns.CertifiedCurves.{IsInCell, IsInTube, ArePlaced, BoundsCell, BoundsSide, IsCurveRoot, CertifiedCurves}
+use Rattle.plane.specs.CurveRuns.TubedRuns.{owned, IsOfTube, IsTubedRun, AreTubeLabels, arc_at}
+use Rattle.plane.specs.CurveRuns.TubedRuns.{tubes, MeetsArc}
+use Rattle.plane.specs.CurveRuns.CertifiedCurves.{IsInCell, IsInTube, ArePlaced, BoundsCell}
+use Rattle.plane.specs.CurveRuns.CertifiedCurves.{BoundsSide, IsCurveRoot, CertifiedCurves}
 use Rattle.plane.proofs.Linear.EdgePlaces.{place_point}
 use Rattle.plane.proofs.FaceLemmas.PlacedPoints.{placed_point}
 use Rattle.plane.proofs.FaceLemmas.FaceNumbers.{label_before}
@@ -56,10 +60,12 @@ module _ (v w : ℤ) (d : Plan) (bays : ℕ → List Bay) (m : ℕ) (E : ℕ →
   cell_to : (h : Half) (j : ℕ) → BoundsCell d from lab h j → BoundsCell d to lab h j
   cell_to h j b = record { place = in_cell_to (object d j) (suc j) b.place; beside = b.beside }
 
-  side_to : (h : Half) (j : ℕ) → BoundsSide d bays from within inside outside h j → BoundsSide d bays to within inside outside h j
+  side_to : (h : Half) (j : ℕ) → BoundsSide d bays from within inside outside h j
+      → BoundsSide d bays to within inside outside h j
   side_to h j b = record { place = b.place; edge = b.edge; fits = b.fits; of_curve = b.of_curve; side = b.side; is = b.is }
 
-  pub root_to : (h : Half) → IsCurveRoot d bays from lab within inside outside h → IsCurveRoot d bays to lab within inside outside h
+  pub root_to : (h : Half) → IsCurveRoot d bays from lab within inside outside h
+      → IsCurveRoot d bays to lab within inside outside h
   root_to h (inl a) = inl a
   root_to h (inr (inl a)) = inr (inl (a.0, touches_to v w m E steps h a.1))
   root_to h (inr (inr a)) = inr (inr (a.0, a.1, a.2, elim a.3 [ inl b ↦ inl (cell_to h a.0 b) | inr b ↦ inr (side_to h a.0 b) ]))
@@ -123,7 +129,8 @@ module _ (v : ℤ) (d : Plan) (bays : ℕ → List Bay) (m : ℕ) (E : ℕ → E
         },
       )
 
-  reach_side : (j : ℕ) (g : Half) (p : IsInTube d bays inside outside (object d j) (suc j)) (s : Side) → ((c : ℕ) → arc_at d c ≡ p.number → IsOnSide T c s (spot j))
+  reach_side : (j : ℕ) (g : Half) (p : IsInTube d bays inside outside (object d j) (suc j)) (s : Side)
+      → ((c : ℕ) → arc_at d c ≡ p.number → IsOnSide T c s (spot j))
       → (e : ℕ) → e < m → (owned d bays e).curve ≡ p.number → (owned d bays e).part ≡ part_of s → g ≡ twin (within e) → Reached j g
   reach_side j g p s on e le own part name =
       let c = tube_of w d bays m E steps lab within inside outside u.swept is L p.number p.fits p.bent in
@@ -156,7 +163,8 @@ module _ (v : ℤ) (d : Plan) (bays : ℕ → List Bay) (m : ℕ) (E : ℕ → E
   ]
 
   -- ---- each place
-  filled : (z : Vector) → Place z → rule.IsOff d z → IsOuter d z ⊎ ((j : ℕ) × (j < length d.points) × Joined d z (spot j))
+  filled : (z : Vector) → Place z → rule.IsOff d z
+      → IsOuter d z ⊎ ((j : ℕ) × (j < length d.points) × Joined d z (spot j))
   filled z Z none =
       let h = off_label w d bays m E steps lab within inside outside u.swept is L z Z none in
       elim (place_filled r whole lab L.matched T (MeetsArc d) all sides (length d.points) spot S Bounds u.positive reach rank link

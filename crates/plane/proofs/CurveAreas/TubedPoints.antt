@@ -47,7 +47,9 @@ module _ (w : ℤ) (pts : List Point) (d : Plan) (bays : ℕ → List Bay) (m : 
   spot j = point (object d j)
 
   -- what a certificate says of a point tells its region
-  region_of : (j : ℕ) → j < length d.points → IsInCell r lab (object d j) (suc j) ⊎ IsInTube d bays inside outside (object d j) (suc j) → HasRegion d bays r lab inside outside (object d j) (suc j)
+  region_of : (j : ℕ) → j < length d.points
+      → IsInCell r lab (object d j) (suc j) ⊎ IsInTube d bays inside outside (object d j) (suc j)
+      → HasRegion d bays r lab inside outside (object d j) (suc j)
   region_of j l (inl c) = inl (record {
     strip = c.strip;
     index = c.index;
@@ -67,7 +69,8 @@ module _ (w : ℤ) (pts : List Point) (d : Plan) (bays : ℕ → List Bay) (m : 
   pub bounded : (j : ℕ) → j < length d.points → IsOuter d (spot j) → ⊥
   bounded j l o = let e = outer_label w d bays m E steps lab within inside outside swept is L (spot j) (suc j) (place_point (object d j)) o (point_label j l) in omega (arith, e)
 
-  pub alone : (i j : ℕ) → i < length d.points → j < length d.points → (i ≡ j → ⊥) → Joined d (spot i) (spot j) → ⊥
+  pub alone : (i j : ℕ) → i < length d.points → j < length d.points → (i ≡ j → ⊥)
+      → Joined d (spot i) (spot j) → ⊥
   alone i j li lj n path =
       let e = joined_label w d bays m E steps lab within inside outside swept is L (spot i) (spot j) (suc i) (suc j) (place_point (object d i)) (place_point (object d j)) path (point_label i li) (point_label j lj) in
       n (omega (arith, e))

@@ -33,14 +33,16 @@ module _ (d : Plan) (r : Replay) (run : IsRun r) (law : IsLawful r) (lab : Label
   Root = IsRoot d r lab cert.strip cert.index
 
   -- the label of a cell is that of each half-edge beside it
-  beside_mark : (h : Half) (c : Sector) → IsSector r c → Beside r h c → label_of lab r c ≡ mark lab h
+  beside_mark : (h : Half) (c : Sector) → IsSector r c → Beside r h c
+      → label_of lab r c ≡ mark lab h
   beside_mark (under e) c C b = upper_label r run law lab cert.matched c C ∙ label_under lab 0 c.index (r.list c.strip) e b
   beside_mark (over e) c C b = label_before lab 0 c.index (r.list c.strip) e b
 
   root_of : (h : Half) → edge_of h < r.edges → (g : Half) × Rooted r (mark lab) Root h g
   root_of h l = rooted r run law (mark lab) rank link Root cert.links (suc (rank h)) h l (omega arith)
 
-  rooted_connected : (h g : Half) → edge_of h < r.edges → Rooted r (mark lab) Root h g → Connected r h g
+  rooted_connected : (h g : Half) → edge_of h < r.edges → Rooted r (mark lab) Root h g
+      → Connected r h g
   rooted_connected h g l o =
       let y = some_beside r run law h l in
       let z = some_beside r run law g o.fits in

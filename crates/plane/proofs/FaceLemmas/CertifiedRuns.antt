@@ -11,7 +11,8 @@ use Rattle.plane.specs.Rule.Plans.{Plan, object}
 use Rattle.plane.specs.Rule.Partition.{IsPartition}
 use Rattle.plane.specs.Faces.Certified.{IsRoot, Certified, IsComplete, FoundLead}
 use Rattle.plane.specs.Faces.DrawnRuns.{IsRunOf, drawn}
-use Rattle.plane.proofs.Turning.AnyWeight.{across_to, touches_to, placed_to, link_to, faces_to, next_to}
+use Rattle.plane.proofs.Turning.AnyWeight.{across_to, touches_to, placed_to, link_to, faces_to}
+use Rattle.plane.proofs.Turning.AnyWeight.{next_to}
 use Rattle.plane.proofs.Runs.RunWeights.{RunWeight, run_weight, points_of, points_has}
 use Rattle.plane.proofs.Runs.Numbered.{swept_run}
 use Rattle.plane.proofs.Runs.Lawful.{swept_lawful}
@@ -25,7 +26,8 @@ module _ (v w : ℤ) (d : Plan) (E : ℕ → Edge) (steps : List Step) (lab : La
   abbrev to : Replay
   to = drawn w d E steps
 
-  pub root_to : (strip index : ℕ → ℕ) (h : Half) → IsRoot d from lab strip index h → IsRoot d to lab strip index h
+  pub root_to : (strip index : ℕ → ℕ) (h : Half) → IsRoot d from lab strip index h
+      → IsRoot d to lab strip index h
   root_to strip index h (inl a) = inl (a.0, touches_to v w (length d.curves) E steps h a.1)
   root_to strip index h (inr a) = inr a
 
@@ -73,20 +75,24 @@ module _ (v : ℤ) (d : Plan) (E : ℕ → Edge) (steps : List Step) (run : IsRu
   abbrev Root : Half → Type 0
   Root = IsRoot d (drawn v d E steps) (numbers face) strip index
 
-  pub run_reached : (Reached : Half → Type 0) → ((h : Half) → edge_of h < length d.curves → Root h → Reached h)
+  pub run_reached : (Reached : Half → Type 0)
+      → ((h : Half) → edge_of h < length d.curves → Root h → Reached h)
       → ((g h : Half) → Reached g → Across (drawn v d E steps) h g → Reached h) → (h : Half) → edge_of h < length d.curves → Reached h
   run_reached Reached roots closed =
       all_reached d there (swept_run u.weight (length d.curves) E steps u.swept) (swept_lawful u.weight (length d.curves) E steps u.swept) face strip index complete_there Reached
       (λ h l o. roots h l (root_to u.weight v d E steps (numbers face) face (λ h. root) strip index h o))
       (λ g h k a. closed g h k (across_to u.weight v (length d.curves) E steps h g a))
 
-  pub run_complete : (rank : Half → ℕ) (link : Half → Lead) → ((h : Half) → edge_of h < length d.curves → FoundLead (drawn v d E steps) rank Root h (link h)) → Certified d (drawn v d E steps) (numbers face) rank link
+  pub run_complete : (rank : Half → ℕ) (link : Half → Lead)
+      → ((h : Half) → edge_of h < length d.curves → FoundLead (drawn v d E steps) rank Root h (link h))
+      → Certified d (drawn v d E steps) (numbers face) rank link
   run_complete rank link found =
       reweighed u.weight v d E steps (numbers face) rank link
       (complete d there (swept_run u.weight (length d.curves) E steps u.swept) (swept_lawful u.weight (length d.curves) E steps u.swept) face strip index complete_there rank link
       (λ h l. found_to h (link h) (found h l)))
     where
-      found_to : (h : Half) (k : Lead) → FoundLead (drawn v d E steps) rank Root h k → FoundLead there rank (IsRoot d there (numbers face) strip index) h k
+      found_to : (h : Half) (k : Lead) → FoundLead (drawn v d E steps) rank Root h k
+          → FoundLead there rank (IsRoot d there (numbers face) strip index) h k
       found_to h root o = root_to v u.weight d E steps (numbers face) face (λ h. root) strip index h o
       found_to h (next g) o = (next_to v u.weight (length d.curves) E steps h g o.0, o.1)
       found_to h (previous g) o = (next_to v u.weight (length d.curves) E steps g h o.0, o.1)

@@ -6,7 +6,8 @@ use Rattle.plane.specs.Faces.Replays.{Replay}
 use Rattle.plane.proofs.Runs.RunWords.{IsRun, IsLawful}
 use Rattle.plane.specs.Faces.Cells.{Sector, IsSector}
 use Rattle.plane.specs.Faces.Halves.{Half, under, over, edge_of, mark, Beside}
-use Rattle.plane.specs.Faces.Classes.{Next, Across, Touches, Crossing, same, cross, Lead, root, next, previous, across, IsLead, AreLeads, numbers, face_of}
+use Rattle.plane.specs.Faces.Classes.{Next, Across, Touches, Crossing, same, cross, Lead, root}
+use Rattle.plane.specs.Faces.Classes.{next, previous, across, IsLead, AreLeads, numbers, face_of}
 use Rattle.plane.specs.Rule.Plans.{Plan, object}
 use Rattle.plane.specs.Faces.Certified.{IsRoot, Certified, FoundLead, IsComplete}
 use Rattle.plane.proofs.FaceLemmas.PlacedPoints.{placed_is}
@@ -35,7 +36,8 @@ module _ (d : Plan) (r : Replay) (run : IsRun r) (law : IsLawful r) (face : Half
   crossing_face _ _ (cross g x h a k) = c.faces.across g x a ∙ crossing_face x h k
 
   -- each half-edge is connected to a root by cells between two edges alone
-  touching : (h x : Half) → face h ≡ 0 → Crossing r h x → Touches r x → (g : Half) × Crossing r h g × Root g
+  touching : (h x : Half) → face h ≡ 0 → Crossing r h x → Touches r x
+      → (g : Half) × Crossing r h g × Root g
   touching h x z k t = (x, k, inl (mark_numbers face x ∙ sym (crossing_face h x k) ∙ z, t))
 
   pub crossing_root : (h : Half) → edge_of h < r.edges → (g : Half) × Crossing r h g × Root g
@@ -66,11 +68,14 @@ module _ (d : Plan) (r : Replay) (run : IsRun r) (law : IsLawful r) (face : Half
       ]
 
   -- what holds all roots and is closed across cells holds all half-edges: a search by breadth from the roots finds each
-  pub all_reached : (Reached : Half → Type 0) → ((h : Half) → edge_of h < r.edges → Root h → Reached h) → ((g h : Half) → Reached g → Across r h g → Reached h)
+  pub all_reached : (Reached : Half → Type 0)
+      → ((h : Half) → edge_of h < r.edges → Root h → Reached h)
+      → ((g h : Half) → Reached g → Across r h g → Reached h)
       → (h : Half) → edge_of h < r.edges → Reached h
   all_reached Reached roots closed h l = let g = crossing_root h l in back h g.0 g.1 l (λ m. roots g.0 m g.2)
     where
-      back : (h g : Half) → Crossing r h g → edge_of h < r.edges → (edge_of g < r.edges → Reached g) → Reached h
+      back : (h g : Half) → Crossing r h g → edge_of h < r.edges → (edge_of g < r.edges → Reached g)
+          → Reached h
       back _ _ (same h g e) l f = subst Reached (sym e) (f (subst (λ (x : Half). edge_of x < r.edges) e l))
       back _ _ (cross h x g a k) l f = closed x h (back x g k (beside_fits r run law x a.0 a.1 a.3) f) a
 
@@ -81,7 +86,9 @@ module _ (d : Plan) (r : Replay) (run : IsRun r) (law : IsLawful r) (face : Half
       sym (beside_face r run law face c.faces h m.0 m.2 m.4) ∙ linked_label r run law (numbers face) (faces_matched r run law face c.faces) m.0 m.1 m.6 ∙ beside_face r run law face c.faces g m.1 m.3 m.5
 
   -- links found by such a search, each a root or across a cell to a half-edge found earlier, meet the rule for links
-  pub found_links : (rank : Half → ℕ) (link : Half → Lead) → ((h : Half) → edge_of h < r.edges → FoundLead r rank Root h (link h)) → AreLeads r (mark (numbers face)) rank link Root
+  pub found_links : (rank : Half → ℕ) (link : Half → Lead)
+      → ((h : Half) → edge_of h < r.edges → FoundLead r rank Root h (link h))
+      → AreLeads r (mark (numbers face)) rank link Root
   found_links rank link found h l = lead (link h) (found h l)
     where
       lead : (k : Lead) → FoundLead r rank Root h k → IsLead r (mark (numbers face)) rank Root h k
@@ -97,7 +104,9 @@ module _ (d : Plan) (r : Replay) (run : IsRun r) (law : IsLawful r) (face : Half
           (o.0, record { fits = beside_fits r run law g m.0 m.2 m.4; kept = mark_numbers face g ∙ next_face g h o.0 ∙ sym (mark_numbers face h); less = o.1 })
 
   -- the certificate
-  pub complete : (rank : Half → ℕ) (link : Half → Lead) → ((h : Half) → edge_of h < r.edges → FoundLead r rank Root h (link h)) → Certified d r (numbers face) rank link
+  pub complete : (rank : Half → ℕ) (link : Half → Lead)
+      → ((h : Half) → edge_of h < r.edges → FoundLead r rank Root h (link h))
+      → Certified d r (numbers face) rank link
   complete rank link found = record {
     matched = faces_matched r run law face c.faces;
     strip = strip;
@@ -112,6 +121,7 @@ module _ (d : Plan) (r : Replay) (run : IsRun r) (law : IsLawful r) (face : Half
       lower_face j k i e C b = beside_face r run law face c.faces (over e) (record { strip = k; index = i }) C b
 
   -- a search that keeps a list of found half-edges, ends with all roots in it and closed across cells, gives a certificate
-  pub searched : (seen : List Half) (rank : Half → ℕ) (link : Half → Lead) → ((h : Half) → edge_of h < r.edges → Root h → Has h seen)
+  pub searched : (seen : List Half) (rank : Half → ℕ) (link : Half → Lead)
+      → ((h : Half) → edge_of h < r.edges → Root h → Has h seen)
       → ((g h : Half) → Has g seen → Across r h g → Has h seen) → ((h : Half) → Has h seen → FoundLead r rank Root h (link h)) → Certified d r (numbers face) rank link
   searched seen rank link roots closed found = complete rank link (λ h l. found h (all_reached (λ x. Has x seen) roots closed h l))

@@ -1,10 +1,12 @@
 -- Every segment that crosses an edge tells its two sides.
 -- From each end of it a free way leads to a place near the crossing, which lies in a cell beside the edge.
-use Rattle.std.proofs.Common.{◌≡◌, ℕ, suc, ◌<◌, ◌≤◌, ℤ, pos, negsuc, ◌+ℤ◌, ◌*ℤ◌, ◌-ℤ◌, ◌<ℤ◌, ◌≤ℤ◌, arith, ap, sym, ◌∙◌, ◌⊎◌, inl, inr, subst}
+use Rattle.std.proofs.Common.{◌≡◌, ℕ, suc, ◌<◌, ◌≤◌, ℤ, pos, negsuc, ◌+ℤ◌, ◌*ℤ◌, ◌-ℤ◌, ◌<ℤ◌, ◌≤ℤ◌}
+use Rattle.std.proofs.Common.{arith, ap, sym, ◌∙◌, ◌⊎◌, inl, inr, subst}
 use Rattle.std.proofs.lemmas.Int.{ints}
 use Rattle.plane.specs.declared.kinds.Point.{Point}
 use Rattle.plane.specs.Lists.{Has}
-use Rattle.plane.specs.Forms.Vectors.{Vector, Place, point, mix, Edge, side, sweep, rise, On, HitsEdge}
+use Rattle.plane.specs.Forms.Vectors.{Vector, Place, point, mix, Edge, side, sweep, rise, On}
+use Rattle.plane.specs.Forms.Vectors.{HitsEdge}
 use Rattle.plane.specs.Faces.Replays.{Replay, IsOffEdges}
 use Rattle.plane.proofs.Runs.RunWords.{IsRun, IsLawful, IsStrip}
 use Rattle.plane.specs.Faces.Cells.{sector, strip, raised, IsFree, Linked}
@@ -21,9 +23,11 @@ use Rattle.plane.proofs.Strips.OneStrip.{strip_is, strip_only, linked_join, segm
 use Rattle.plane.proofs.Strips.CountBelow.{raised_most}
 use Rattle.plane.proofs.Strips.Columns.{by_less}
 use Rattle.plane.proofs.Turning.OneSide.{at_unique}
-use Rattle.plane.proofs.FaceLemmas.SmallSteps.{Way, value, value_on, off_way, way_clear, near, near_keeps, near_zero, IsLarge, large}
+use Rattle.plane.proofs.FaceLemmas.SmallSteps.{Way, value, value_on, off_way, way_clear, near}
+use Rattle.plane.proofs.FaceLemmas.SmallSteps.{near_keeps, near_zero, IsLarge, large}
 use Rattle.plane.proofs.FaceLemmas.SmallSteps as way
-use Rattle.plane.proofs.FaceLemmas.NearEdge.{parts_step, near_first, near_second, one_crossing, aside, aside_side, aside_sweep, scaled_near, by_equal}
+use Rattle.plane.proofs.FaceLemmas.NearEdge.{parts_step, near_first, near_second, one_crossing}
+use Rattle.plane.proofs.FaceLemmas.NearEdge.{aside, aside_side, aside_sweep, scaled_near, by_equal}
 
 module _ (r : Replay) (run : IsRun r) (law : IsLawful r) (e : ℕ) (p q : Vector) (l : e < r.edges) (x : IsCrossing r e p q) where
   abbrev w : ℤ
@@ -111,11 +115,14 @@ module _ (r : Replay) (run : IsRun r) (law : IsLawful r) (e : ℕ) (p q : Vector
   pub near_place : (d : Vector) → Place d → Place (near N z d)
   near_place d D = mix_place N z (pos 1) d z_place D n_least (omega (arith, ints)) (let a = n_positive in omega (arith, ints, a))
 
-  near_way : (d : Vector) → IsLarge w r.edge r.edges N d → (f : ℕ) (h : f < r.edges) (differ : f ≡ e → ⊥) → pos 0 <ℤ value w (r.edge f) (other_way f h differ).0 (near N z d)
+  near_way : (d : Vector) → IsLarge w r.edge r.edges N d
+      → (f : ℕ) (h : f < r.edges) (differ : f ≡ e → ⊥)
+      → pos 0 <ℤ value w (r.edge f) (other_way f h differ).0 (near N z d)
   near_way d big f h differ = let i = other_way f h differ in near_keeps w (r.edge f) i.0 N z d n_least (big f h i.0) i.1
 
   -- ---- free segments near the crossing and to it
-  free_near : (i : Way) (d c : Vector) → Place d → Place c → IsLarge w r.edge r.edges N d → IsLarge w r.edge r.edges N c
+  free_near : (i : Way) (d c : Vector) → Place d → Place c → IsLarge w r.edge r.edges N d
+      → IsLarge w r.edge r.edges N c
       → value w E i z ≡ pos 0 → pos 0 <ℤ value w E i d → pos 0 <ℤ value w E i c → IsFree r (near N z d) (near N z c)
   free_near i d c D C big_d big_c none hd hc f h hit = by_equal f e
       (λ (same : f ≡ e). way_clear w E i (near N z d) (near N z c) (near_place d D) (near_place c C) (near_zero w E i N z d none hd) (near_zero w E i N z c none hc)
@@ -226,10 +233,12 @@ module _ (r : Replay) (run : IsRun r) (law : IsLawful r) (e : ℕ) (p q : Vector
       let m = ap (λ (y : Point). sweep w (point y) *ℤ top.n) b.2 in
       absurd (omega (arith, ints, h, m, after)))
     where
-      later : (a b lo hi s t c : ℤ) → a ≤ℤ b → c ≡ a +ℤ (lo *ℤ pos 2) → t ≡ b +ℤ (pos 1 *ℤ s) → s ≡ lo +ℤ hi → pos 0 <ℤ rise w E → rise w E ≡ hi -ℤ lo → c <ℤ t
+      later : (a b lo hi s t c : ℤ) → a ≤ℤ b → c ≡ a +ℤ (lo *ℤ pos 2) → t ≡ b +ℤ (pos 1 *ℤ s)
+          → s ≡ lo +ℤ hi → pos 0 <ℤ rise w E → rise w E ≡ hi -ℤ lo → c <ℤ t
       later a b lo hi s t c h e1 e2 e3 u v = omega (arith, ints)
 
-      sooner : (a b lo hi s t c : ℤ) → b ≤ℤ a → c ≡ a +ℤ (hi *ℤ pos 2) → t ≡ b +ℤ (pos 1 *ℤ s) → s ≡ lo +ℤ hi → pos 0 <ℤ rise w E → rise w E ≡ hi -ℤ lo → t <ℤ c
+      sooner : (a b lo hi s t c : ℤ) → b ≤ℤ a → c ≡ a +ℤ (hi *ℤ pos 2) → t ≡ b +ℤ (pos 1 *ℤ s)
+          → s ≡ lo +ℤ hi → pos 0 <ℤ rise w E → rise w E ≡ hi -ℤ lo → t <ℤ c
       sooner a b lo hi s t c h e1 e2 e3 u v = omega (arith, ints)
 
   top_over : pos 0 <ℤ side E top
@@ -238,13 +247,15 @@ module _ (r : Replay) (run : IsRun r) (law : IsLawful r) (e : ℕ) (p q : Vector
   bottom_under : side E bottom <ℤ pos 0
   bottom_under = let a = near_zero w E way.under N z low under_z under_low in omega (arith, ints, a)
 
-  near_off : (i : Way) (d : Vector) → IsLarge w r.edge r.edges N d → pos 0 <ℤ value w E i (near N z d) → IsOffEdges r (near N z d)
+  near_off : (i : Way) (d : Vector) → IsLarge w r.edge r.edges N d
+      → pos 0 <ℤ value w E i (near N z d) → IsOffEdges r (near N z d)
   near_off i d big here f h on = by_equal f e
       (λ (same : f ≡ e). let a = value_on w E i (near N z d) (subst (λ (y : ℕ). On w (r.edge y) (near N z d)) same on) in omega (arith, ints, a, here))
       (λ differ. let a = value_on w (r.edge f) (other_way f h differ).0 (near N z d) on in let b = near_way d big f h differ in omega (arith, ints, a, b))
 
   -- the other live edges are on one side of both
-  alike : (f : ℕ) → Has f (r.list k) → (f ≡ e → ⊥) → ((pos 0 <ℤ side (r.edge f) top) × (pos 0 <ℤ side (r.edge f) bottom)) ⊎ ((side (r.edge f) top <ℤ pos 0) × (side (r.edge f) bottom <ℤ pos 0))
+  alike : (f : ℕ) → Has f (r.list k) → (f ≡ e → ⊥)
+      → ((pos 0 <ℤ side (r.edge f) top) × (pos 0 <ℤ side (r.edge f) bottom)) ⊎ ((side (r.edge f) top <ℤ pos 0) × (side (r.edge f) bottom <ℤ pos 0))
   alike f has differ =
       let h = law.live k f top_strip.fits has in
       let i = other_way f h differ in
@@ -253,7 +264,8 @@ module _ (r : Replay) (run : IsRun r) (law : IsLawful r) (e : ℕ) (p q : Vector
       let b = near_way low large_low f h differ in
       by_way i.0 span.low span.high a b
     where
-      by_way : (i : Way) → (sweep w (point (r.edge f).low) *ℤ top.n) ≤ℤ sweep w top → sweep w top ≤ℤ (sweep w (point (r.edge f).high) *ℤ top.n)
+      by_way : (i : Way) → (sweep w (point (r.edge f).low) *ℤ top.n) ≤ℤ sweep w top
+          → sweep w top ≤ℤ (sweep w (point (r.edge f).high) *ℤ top.n)
           → pos 0 <ℤ value w (r.edge f) i top → pos 0 <ℤ value w (r.edge f) i bottom
           → ((pos 0 <ℤ side (r.edge f) top) × (pos 0 <ℤ side (r.edge f) bottom)) ⊎ ((side (r.edge f) top <ℤ pos 0) × (side (r.edge f) bottom <ℤ pos 0))
       by_way way.over u v a b = inl (a, b)

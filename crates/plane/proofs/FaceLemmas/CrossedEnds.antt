@@ -12,7 +12,8 @@ use Rattle.plane.specs.Rule.CurveCrossings.{Crosses}
 use Rattle.plane.proofs.FaceLemmas.CurveCrossings.{crosses_same, crosses_back}
 use Rattle.plane.proofs.FaceLemmas.PointFaces.{ends_joined, ends_joined_back}
 
-pub crossed_joined : (w : ℤ) (d : Plan) (E : ℕ → Edge) (steps : List Step) (face : Half → ℕ) (i : ℕ) (p q : Vector) → IsRunOf d E steps → IsFaces (drawn w d E steps) face → i < length d.curves
+pub crossed_joined : (w : ℤ) (d : Plan) (E : ℕ → Edge) (steps : List Step) (face : Half → ℕ) (i : ℕ) (p q : Vector)
+    → IsRunOf d E steps → IsFaces (drawn w d E steps) face → i < length d.curves
     → Crosses d i p q → Joined d p q ↔ (face (over i) ≡ face (under i))
 crossed_joined w d E steps face i p q on faces l x = by_end (on.edges.edge i l)
   where

@@ -8,7 +8,8 @@ use Rattle.plane.specs.Faces.Cells.{Sector, IsSector, sector, Linked}
 use Rattle.plane.specs.Faces.Halves.{over, under, Beside}
 use Rattle.plane.proofs.FaceLemmas.EdgeCrossings.{IsCrossing}
 use Rattle.plane.proofs.Strips.Columns.{cell_is}
-use Rattle.plane.proofs.FaceLemmas.Crossed.{high, low, high_place, low_place, near_place, top, bottom, crossed}
+use Rattle.plane.proofs.FaceLemmas.Crossed.{high, low, high_place, low_place, near_place, top}
+use Rattle.plane.proofs.FaceLemmas.Crossed.{bottom, crossed}
 
 -- the cell of the upper end is linked to one above the edge, that of the lower end to one below it
 pub record IsTold (r : Replay) (e : ℕ) (p q : Vector) : Type 0 where
@@ -21,7 +22,8 @@ pub record IsTold (r : Replay) (e : ℕ) (p q : Vector) : Type 0 where
   pub below_linked : Linked r (sector r q) below
   pub below_beside : Beside r (under e) below
 
-pub crossing_tells : (r : Replay) (run : IsRun r) (law : IsLawful r) (e : ℕ) (p q : Vector) → e < r.edges → IsCrossing r e p q → IsTold r e p q
+pub crossing_tells : (r : Replay) (run : IsRun r) (law : IsLawful r) (e : ℕ) (p q : Vector)
+    → e < r.edges → IsCrossing r e p q → IsTold r e p q
 crossing_tells r run law e p q l x =
     let c = crossed r run law e p q l x in
     let t = top r run law e p q l x in

@@ -26,19 +26,25 @@ use Rattle.plane.proofs.Covers.CurveEdges.{on_edge_is}
 use Rattle.plane.proofs.Covers.PathLists.{joined_is_path}
 use Rattle.plane.proofs.Strips.ToTheRight.{off_end}
 
-pub on_curve : (w : ℤ) (e : Edge) (c : Curve) (z : Vector) → IsEdgeOf e c → c.kind ≡ kind.Straight → pos 0 <ℤ rise w e → Place z → On w e z → IsOn c z
+pub on_curve : (w : ℤ) (e : Edge) (c : Curve) (z : Vector) → IsEdgeOf e c → c.kind ≡ kind.Straight
+    → pos 0 <ℤ rise w e → Place z → On w e z → IsOn c z
 on_curve w e c z h k R Z on = (on_edge_is e c z h k Z).0 ((on_is w e z R Z).0 on)
 
-pub on_edge : (w : ℤ) (e : Edge) (c : Curve) (z : Vector) → IsEdgeOf e c → c.kind ≡ kind.Straight → pos 0 <ℤ rise w e → Place z → IsOn c z → On w e z
+pub on_edge : (w : ℤ) (e : Edge) (c : Curve) (z : Vector) → IsEdgeOf e c → c.kind ≡ kind.Straight
+    → pos 0 <ℤ rise w e → Place z → IsOn c z → On w e z
 on_edge w e c z h k R Z on = (on_is w e z R Z).1 ((on_edge_is e c z h k Z).1 on)
 
-pub hits_curve : (w : ℤ) (e : Edge) (c : Curve) (p q : Vector) → IsEdgeOf e c → c.kind ≡ kind.Straight → pos 0 <ℤ rise w e → Place p → Place q → HitsEdge w p q e → curves.Hits c p q
+pub hits_curve : (w : ℤ) (e : Edge) (c : Curve) (p q : Vector) → IsEdgeOf e c
+    → c.kind ≡ kind.Straight → pos 0 <ℤ rise w e → Place p → Place q → HitsEdge w p q e
+    → curves.Hits c p q
 hits_curve w e c p q h k R P Q hit =
     let x = (hits_is w e p q R P Q).0 hit in
     let on = (on_edge_is e c x.z h k x.place).0 x.of_edge in
     subst (λ (k : CurveKind). HitsKind k c p q) (sym k) (record { z = x.z; place = x.place; of_segment = x.of_segment; of_curve = subst (λ (k : CurveKind). curves.IsOnKind k c x.z) k on })
 
-pub hits_edge : (w : ℤ) (e : Edge) (c : Curve) (p q : Vector) → IsEdgeOf e c → c.kind ≡ kind.Straight → pos 0 <ℤ rise w e → Place p → Place q → curves.Hits c p q → HitsEdge w p q e
+pub hits_edge : (w : ℤ) (e : Edge) (c : Curve) (p q : Vector) → IsEdgeOf e c
+    → c.kind ≡ kind.Straight → pos 0 <ℤ rise w e → Place p → Place q → curves.Hits c p q
+    → HitsEdge w p q e
 hits_edge w e c p q h k R P Q hit =
     let x = subst (λ (k : CurveKind). HitsKind k c p q) k hit in
     let on = (on_edge_is e c x.z h k x.place).1 (subst (λ (k : CurveKind). curves.IsOnKind k c x.z) (sym k) x.of_curve) in
@@ -79,7 +85,8 @@ module _ (d : Plan) (r : Replay) (run : IsRun r) (draws : Draws d r) where
   pub joined_edges : (p q : Vector) → Place p → rule.Joined d p q → JoinedByEdges r p q
   joined_edges p q P j = path_joined p q ((joined_is_path d p q P).0 j) P
 
-  pub joined_curves : (p q : Vector) → Place p → IsOffEdges r p → JoinedByEdges r p q → rule.Joined d p q
+  pub joined_curves : (p q : Vector) → Place p → IsOffEdges r p → JoinedByEdges r p q
+      → rule.Joined d p q
   joined_curves p q P off j = (joined_is_path d p q P).1 (joined_path p q j P off)
 
   pub outer_edges : (p : Vector) → Place p → rule.IsOuter d p → IsOuterByEdges r p
@@ -89,7 +96,8 @@ module _ (d : Plan) (r : Replay) (run : IsRun r) (draws : Draws d r) where
   outer_curves p P off o b = let x = o b in (x.0, x.1, joined_curves p x.0 P off x.2, x.3)
 
   -- crossing segments, too, are the same
-  pub crossing_curve : (i : ℕ) → i < length d.curves → (p q : Vector) → IsCrossing r i p q → CrossesCurve d (r.edge i) i p q
+  pub crossing_curve : (i : ℕ) → i < length d.curves → (p q : Vector) → IsCrossing r i p q
+      → CrossesCurve d (r.edge i) i p q
   crossing_curve i l p q x =
       let a = side-turn (r.edge i) p in
       let b = side-turn (r.edge i) q in
@@ -106,7 +114,8 @@ module _ (d : Plan) (r : Replay) (run : IsRun r) (draws : Draws d r) where
         clear = λ j k n h. let f = edge_fits j k in x.clear j f n (hits_edge r.weight (r.edge j) (curve d j) p q (draws.edges.edge j k) (draws.edges.straight j k) (run.rise j f) x.p_place x.q_place h);
       }
 
-  pub crossing_edge : (i : ℕ) → i < length d.curves → (p q : Vector) → CrossesCurve d (r.edge i) i p q → IsCrossing r i p q
+  pub crossing_edge : (i : ℕ) → i < length d.curves → (p q : Vector)
+      → CrossesCurve d (r.edge i) i p q → IsCrossing r i p q
   crossing_edge i l p q x =
       let a = side-turn (r.edge i) p in
       let b = side-turn (r.edge i) q in

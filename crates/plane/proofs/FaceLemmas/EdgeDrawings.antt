@@ -1,5 +1,6 @@
 -- A run over edges is a run over the drawing of them, and a point with a position in it is on none of them.
-use Rattle.std.proofs.Common.{◌≡◌, ℕ, zero, suc, ◌<◌, ℤ, pos, inl, List, [], ◌∷◌, length, get_or, refl, arith, ap, sym, subst}
+use Rattle.std.proofs.Common.{◌≡◌, ℕ, zero, suc, ◌<◌, ℤ, pos, inl, List, [], ◌∷◌, length, get_or}
+use Rattle.std.proofs.Common.{refl, arith, ap, sym, subst}
 use Rattle.std.proofs.lemmas.Int.{ints}
 use Rattle.plane.specs.declared.kinds.Point.{Point}
 use Rattle.plane.specs.declared.kinds.Curve.{Curve}
@@ -26,13 +27,15 @@ pub straights_count : (E : ℕ → Edge) (m : ℕ) → length (straights_of E m)
 straights_count E zero = refl
 straights_count E (suc m) = ap (λ (n : ℕ). suc n) (straights_count (λ e. E (suc e)) m)
 
-straight_at : (E : ℕ → Edge) (m i : ℕ) (d : Curve) → i < m → get_or (straights_of E m) i d ≡ straight (E i).low (E i).high 0
+straight_at : (E : ℕ → Edge) (m i : ℕ) (d : Curve) → i < m
+    → get_or (straights_of E m) i d ≡ straight (E i).low (E i).high 0
 straight_at E zero i d l = absurd (omega (arith, l))
 straight_at E (suc m) zero d l = refl
 straight_at E (suc m) (suc i) d l = straight_at (λ e. E (suc e)) m i d (omega (arith, l))
 
 module _ (u : Window2) (m : ℕ) (E : ℕ → Edge) (steps : List Step) where
-  curve_is : (i : ℕ) → i < length (straights_of E m) → curve (as_straights u E m) i ≡ straight (E i).low (E i).high 0
+  curve_is : (i : ℕ) → i < length (straights_of E m)
+      → curve (as_straights u E m) i ≡ straight (E i).low (E i).high 0
   curve_is i l =
       let n = straights_count E m in
       straight_at E m i (straight (record { x = pos 0; y = pos 0 }) (record { x = pos 0; y = pos 0 }) 0) (omega (arith, l, n))
@@ -59,7 +62,8 @@ some_window =
     }
 
 -- ---- points with a position
-pub located_off : (w : ℤ) (m : ℕ) (E : ℕ → Edge) (steps : List Step) (a : Point) (k i e : ℕ) → Run m E steps → IsLocated (replay w m E steps) a k i → e < m → OnStraight (E e) (point a) → ⊥
+pub located_off : (w : ℤ) (m : ℕ) (E : ℕ → Edge) (steps : List Step) (a : Point) (k i e : ℕ)
+    → Run m E steps → IsLocated (replay w m E steps) a k i → e < m → OnStraight (E e) (point a) → ⊥
 located_off w m E steps a k i e run at_a l on =
     let u = run_weight m E steps (a ∷ []) run in
     let r = replay u.weight m E steps in

@@ -1,11 +1,13 @@
 -- With face numbers, places off the edges are joined exactly where the numbers of their cells are equal.
 -- They are outer exactly where the number is 0.
-use Rattle.std.proofs.Common.{◌≡◌, ◌↔◌, ℕ, zero, suc, List, [], ◌∷◌, ap, sym, ◌∙◌, inl, inr, pos, ◌<ℤ◌}
+use Rattle.std.proofs.Common.{◌≡◌, ◌↔◌, ℕ, zero, suc, List, [], ◌∷◌, ap, sym, ◌∙◌, inl, inr, pos}
+use Rattle.std.proofs.Common.{◌<ℤ◌}
 use Rattle.plane.specs.Forms.Vectors.{Vector, Place}
 use Rattle.plane.specs.Faces.Labels.{Labels, label_at}
 use Rattle.plane.specs.Faces.Replays.{Replay, IsOffEdges}
 use Rattle.plane.proofs.Runs.RunWords.{IsRun, IsLawful}
-use Rattle.plane.specs.Faces.Cells.{Sector, IsSector, corner, sector, IsBorder, Linked, JoinedByEdges}
+use Rattle.plane.specs.Faces.Cells.{Sector, IsSector, corner, sector, IsBorder, Linked}
+use Rattle.plane.specs.Faces.Cells.{JoinedByEdges}
 use Rattle.plane.proofs.Strips.OuterWords.{IsOuterByEdges}
 use Rattle.plane.specs.Faces.Halves.{Half, under, over, At, AtBefore, Beside, IsMatched}
 use Rattle.plane.proofs.LabelLemmas.LabelWords.{label_over}
@@ -20,13 +22,15 @@ use Rattle.plane.proofs.LabelLemmas.HalfLabels.{upper_label, border_label, linke
 use Rattle.plane.proofs.Turning.CellWalls.{wall, beside_fits, touches_linked, connected_linked}
 
 -- the label above the edge just before a place, and below the edge at it
-pub label_before : (lab : Labels) (l i : ℕ) (es : List ℕ) (e : ℕ) → AtBefore es i e → label_at lab l i es ≡ lab.above e
+pub label_before : (lab : Labels) (l i : ℕ) (es : List ℕ) (e : ℕ) → AtBefore es i e
+    → label_at lab l i es ≡ lab.above e
 label_before lab l zero es e h = absurd h
 label_before lab l (suc i) [] e h = absurd h
 label_before lab l (suc zero) (d ∷ es) e h = ap lab.above (sym h)
 label_before lab l (suc (suc i)) (d ∷ es) e h = label_before lab (lab.above d) (suc i) es e h
 
-pub label_under : (lab : Labels) (g i : ℕ) (es : List ℕ) (e : ℕ) → At es i e → label_over lab g i es ≡ lab.below e
+pub label_under : (lab : Labels) (g i : ℕ) (es : List ℕ) (e : ℕ) → At es i e
+    → label_over lab g i es ≡ lab.below e
 label_under lab g i [] e h = absurd h
 label_under lab g zero (d ∷ es) e h = ap lab.below (sym h)
 label_under lab g (suc i) (d ∷ es) e h = label_under lab g i es e h
@@ -37,7 +41,8 @@ module _ (r : Replay) (run : IsRun r) (law : IsLawful r) (face : Half → ℕ) (
   faces_matched = sides_matched r run face faces.across faces.border
 
   -- the number of a cell is that of each half-edge beside it
-  pub beside_face : (h : Half) (c : Sector) → IsSector r c → Beside r h c → face_of r face c ≡ face h
+  pub beside_face : (h : Half) (c : Sector) → IsSector r c → Beside r h c
+      → face_of r face c ≡ face h
   beside_face (under e) c C b = upper_label r run law (numbers face) faces_matched c C ∙ label_under (numbers face) 0 c.index (r.list c.strip) e b
   beside_face (over e) c C b = label_before (numbers face) 0 c.index (r.list c.strip) e b
 
@@ -53,7 +58,8 @@ module _ (r : Replay) (run : IsRun r) (law : IsLawful r) (face : Half → ℕ) (
   pub border_face : (c : Sector) → IsSector r c → IsBorder r c → face_of r face c ≡ 0
   border_face = border_label r run law (numbers face) faces_matched
 
-  pub one_face : (c d : Sector) → IsSector r c → IsSector r d → face_of r face c ≡ face_of r face d → Linked r c d
+  pub one_face : (c d : Sector) → IsSector r c → IsSector r d → face_of r face c ≡ face_of r face d
+      → Linked r c d
   one_face c d C D e = elim (wall r run law c C) [
     | inl b ↦ outside (border_face c C b)
     | inr g ↦ elim (wall r run law d D) [
@@ -67,16 +73,19 @@ module _ (r : Replay) (run : IsRun r) (law : IsLawful r) (face : Half → ℕ) (
       outside z = linked_join r c corner d (zero_face c C z) (linked_back r d corner (zero_face d D (sym e ∙ z)))
 
   -- cells are linked exactly where they have one number
-  pub linked_is_face : (c d : Sector) → IsSector r c → IsSector r d → Linked r c d ↔ (face_of r face c ≡ face_of r face d)
+  pub linked_is_face : (c d : Sector) → IsSector r c → IsSector r d
+      → Linked r c d ↔ (face_of r face c ≡ face_of r face d)
   linked_is_face c d C D = (linked_label r run law (numbers face) faces_matched c d, one_face c d C D)
 
   -- joined places, and outer ones
-  pub joined_is_face : (p q : Vector) → Place p → Place q → IsOffEdges r p → IsOffEdges r q → JoinedByEdges r p q ↔ (face_of r face (sector r p) ≡ face_of r face (sector r q))
+  pub joined_is_face : (p q : Vector) → Place p → Place q → IsOffEdges r p → IsOffEdges r q
+      → JoinedByEdges r p q ↔ (face_of r face (sector r p) ≡ face_of r face (sector r q))
   joined_is_face p q P Q off_p off_q =
       let f = linked_is_face (sector r p) (sector r q) (cell_is r run law p P) (cell_is r run law q Q) in
       ((λ j. f.0 (joined_linked r run law p q j P Q off_p)), (λ e. linked_joined r run law p q P Q off_p off_q (f.1 e)))
 
-  pub outer_is_face : pos 0 <ℤ r.weight → (p : Vector) → Place p → IsOffEdges r p → IsOuterByEdges r p ↔ (face_of r face (sector r p) ≡ 0)
+  pub outer_is_face : pos 0 <ℤ r.weight → (p : Vector) → Place p → IsOffEdges r p
+      → IsOuterByEdges r p ↔ (face_of r face (sector r p) ≡ 0)
   outer_is_face heavy p P off = (
     (λ o. linked_label r run law (numbers face) faces_matched (sector r p) corner (outer_linked r run law p P off o)),
     (λ e. linked_outer r run law heavy p P off (zero_face (sector r p) (cell_is r run law p P) e)),

@@ -1,6 +1,7 @@
 -- Places near a crossing, moved towards the edge's middle and then up or down.
 -- Two lists of signs that differ at one element alone.
-use Rattle.std.proofs.Common.{◌≡◌, ℕ, zero, suc, ◌<◌, ◌≤◌, List, [], ◌∷◌, length, ℤ, pos, ◌+ℤ◌, ◌*ℤ◌, ◌-ℤ◌, ◌<ℤ◌, refl, arith, ap, ◌∙◌, ◌⊎◌, inl, inr, subst}
+use Rattle.std.proofs.Common.{◌≡◌, ℕ, zero, suc, ◌<◌, ◌≤◌, List, [], ◌∷◌, length, ℤ, pos, ◌+ℤ◌}
+use Rattle.std.proofs.Common.{◌*ℤ◌, ◌-ℤ◌, ◌<ℤ◌, refl, arith, ap, ◌∙◌, ◌⊎◌, inl, inr, subst}
 use Rattle.std.proofs.lemmas.Int.{ints}
 use Rattle.plane.specs.Lists.{Has}
 use Rattle.plane.specs.Forms.Vectors.{Vector, Same, point, mix, Edge, side, sweep, up, rise}
@@ -15,7 +16,8 @@ use Rattle.plane.proofs.FaceLemmas.SmallSteps.{near}
 use Rattle.plane.proofs.Algebra.Ring.{at, num, plus, minus, times, vars, ring}
 
 -- two lists of signs that differ at one element alone
-pub parts_step : (f g : ℕ → ℤ) (i j e : ℕ) (xs : List ℕ) → i ≤ length xs → Parts f i xs → Parts g j xs → Has e xs → pos 0 <ℤ f e → g e <ℤ pos 0
+pub parts_step : (f g : ℕ → ℤ) (i j e : ℕ) (xs : List ℕ) → i ≤ length xs → Parts f i xs
+    → Parts g j xs → Has e xs → pos 0 <ℤ f e → g e <ℤ pos 0
     → ((x : ℕ) → Has x xs → (x ≡ e → ⊥) → ((pos 0 <ℤ f x) × (pos 0 <ℤ g x)) ⊎ ((f x <ℤ pos 0) × (g x <ℤ pos 0)))
     → ((a b x : ℕ) → At xs a x → At xs b x → a ≡ b) → At xs j e × (i ≡ suc j)
 parts_step f g i j e xs most p q has high low alike one =
@@ -42,22 +44,27 @@ parts_step f g i j e xs most p q has high low alike one =
     (subst (λ (y : ℕ). At xs y e) same at_a, next)
 
 -- ---- the crossing place, and places near it
-pub near_first : (n s t : ℤ) (p q : Vector) → near n (mix s p t q) p ≡ mix ((n *ℤ s) +ℤ pos 1) p (n *ℤ t) q
+pub near_first : (n s t : ℤ) (p q : Vector)
+    → near n (mix s p t q) p ≡ mix ((n *ℤ s) +ℤ pos 1) p (n *ℤ t) q
 near_first n s t p q = vector_eq _ _ (one n s t p.x q.x) (one n s t p.y q.y) (one n s t p.n q.n)
   where
-    one : (n s t x y : ℤ) → (n *ℤ ((s *ℤ x) +ℤ (t *ℤ y))) +ℤ (pos 1 *ℤ x) ≡ (((n *ℤ s) +ℤ pos 1) *ℤ x) +ℤ ((n *ℤ t) *ℤ y)
+    one : (n s t x y : ℤ)
+        → (n *ℤ ((s *ℤ x) +ℤ (t *ℤ y))) +ℤ (pos 1 *ℤ x) ≡ (((n *ℤ s) +ℤ pos 1) *ℤ x) +ℤ ((n *ℤ t) *ℤ y)
     one n s t x y = ring (plus (times (at 0) (plus (times (at 1) (at 3)) (times (at 2) (at 4)))) (times (num (pos 1)) (at 3)))
         (plus (times (plus (times (at 0) (at 1)) (num (pos 1))) (at 3)) (times (times (at 0) (at 2)) (at 4))) (vars (n ∷ s ∷ t ∷ x ∷ y ∷ [])) refl
 
-pub near_second : (n s t : ℤ) (p q : Vector) → near n (mix s p t q) q ≡ mix ((n *ℤ t) +ℤ pos 1) q (n *ℤ s) p
+pub near_second : (n s t : ℤ) (p q : Vector)
+    → near n (mix s p t q) q ≡ mix ((n *ℤ t) +ℤ pos 1) q (n *ℤ s) p
 near_second n s t p q = vector_eq _ _ (one n s t p.x q.x) (one n s t p.y q.y) (one n s t p.n q.n)
   where
-    one : (n s t x y : ℤ) → (n *ℤ ((s *ℤ x) +ℤ (t *ℤ y))) +ℤ (pos 1 *ℤ y) ≡ (((n *ℤ t) +ℤ pos 1) *ℤ y) +ℤ ((n *ℤ s) *ℤ x)
+    one : (n s t x y : ℤ)
+        → (n *ℤ ((s *ℤ x) +ℤ (t *ℤ y))) +ℤ (pos 1 *ℤ y) ≡ (((n *ℤ t) +ℤ pos 1) *ℤ y) +ℤ ((n *ℤ s) *ℤ x)
     one n s t x y = ring (plus (times (at 0) (plus (times (at 1) (at 3)) (times (at 2) (at 4)))) (times (num (pos 1)) (at 4)))
         (plus (times (plus (times (at 0) (at 2)) (num (pos 1))) (at 4)) (times (times (at 0) (at 1)) (at 3))) (vars (n ∷ s ∷ t ∷ x ∷ y ∷ [])) refl
 
 -- a mean with side 0 is the crossing place
-pub one_crossing : (s t a b : ℤ) (p q : Vector) → (s *ℤ a) +ℤ (t *ℤ b) ≡ pos 0 → Same (mix s p t q) (mix (pos 0 -ℤ b) p a q)
+pub one_crossing : (s t a b : ℤ) (p q : Vector) → (s *ℤ a) +ℤ (t *ℤ b) ≡ pos 0
+    → Same (mix s p t q) (mix (pos 0 -ℤ b) p a q)
 one_crossing s t a b p q h = record { x = one p.x p.n q.x q.n; y = one p.y p.n q.y q.n }
   where
     equal : (u v d : ℤ) → u -ℤ v ≡ d → d ≡ pos 0 → u ≡ v
@@ -66,7 +73,8 @@ one_crossing s t a b p q h = record { x = one p.x p.n q.x q.n; y = one p.y p.n q
     zero_times : (u v : ℤ) → u ≡ pos 0 → u *ℤ v ≡ pos 0
     zero_times u v e = ap (λ (z : ℤ). z *ℤ v) e ∙ omega (arith, ints)
 
-    one : (x n y m : ℤ) → ((s *ℤ x) +ℤ (t *ℤ y)) *ℤ (((pos 0 -ℤ b) *ℤ n) +ℤ (a *ℤ m)) ≡ (((pos 0 -ℤ b) *ℤ x) +ℤ (a *ℤ y)) *ℤ ((s *ℤ n) +ℤ (t *ℤ m))
+    one : (x n y m : ℤ)
+        → ((s *ℤ x) +ℤ (t *ℤ y)) *ℤ (((pos 0 -ℤ b) *ℤ n) +ℤ (a *ℤ m)) ≡ (((pos 0 -ℤ b) *ℤ x) +ℤ (a *ℤ y)) *ℤ ((s *ℤ n) +ℤ (t *ℤ m))
     one x n y m =
         let B = minus (num (pos 0)) (at 3) in
         let e = ring (minus (times (plus (times (at 0) (at 4)) (times (at 1) (at 6))) (plus (times B (at 5)) (times (at 2) (at 7)))) (times (plus (times B (at 4)) (times (at 2) (at 6))) (plus (times (at 0) (at 5)) (times (at 1) (at 7)))))
@@ -87,7 +95,8 @@ aside_side w e t =
     let f = ap (λ (v : ℤ). t *ℤ v) (side-up w e) in
     omega (arith, ints, a, b, c, d, f)
 
-pub aside_sweep : (w : ℤ) (e : Edge) (t : ℤ) → sweep w (aside w e t) ≡ sweep w (point e.low) +ℤ sweep w (point e.high)
+pub aside_sweep : (w : ℤ) (e : Edge) (t : ℤ)
+    → sweep w (aside w e t) ≡ sweep w (point e.low) +ℤ sweep w (point e.high)
 aside_sweep w e t =
     let m = mix (pos 1) (point e.low) (pos 1) (point e.high) in
     let a = sweep-mix w (pos 1) m t (up w) in
@@ -95,7 +104,8 @@ aside_sweep w e t =
     let c = product_of_zero t (sweep w (up w)) (sweep-up w) in
     omega (arith, ints, a, b, c)
 
-pub scaled_near : (c n zn : ℤ) → c *ℤ ((n *ℤ zn) +ℤ (pos 1 *ℤ pos 2)) ≡ (n *ℤ (c *ℤ zn)) +ℤ (c *ℤ pos 2)
+pub scaled_near : (c n zn : ℤ)
+    → c *ℤ ((n *ℤ zn) +ℤ (pos 1 *ℤ pos 2)) ≡ (n *ℤ (c *ℤ zn)) +ℤ (c *ℤ pos 2)
 scaled_near c n zn = ring (times (at 0) (plus (times (at 1) (at 2)) (times (num (pos 1)) (num (pos 2))))) (plus (times (at 1) (times (at 0) (at 2))) (times (at 0) (num (pos 2)))) (vars (c ∷ n ∷ zn ∷ [])) refl
 
 pub by_equal : {P : Type 0} (a b : ℕ) → (a ≡ b → P) → ((a ≡ b → ⊥) → P) → P

@@ -1,6 +1,7 @@
 -- A certificate over a run of a drawing's straights, with a weight of its events and points, proves the partition rule.
 -- Each of the five parts stands under its own name.
-use Rattle.std.proofs.Common.{length, ◌≡◌, ℕ, suc, ◌<◌, List, ℤ, pos, ◌<ℤ◌, refl, arith, ap, sym, ◌∙◌, ◌⊎◌, inl, inr, subst}
+use Rattle.std.proofs.Common.{length, ◌≡◌, ℕ, suc, ◌<◌, List, ℤ, pos, ◌<ℤ◌, refl, arith, ap, sym}
+use Rattle.std.proofs.Common.{◌∙◌, ◌⊎◌, inl, inr, subst}
 use Rattle.plane.specs.declared.kinds.Point.{Point}
 use Rattle.plane.specs.Lists.{Each, Has}
 use Rattle.plane.specs.Forms.Vectors.{Vector, Place, point, Edge}
@@ -33,7 +34,8 @@ use Rattle.plane.proofs.Turning.CellWalls.{wall, beside_fits}
 use Rattle.plane.proofs.Turning.InnerClasses.{rooted}
 use Rattle.plane.proofs.FaceLemmas.PlacedPoints.{placed_point, placed_is}
 use Rattle.plane.proofs.FaceLemmas.FaceNumbers.{label_before}
-use Rattle.plane.proofs.FaceLemmas.Drawn.{Draws, on_edge, off_edges, off_curves, joined_edges, joined_curves, outer_edges, outer_curves}
+use Rattle.plane.proofs.FaceLemmas.Drawn.{Draws, on_edge, off_edges, off_curves, joined_edges}
+use Rattle.plane.proofs.FaceLemmas.Drawn.{joined_curves, outer_edges, outer_curves}
 use Rattle.plane.proofs.Covers.CurveEdges.{controls_from}
 use Rattle.plane.proofs.Covers.StraightCovers.{straights_apart_is}
 use Rattle.plane.proofs.Linear.EdgePlaces.{place_point}
@@ -60,7 +62,8 @@ module _ (w : ℤ) (pts : List Point) (d : Plan) (E : ℕ → Edge) (steps : Lis
   event_known j l = each_has (λ s. Has s.at pts) steps (r.step j) events (has_nth steps j l)
 
   -- 1: two curves are apart
-  apart : (i j : ℕ) → i < length d.curves → j < length d.curves → (i ≡ j → ⊥) → Apart (curve d i) (curve d j)
+  apart : (i j : ℕ) → i < length d.curves → j < length d.curves → (i ≡ j → ⊥)
+      → Apart (curve d i) (curve d j)
   apart i j li lj differ =
       (straights_apart_is (curve d i) (curve d j) (edges.straight i li) (edges.straight j lj)).1 (λ z Z a b.
       let x = on_edge w (E i) (curve d i) z (edges.edge i li) (edges.straight i li) (run.rise i li) Z a in
@@ -94,7 +97,8 @@ module _ (w : ℤ) (pts : List Point) (d : Plan) (E : ℕ → Edge) (steps : Lis
       omega (arith, e, f)
 
   -- 4: no two points are joined
-  alone : (i j : ℕ) → i < length d.points → j < length d.points → (i ≡ j → ⊥) → Joined d (spot i) (spot j) → ⊥
+  alone : (i j : ℕ) → i < length d.points → j < length d.points → (i ≡ j → ⊥)
+      → Joined d (spot i) (spot j) → ⊥
   alone i j li lj differ path =
       let P = place_point (object d i) in
       let e = joined_label r run law lab cert.matched (spot i) (spot j) (joined_edges d r run draws (spot i) (spot j) P path) P (place_point (object d j)) (placed i li).0 in
@@ -103,10 +107,12 @@ module _ (w : ℤ) (pts : List Point) (d : Plan) (E : ℕ → Edge) (steps : Lis
       differ (omega (arith, e, f, g))
 
   -- 5: each place is outer or joined to a point
-  linked_outside : (z : Vector) → Place z → IsOffEdges r z → Linked r (sector r z) corner → IsOuter d z
+  linked_outside : (z : Vector) → Place z → IsOffEdges r z → Linked r (sector r z) corner
+      → IsOuter d z
   linked_outside z Z free l = outer_curves d r run draws z Z free (linked_outer r run law positive z Z free l)
 
-  filled : (z : Vector) → Place z → rule.IsOff d z → IsOuter d z ⊎ ((j : ℕ) × (j < length d.points) × Joined d z (spot j))
+  filled : (z : Vector) → Place z → rule.IsOff d z
+      → IsOuter d z ⊎ ((j : ℕ) × (j < length d.points) × Joined d z (spot j))
   filled z Z none =
       let free = off_edges d r run draws z Z none in
       let c = sector r z in

@@ -1,6 +1,7 @@
 -- A point with a position in a live list is off the edges, in the cell of that position.
 -- Only the edges beside the position are asked; the order of the live list does the rest.
-use Rattle.std.proofs.Common.{◌≡◌, ℕ, zero, suc, ◌<◌, ◌≤◌, List, [], ◌∷◌, length, ℤ, pos, ◌<ℤ◌, ◌≤ℤ◌, refl, arith, subst, sym, ◌∙◌}
+use Rattle.std.proofs.Common.{◌≡◌, ℕ, zero, suc, ◌<◌, ◌≤◌, List, [], ◌∷◌, length, ℤ, pos, ◌<ℤ◌}
+use Rattle.std.proofs.Common.{◌≤ℤ◌, refl, arith, subst, sym, ◌∙◌}
 use Rattle.std.proofs.lemmas.Int.{ints, by_lt_z}
 use Rattle.plane.specs.declared.kinds.Point.{Point}
 use Rattle.plane.specs.Lists.{Has, Neighbours}
@@ -23,7 +24,8 @@ use Rattle.plane.proofs.Turning.ListPlaces.{at_less}
 abbrev Falling : (ℕ → ℤ) → List ℕ → Type 0
 Falling f = Neighbours (λ a b. pos 0 ≤ℤ f b → pos 0 <ℤ f a)
 
-parts_zero : (f : ℕ → ℤ) (es : List ℕ) (e : ℕ) → Falling f es → At es 0 e → f e <ℤ pos 0 → Parts f 0 es
+parts_zero : (f : ℕ → ℤ) (es : List ℕ) (e : ℕ) → Falling f es → At es 0 e → f e <ℤ pos 0
+    → Parts f 0 es
 parts_zero f [] e n a h = absurd a
 parts_zero f (d ∷ []) e n a h = (subst (λ (x : ℕ). f x <ℤ pos 0) a h, tt)
 parts_zero f (d ∷ (c ∷ es)) e n a h =
@@ -31,12 +33,15 @@ parts_zero f (d ∷ (c ∷ es)) e n a h =
     let k : f c <ℤ pos 0 = by_lt_z (f c) (pos 0) (λ l. l) (λ (l : pos 0 ≤ℤ f c). let m = n.0 l in absurd (omega (arith, ints, m, g))) in
     (g, parts_zero f (c ∷ es) c n.1 refl k)
 
-parts_from : (f : ℕ → ℤ) (es : List ℕ) → Falling f es → ((e : ℕ) → At es 0 e → f e <ℤ pos 0) → Parts f 0 es
+parts_from : (f : ℕ → ℤ) (es : List ℕ) → Falling f es → ((e : ℕ) → At es 0 e → f e <ℤ pos 0)
+    → Parts f 0 es
 parts_from f [] n below = tt
 parts_from f (e ∷ es) n below = parts_zero f (e ∷ es) e n refl (below e refl)
 
 -- an order cut at place i: only the edges beside the cut are asked
-parts_at : (f : ℕ → ℤ) (es : List ℕ) (i : ℕ) → i ≤ length es → Falling f es → ((e : ℕ) → AtBefore es i e → pos 0 <ℤ f e) → ((e : ℕ) → At es i e → f e <ℤ pos 0) → Parts f i es
+parts_at : (f : ℕ → ℤ) (es : List ℕ) (i : ℕ) → i ≤ length es → Falling f es
+    → ((e : ℕ) → AtBefore es i e → pos 0 <ℤ f e) → ((e : ℕ) → At es i e → f e <ℤ pos 0)
+    → Parts f i es
 parts_at f es zero l n above below = parts_from f es n below
 parts_at f [] (suc i) l n above below = absurd (omega (arith, l))
 parts_at f (e ∷ es) (suc zero) l n above below = (above e refl, parts_from f es n.1 below)
@@ -72,7 +77,8 @@ located r v k i p = record {
 
 module _ (r : Replay) (run : IsRun r) (law : IsLawful r) where
   -- the point is inside its cell
-  pub located_centre : (pts : List Point) (v : Point) (k i : ℕ) → Weight r.weight pts → Has v pts → ((j : ℕ) → j < r.steps → Has (r.step j).at pts)
+  pub located_centre : (pts : List Point) (v : Point) (k i : ℕ) → Weight r.weight pts → Has v pts
+      → ((j : ℕ) → j < r.steps → Has (r.step j).at pts)
       → IsLocated r v k i → IsCentre r (record { strip = k; index = i }) (point v)
   located_centre pts v k i heavy known events p =
       let fits = p.fits in
@@ -90,7 +96,8 @@ module _ (r : Replay) (run : IsRun r) (law : IsLawful r) where
   located_is k i v p = record { strip = p.fits; index = p.index }
 
   -- the point is off the edges, in the cell of its position
-  pub located_point : (pts : List Point) (v : Point) (k i : ℕ) → Weight r.weight pts → Has v pts → ((j : ℕ) → j < r.steps → Has (r.step j).at pts)
+  pub located_point : (pts : List Point) (v : Point) (k i : ℕ) → Weight r.weight pts → Has v pts
+      → ((j : ℕ) → j < r.steps → Has (r.step j).at pts)
       → IsLocated r v k i → IsOffEdges r (point v) × (sector r (point v) ≡ record { strip = k; index = i })
   located_point pts v k i heavy known events p =
       let m = located_centre pts v k i heavy known events p in
@@ -99,6 +106,7 @@ module _ (r : Replay) (run : IsRun r) (law : IsLawful r) where
   pub placed_is : (k i : ℕ) (v : Point) → IsPlaced r v k i → IsSector r (record { strip = k; index = i })
   placed_is k i v p = located_is k i v (located r v k i p)
 
-  pub placed_point : (pts : List Point) (v : Point) (k i : ℕ) → Weight r.weight pts → Has v pts → ((j : ℕ) → j < r.steps → Has (r.step j).at pts)
+  pub placed_point : (pts : List Point) (v : Point) (k i : ℕ) → Weight r.weight pts → Has v pts
+      → ((j : ℕ) → j < r.steps → Has (r.step j).at pts)
       → IsPlaced r v k i → IsOffEdges r (point v) × (sector r (point v) ≡ record { strip = k; index = i })
   placed_point pts v k i heavy known events p = located_point pts v k i heavy known events (located r v k i p)

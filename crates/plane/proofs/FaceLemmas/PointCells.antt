@@ -46,7 +46,8 @@ module _ (v : ℤ) (d : Plan) (E : ℕ → Edge) (steps : List Step) (over : IsR
     pub chosen_draws : Draws d swept
     chosen_draws = record { count = refl; edges = over.edges }
 
-    pub chosen_spot : (a : Point) (k i : ℕ) → Has a more → IsLocated r a k i → replays.IsOffEdges swept (point a) × (sector swept (point a) ≡ spot k i)
+    pub chosen_spot : (a : Point) (k i : ℕ) → Has a more → IsLocated r a k i
+        → replays.IsOffEdges swept (point a) × (sector swept (point a) ≡ spot k i)
     chosen_spot a k i h l =
         located_point swept chosen_run chosen_law chosen.points a k i chosen.heavy (chosen.known a h) (event_known (length d.curves) E steps more chosen)
         (located_to v chosen.weight (length d.curves) E steps a k i l)
@@ -56,7 +57,8 @@ module _ (v : ℤ) (d : Plan) (E : ℕ → Edge) (steps : List Step) (over : IsR
       let more = a ∷ [] in
       off_curves d (swept more) (chosen_run more) (chosen_draws more) (point a) (place_point a) (chosen_spot more a k i (inl refl) l).0
 
-  pub points_linked : (a b : Point) (k i l j : ℕ) → IsLocated r a k i → IsLocated r b l j → Joined d (point a) (point b) ↔ Linked r (spot k i) (spot l j)
+  pub points_linked : (a b : Point) (k i l j : ℕ) → IsLocated r a k i → IsLocated r b l j
+      → Joined d (point a) (point b) ↔ Linked r (spot k i) (spot l j)
   points_linked a b k i l j at_a at_b =
       let more = a ∷ b ∷ [] in
       let w = (chosen more).weight in
@@ -69,7 +71,8 @@ module _ (v : ℤ) (d : Plan) (E : ℕ → Edge) (steps : List Step) (over : IsR
             (subst (λ (c : Sector). Linked (swept more) c (spot l j)) (sym A.1) (linked_to v w (length d.curves) E steps (spot k i) (spot l j) q)))),
       )
 
-  pub point_outer : (a : Point) (k i : ℕ) → IsLocated r a k i → IsOuter d (point a) ↔ Linked r (spot k i) corner
+  pub point_outer : (a : Point) (k i : ℕ) → IsLocated r a k i
+      → IsOuter d (point a) ↔ Linked r (spot k i) corner
   point_outer a k i at_a =
       let more = a ∷ [] in
       let w = (chosen more).weight in

@@ -1,6 +1,7 @@
 -- Forms that are above 0 off an edge.
 -- Some place so near to a given one keeps all their signs.
-use Rattle.std.proofs.Common.{◌≡◌, ℕ, zero, suc, ◌<◌, ℤ, pos, negsuc, ◌+ℤ◌, ◌*ℤ◌, ◌-ℤ◌, ◌<ℤ◌, ◌≤ℤ◌, [], ◌∷◌, refl, arith, ap, sym, ◌∙◌, subst}
+use Rattle.std.proofs.Common.{◌≡◌, ℕ, zero, suc, ◌<◌, ℤ, pos, negsuc, ◌+ℤ◌, ◌*ℤ◌, ◌-ℤ◌, ◌<ℤ◌, ◌≤ℤ◌}
+use Rattle.std.proofs.Common.{[], ◌∷◌, refl, arith, ap, sym, ◌∙◌, subst}
 use Rattle.std.proofs.lemmas.Int.{ints, by_lt_z}
 use Rattle.plane.specs.Forms.Vectors.{Vector, Place, point, mix, Edge, side, sweep, On, HitsEdge}
 use Rattle.plane.proofs.Algebra.Laws.{weight_at_most}
@@ -23,22 +24,26 @@ value w e under v = pos 0 -ℤ side e v
 value w e early v = (sweep w (point e.low) *ℤ v.n) -ℤ sweep w v
 value w e late v = sweep w v -ℤ (sweep w (point e.high) *ℤ v.n)
 
-spread : (c s a t b m n : ℤ) → (c *ℤ ((s *ℤ m) +ℤ (t *ℤ n))) -ℤ ((s *ℤ a) +ℤ (t *ℤ b)) ≡ (s *ℤ ((c *ℤ m) -ℤ a)) +ℤ (t *ℤ ((c *ℤ n) -ℤ b))
+spread : (c s a t b m n : ℤ)
+    → (c *ℤ ((s *ℤ m) +ℤ (t *ℤ n))) -ℤ ((s *ℤ a) +ℤ (t *ℤ b)) ≡ (s *ℤ ((c *ℤ m) -ℤ a)) +ℤ (t *ℤ ((c *ℤ n) -ℤ b))
 spread c s a t b m n =
     ring (minus (times (at 0) (plus (times (at 1) (at 5)) (times (at 3) (at 6)))) (plus (times (at 1) (at 2)) (times (at 3) (at 4))))
     (plus (times (at 1) (minus (times (at 0) (at 5)) (at 2))) (times (at 3) (minus (times (at 0) (at 6)) (at 4)))) (vars (c ∷ s ∷ a ∷ t ∷ b ∷ m ∷ n ∷ [])) refl
 
-spread_back : (c s a t b m n : ℤ) → ((s *ℤ a) +ℤ (t *ℤ b)) -ℤ (c *ℤ ((s *ℤ m) +ℤ (t *ℤ n))) ≡ (s *ℤ (a -ℤ (c *ℤ m))) +ℤ (t *ℤ (b -ℤ (c *ℤ n)))
+spread_back : (c s a t b m n : ℤ)
+    → ((s *ℤ a) +ℤ (t *ℤ b)) -ℤ (c *ℤ ((s *ℤ m) +ℤ (t *ℤ n))) ≡ (s *ℤ (a -ℤ (c *ℤ m))) +ℤ (t *ℤ (b -ℤ (c *ℤ n)))
 spread_back c s a t b m n =
     ring (minus (plus (times (at 1) (at 2)) (times (at 3) (at 4))) (times (at 0) (plus (times (at 1) (at 5)) (times (at 3) (at 6)))))
     (plus (times (at 1) (minus (at 2) (times (at 0) (at 5)))) (times (at 3) (minus (at 4) (times (at 0) (at 6))))) (vars (c ∷ s ∷ a ∷ t ∷ b ∷ m ∷ n ∷ [])) refl
 
-spread_less : (s a t b : ℤ) → pos 0 -ℤ ((s *ℤ a) +ℤ (t *ℤ b)) ≡ (s *ℤ (pos 0 -ℤ a)) +ℤ (t *ℤ (pos 0 -ℤ b))
+spread_less : (s a t b : ℤ)
+    → pos 0 -ℤ ((s *ℤ a) +ℤ (t *ℤ b)) ≡ (s *ℤ (pos 0 -ℤ a)) +ℤ (t *ℤ (pos 0 -ℤ b))
 spread_less s a t b =
     let zero = num (pos 0) in
     ring (minus zero (plus (times (at 0) (at 1)) (times (at 2) (at 3)))) (plus (times (at 0) (minus zero (at 1))) (times (at 2) (minus zero (at 3)))) (vars (s ∷ a ∷ t ∷ b ∷ [])) refl
 
-pub value_mix : (w : ℤ) (e : Edge) (i : Way) (s : ℤ) (p : Vector) (t : ℤ) (q : Vector) → value w e i (mix s p t q) ≡ (s *ℤ value w e i p) +ℤ (t *ℤ value w e i q)
+pub value_mix : (w : ℤ) (e : Edge) (i : Way) (s : ℤ) (p : Vector) (t : ℤ) (q : Vector)
+    → value w e i (mix s p t q) ≡ (s *ℤ value w e i p) +ℤ (t *ℤ value w e i q)
 value_mix w e over s p t q = side-mix e s p t q
 value_mix w e under s p t q = ap (λ (v : ℤ). pos 0 -ℤ v) (side-mix e s p t q) ∙ spread_less s (side e p) t (side e q)
 value_mix w e early s p t q =
@@ -52,7 +57,8 @@ value_on w e under v on = let l = on.line in omega (arith, ints, l)
 value_on w e early v on = let l = on.low in omega (arith, ints, l)
 value_on w e late v on = let l = on.high in omega (arith, ints, l)
 
-pub off_way : (w : ℤ) (e : Edge) (z : Vector) → (On w e z → ⊥) → (i : Way) × (pos 0 <ℤ value w e i z)
+pub off_way : (w : ℤ) (e : Edge) (z : Vector) → (On w e z → ⊥)
+    → (i : Way) × (pos 0 <ℤ value w e i z)
 off_way w e z off = by_sign (side e z)
     (λ (l : side e z <ℤ pos 0). (under, omega (arith, ints, l)))
     (λ (l : side e z ≡ pos 0). by_lt_z (sweep w z) (sweep w (point e.low) *ℤ z.n)
@@ -62,11 +68,13 @@ off_way w e z off = by_sign (side e z)
     (λ (b : sweep w z ≤ℤ (sweep w (point e.high) *ℤ z.n)). absurd (off record { line = l; low = a; high = b }))))
     (λ (l : pos 0 <ℤ side e z). (over, l))
 
-positive_sum : (s a t b : ℤ) → pos 0 ≤ℤ s → pos 0 ≤ℤ t → pos 0 <ℤ (s +ℤ t) → pos 0 <ℤ a → pos 0 <ℤ b → pos 0 <ℤ ((s *ℤ a) +ℤ (t *ℤ b))
+positive_sum : (s a t b : ℤ) → pos 0 ≤ℤ s → pos 0 ≤ℤ t → pos 0 <ℤ (s +ℤ t) → pos 0 <ℤ a → pos 0 <ℤ b
+    → pos 0 <ℤ ((s *ℤ a) +ℤ (t *ℤ b))
 positive_sum s a t b hs ht some ha hb = let x = weight_at_most s a hs ha in let y = weight_at_most t b ht hb in omega (arith, ints, x, y, some)
 
 -- one way at both ends: no hit
-pub way_clear : (w : ℤ) (e : Edge) (i : Way) (p q : Vector) → Place p → Place q → pos 0 <ℤ value w e i p → pos 0 <ℤ value w e i q → HitsEdge w p q e → ⊥
+pub way_clear : (w : ℤ) (e : Edge) (i : Way) (p q : Vector) → Place p → Place q
+    → pos 0 <ℤ value w e i p → pos 0 <ℤ value w e i q → HitsEdge w p q e → ⊥
 way_clear w e i p q P Q hp hq = mix_clear w e p q P Q (λ s t hs ht some on.
     let a = positive_sum s (value w e i p) t (value w e i q) hs ht some hp hq in
     let b = value_on w e i (mix s p t q) on in
@@ -77,7 +85,8 @@ way_clear w e i p q P Q hp hq = mix_clear w e p q P Q (λ s t hs ht some on.
 abbrev pub near : ℤ → Vector → Vector → Vector
 near n z d = mix n z (pos 1) d
 
-pub near_keeps : (w : ℤ) (e : Edge) (i : Way) (n : ℤ) (z d : Vector) → pos 0 ≤ℤ n → (pos 0 -ℤ value w e i d) <ℤ n → pos 0 <ℤ value w e i z → pos 0 <ℤ value w e i (near n z d)
+pub near_keeps : (w : ℤ) (e : Edge) (i : Way) (n : ℤ) (z d : Vector) → pos 0 ≤ℤ n
+    → (pos 0 -ℤ value w e i d) <ℤ n → pos 0 <ℤ value w e i z → pos 0 <ℤ value w e i (near n z d)
 near_keeps w e i n z d least large h =
     let a = weight_at_most n (value w e i z) least h in
     let b = value_mix w e i n z (pos 1) d in
@@ -86,7 +95,8 @@ near_keeps w e i n z d least large h =
     plain : (v n a d : ℤ) → n ≤ℤ a → v ≡ a +ℤ (pos 1 *ℤ d) → (pos 0 -ℤ d) <ℤ n → pos 0 <ℤ v
     plain v n a d h e l = omega (arith, ints)
 
-pub near_zero : (w : ℤ) (e : Edge) (i : Way) (n : ℤ) (z d : Vector) → value w e i z ≡ pos 0 → pos 0 <ℤ value w e i d → pos 0 <ℤ value w e i (near n z d)
+pub near_zero : (w : ℤ) (e : Edge) (i : Way) (n : ℤ) (z d : Vector) → value w e i z ≡ pos 0
+    → pos 0 <ℤ value w e i d → pos 0 <ℤ value w e i (near n z d)
 near_zero w e i n z d none h =
     let b = value_mix w e i n z (pos 1) d in
     let c = ap (λ (v : ℤ). n *ℤ v) none in
@@ -126,7 +136,8 @@ large w E (suc m) d =
     more : (a b c : ℤ) → a <ℤ b → pos 0 ≤ℤ c → a <ℤ (b +ℤ c)
     more a b c h k = omega (arith, ints)
 
-    last : (n a b c e : ℤ) (v : Way → ℤ) → v over ≡ a → v under ≡ b → v early ≡ c → v late ≡ e → pos 0 <ℤ n
+    last : (n a b c e : ℤ) (v : Way → ℤ) → v over ≡ a → v under ≡ b → v early ≡ c → v late ≡ e
+        → pos 0 <ℤ n
         → ((pos 0 -ℤ a) ≤ℤ (a *ℤ a)) × (pos 0 ≤ℤ (a *ℤ a)) → ((pos 0 -ℤ b) ≤ℤ (b *ℤ b)) × (pos 0 ≤ℤ (b *ℤ b)) → ((pos 0 -ℤ c) ≤ℤ (c *ℤ c)) × (pos 0 ≤ℤ (c *ℤ c)) → ((pos 0 -ℤ e) ≤ℤ (e *ℤ e)) × (pos 0 ≤ℤ (e *ℤ e))
         → (i : Way) → (pos 0 -ℤ v i) <ℤ (n +ℤ (((a *ℤ a) +ℤ (b *ℤ b)) +ℤ ((c *ℤ c) +ℤ (e *ℤ e))))
     last n a b c e v va vb vc ve h (xa, ya) (xb, yb) (xc, yc) (xe, ye) over = omega (arith, ints)

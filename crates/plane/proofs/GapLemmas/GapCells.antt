@@ -1,5 +1,7 @@
 -- Closed gaps are the neighbours of the live lists, and so what lies across a cell and what touches the border.
-use Rattle.std.proofs.Common.{◌≡◌, ◌↔◌, ℕ, zero, suc, ◌+◌, ◌<◌, ◌≤◌, ◌⊎◌, Bool, true, cond, Option, Some, None, inl, inr, List, [], ◌∷◌, length, take, get_or, refl, arith, ap, sym, ◌∙◌, subst, ℤ}
+use Rattle.std.proofs.Common.{◌≡◌, ◌↔◌, ℕ, zero, suc, ◌+◌, ◌<◌, ◌≤◌, ◌⊎◌, Bool, true, cond, Option}
+use Rattle.std.proofs.Common.{Some, None, inl, inr, List, [], ◌∷◌, length, take, get_or, refl}
+use Rattle.std.proofs.Common.{arith, ap, sym, ◌∙◌, subst, ℤ}
 use Rattle.plane.specs.Lists.{Has}
 use Rattle.plane.specs.Forms.Vectors.{Edge}
 use Rattle.plane.specs.Runs.Moves.{Move, steps_from, live_from, Fit}
@@ -7,7 +9,8 @@ use Rattle.plane.specs.Faces.Replays.{no_step, Replay, replay}
 use Rattle.plane.specs.Faces.Cells.{Sector, IsSector}
 use Rattle.plane.specs.Faces.Halves.{Half, under, over, At, AtBefore}
 use Rattle.plane.specs.Faces.Classes.{Across, Touches}
-use Rattle.plane.specs.Runs.Gaps.{Gap, opened, has_side, is_real, no_gap, closed_gaps, Closes, GapBetween, AtBorder}
+use Rattle.plane.specs.Runs.Gaps.{Gap, opened, has_side, is_real, no_gap, closed_gaps, Closes}
+use Rattle.plane.specs.Runs.Gaps.{GapBetween, AtBorder}
 use Rattle.plane.proofs.Turning.Numbering.{neighbours_across, first_touches, last_touches}
 use Rattle.plane.proofs.Turning.ListPlaces.{at_less, at_one}
 use Rattle.plane.proofs.MoveLemmas.MadeSteps.{list_is, steps_length}
@@ -29,7 +32,8 @@ some_same d e q = ap (λ (o : Option ℕ). there o) q
     there None = d
     there (Some x) = x
 
-pub pair_across : (l : Option ℕ) (xs : List ℕ) (d e : ℕ) → Has (Some d, Some e) (beside l xs None) → ((l ≡ Some d) × At xs 0 e) ⊎ ((i : ℕ) × At xs i d × At xs (suc i) e)
+pub pair_across : (l : Option ℕ) (xs : List ℕ) (d e : ℕ) → Has (Some d, Some e) (beside l xs None)
+    → ((l ≡ Some d) × At xs 0 e) ⊎ ((i : ℕ) × At xs i d × At xs (suc i) e)
 pair_across l [] d e (inl q) = absurd (some_none e (ap (λ (x : Sides). x.1) q))
 pair_across l [] d e (inr k) = absurd k
 pair_across l (x ∷ xs) d e (inl q) = inl (sym (ap (λ (y : Sides). y.0) q), some_same e x (ap (λ (y : Sides). y.1) q))
@@ -38,13 +42,15 @@ pair_across l (x ∷ xs) d e (inr k) = elim (pair_across (Some x) xs d e k) [
   | inr b ↦ inr (suc b.0, b.1, b.2)
 ]
 
-across_pair : (l : Option ℕ) (xs : List ℕ) (i d e : ℕ) → At xs i d → At xs (suc i) e → Has (Some d, Some e) (beside l xs None)
+across_pair : (l : Option ℕ) (xs : List ℕ) (i d e : ℕ) → At xs i d → At xs (suc i) e
+    → Has (Some d, Some e) (beside l xs None)
 across_pair l [] i d e a b = absurd a
 across_pair l (x ∷ []) zero d e a b = absurd b
 across_pair l (x ∷ (y ∷ xs)) zero d e a b = inr (inl (ap (λ (z : ℕ). (Some z, Some e)) a ∙ ap (λ (z : ℕ). (Some x, Some z)) b))
 across_pair l (x ∷ xs) (suc i) d e a b = inr (across_pair (Some x) xs i d e a b)
 
-pair_first : (l : Option ℕ) (xs : List ℕ) (e : ℕ) → Has (None, Some e) (beside l xs None) → (l ≡ None) × At xs 0 e
+pair_first : (l : Option ℕ) (xs : List ℕ) (e : ℕ) → Has (None, Some e) (beside l xs None)
+    → (l ≡ None) × At xs 0 e
 pair_first l [] e (inl q) = absurd (some_none e (ap (λ (x : Sides). x.1) q))
 pair_first l [] e (inr k) = absurd k
 pair_first l (x ∷ xs) e (inl q) = (sym (ap (λ (y : Sides). y.0) q), some_same e x (ap (λ (y : Sides). y.1) q))
@@ -54,7 +60,8 @@ first_pair : (xs : List ℕ) (e : ℕ) → At xs 0 e → Has (None, Some e) (bes
 first_pair [] e a = absurd a
 first_pair (x ∷ xs) e a = inl (ap (λ (z : ℕ). (None, Some z)) a)
 
-pair_last : (l : Option ℕ) (xs : List ℕ) (d : ℕ) → Has (Some d, None) (beside l xs None) → ((l ≡ Some d) × (xs ≡ [])) ⊎ ((i : ℕ) × (suc i ≡ length xs) × At xs i d)
+pair_last : (l : Option ℕ) (xs : List ℕ) (d : ℕ) → Has (Some d, None) (beside l xs None)
+    → ((l ≡ Some d) × (xs ≡ [])) ⊎ ((i : ℕ) × (suc i ≡ length xs) × At xs i d)
 pair_last l [] d (inl q) = inl (sym (ap (λ (x : Sides). x.0) q), refl)
 pair_last l [] d (inr k) = absurd k
 pair_last l (x ∷ xs) d (inl q) = absurd (some_none x (sym (ap (λ (y : Sides). y.1) q)))
@@ -63,7 +70,8 @@ pair_last l (x ∷ xs) d (inr k) = elim (pair_last (Some x) xs d k) [
   | inr b ↦ (let q = b.1 in inr (suc b.0, omega (arith, q), b.2))
 ]
 
-last_pair : (l : Option ℕ) (xs : List ℕ) (i d : ℕ) → suc i ≡ length xs → At xs i d → Has (Some d, None) (beside l xs None)
+last_pair : (l : Option ℕ) (xs : List ℕ) (i d : ℕ) → suc i ≡ length xs → At xs i d
+    → Has (Some d, None) (beside l xs None)
 last_pair l [] i d q a = absurd a
 last_pair l (x ∷ []) zero d q a = inr (inl (ap (λ (z : ℕ). (Some z, None)) a))
 last_pair l (x ∷ (y ∷ xs)) zero d q a = absurd (omega (arith, q))
@@ -78,15 +86,18 @@ module _ (vs : List Move) (fit : Fit [] vs) (end : live_from [] vs ≡ []) where
   abbrev now : ℕ → List ℕ
   now k = live_from [] (take k vs)
 
-  closes : (l u : Option ℕ) → Closes vs l u → (k : ℕ) × (k ≤ length vs) × Has (l, u) (beside None (now k) None)
+  closes : (l u : Option ℕ) → Closes vs l u
+      → (k : ℕ) × (k ≤ length vs) × Has (l, u) (beside None (now k) None)
   closes l u (g, h, a, b) = closed_sides (l, u) 0 [] (no_gap ∷ []) vs fit refl g h (ap (λ (o : Option ℕ). (o, g.upper)) a ∙ ap (λ (o : Option ℕ). (l, o)) b)
 
-  closed_by : (x : Sides) → has_side x.0 x.1 ≡ true → (k : ℕ) → k ≤ length vs → Has x (beside None (now k) None) → Closes vs x.0 x.1
+  closed_by : (x : Sides) → has_side x.0 x.1 ≡ true → (k : ℕ) → k ≤ length vs
+      → Has x (beside None (now k) None) → Closes vs x.0 x.1
   closed_by x r k l h =
       let (g, i, q) = sides_closed x 0 [] (no_gap ∷ []) vs fit end refl r k l h in
       (g, i, ap (λ (y : Sides). y.0) q, ap (λ (y : Sides). y.1) q)
 
-  pub across_closed : (d e : ℕ) → Closes vs (Some d) (Some e) ↔ ((k : ℕ) × (i : ℕ) × (k ≤ length vs) × At (now k) i d × At (now k) (suc i) e)
+  pub across_closed : (d e : ℕ)
+      → Closes vs (Some d) (Some e) ↔ ((k : ℕ) × (i : ℕ) × (k ≤ length vs) × At (now k) i d × At (now k) (suc i) e)
   across_closed d e = (
     (λ c. let (k, l, h) = closes (Some d) (Some e) c in elim (pair_across None (now k) d e h) [
       | inl a ↦ absurd (some_none d (sym a.0))
@@ -95,13 +106,15 @@ module _ (vs : List Move) (fit : Fit [] vs) (end : live_from [] vs ≡ []) where
     (λ a. let (k, i, l, x, y) = a in closed_by (Some d, Some e) refl k l (across_pair None (now k) i d e x y)),
   )
 
-  pub lowest_closed : (e : ℕ) → Closes vs None (Some e) ↔ ((k : ℕ) × (k ≤ length vs) × At (now k) 0 e)
+  pub lowest_closed : (e : ℕ)
+      → Closes vs None (Some e) ↔ ((k : ℕ) × (k ≤ length vs) × At (now k) 0 e)
   lowest_closed e = (
     (λ c. let (k, l, h) = closes None (Some e) c in (k, l, (pair_first None (now k) e h).1)),
     (λ a. let (k, l, x) = a in closed_by (None, Some e) refl k l (first_pair (now k) e x)),
   )
 
-  pub highest_closed : (d : ℕ) → Closes vs (Some d) None ↔ ((k : ℕ) × (i : ℕ) × (k ≤ length vs) × (suc i ≡ length (now k)) × At (now k) i d)
+  pub highest_closed : (d : ℕ)
+      → Closes vs (Some d) None ↔ ((k : ℕ) × (i : ℕ) × (k ≤ length vs) × (suc i ≡ length (now k)) × At (now k) i d)
   highest_closed d = (
     (λ c. let (k, l, h) = closes (Some d) None c in elim (pair_last None (now k) d h) [
       | inl a ↦ absurd (some_none d (sym a.0))
@@ -110,7 +123,8 @@ module _ (vs : List Move) (fit : Fit [] vs) (end : live_from [] vs ≡ []) where
     (λ a. let (k, i, l, q, x) = a in closed_by (Some d, None) refl k l (last_pair None (now k) i d q x)),
   )
 
-  pub new_is_closed : (g : Gap) → Has g (closed_gaps vs) ↔ ((is_real g ≡ true) × (k : ℕ) × (k < length vs) × Has g (opened k (get_or (steps_from [] vs) k no_step)))
+  pub new_is_closed : (g : Gap)
+      → Has g (closed_gaps vs) ↔ ((is_real g ≡ true) × (k : ℕ) × (k < length vs) × Has g (opened k (get_or (steps_from [] vs) k no_step)))
   new_is_closed g = (
     (λ h. let (r, c) = closed_new g 0 [] (no_gap ∷ []) vs h in elim c [
       | inl b ↦ absurd (not_real b r)
@@ -134,7 +148,8 @@ module _ (vs : List Move) (fit : Fit [] vs) (end : live_from [] vs ≡ []) where
     same_list : (k : ℕ) → k ≤ length vs → r.list k ≡ now k
     same_list k l = list_is [] vs k l
 
-    cell_across : (k i d e : ℕ) → k ≤ length vs → AtBefore (r.list k) i d → At (r.list k) i e → Closes vs (Some d) (Some e)
+    cell_across : (k i d e : ℕ) → k ≤ length vs → AtBefore (r.list k) i d → At (r.list k) i e
+        → Closes vs (Some d) (Some e)
     cell_across k zero d e l a b = absurd a
     cell_across k (suc i) d e l a b = (across_closed d e).1 (k, i, l, subst (λ (xs : List ℕ). At xs i d) (same_list k l) a, subst (λ (xs : List ℕ). At xs (suc i) e) (same_list k l) b)
 
@@ -165,11 +180,13 @@ module _ (vs : List Move) (fit : Fit [] vs) (end : live_from [] vs ≡ []) where
         let n = steps_length [] vs in
         last_touches r k (omega (arith, l, n)) i d (q ∙ ap (λ (xs : List ℕ). length xs) (sym (same_list k l))) (subst (λ (xs : List ℕ). At xs i d) (sym (same_list k l)) a)
 
-    cell_low : (k i e : ℕ) → k ≤ length vs → At (r.list k) i e → ((i ≡ 0) ⊎ (i ≡ length (r.list k))) → Closes vs None (Some e)
+    cell_low : (k i e : ℕ) → k ≤ length vs → At (r.list k) i e → ((i ≡ 0) ⊎ (i ≡ length (r.list k)))
+        → Closes vs None (Some e)
     cell_low k i e l a (inl q) = (lowest_closed e).1 (k, l, subst (λ (xs : List ℕ). At xs 0 e) (same_list k l) (subst (λ (j : ℕ). At (r.list k) j e) q a))
     cell_low k i e l a (inr q) = let n = at_less (r.list k) i e a in absurd (omega (arith, n, q))
 
-    cell_high : (k i d : ℕ) → k ≤ length vs → AtBefore (r.list k) i d → ((i ≡ 0) ⊎ (i ≡ length (r.list k))) → Closes vs (Some d) None
+    cell_high : (k i d : ℕ) → k ≤ length vs → AtBefore (r.list k) i d
+        → ((i ≡ 0) ⊎ (i ≡ length (r.list k))) → Closes vs (Some d) None
     cell_high k zero d l a q = absurd a
     cell_high k (suc i) d l a (inl q) = absurd (omega (arith, q))
     cell_high k (suc i) d l a (inr q) = (highest_closed d).1 (k, i, l, q ∙ ap (λ (xs : List ℕ). length xs) (same_list k l), subst (λ (xs : List ℕ). At xs i d) (same_list k l) a)

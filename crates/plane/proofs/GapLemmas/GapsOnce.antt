@@ -1,22 +1,27 @@
 -- Gaps move by move, and no gap is closed twice where no live list repeats an edge.
-use Rattle.std.proofs.Common.{◌≡◌, ℕ, suc, ◌+◌, ◌<◌, ◌≤◌, ◌⊎◌, Bool, true, cond, Option, Some, None, inl, inr, List, [], ◌∷◌, ◌++◌, length, take, drop, refl, arith, append_assoc, ap, sym, ◌∙◌, subst, get_or}
+use Rattle.std.proofs.Common.{◌≡◌, ℕ, suc, ◌+◌, ◌<◌, ◌≤◌, ◌⊎◌, Bool, true, cond, Option, Some, None}
+use Rattle.std.proofs.Common.{inl, inr, List, [], ◌∷◌, ◌++◌, length, take, drop, refl, arith}
+use Rattle.std.proofs.Common.{append_assoc, ap, sym, ◌∙◌, subst, get_or}
 use Rattle.std.proofs.lemmas.List.{append-nil}
 use Rattle.std.proofs.lemmas.List.Elements.{filter-append}
 use Rattle.std.specs.List.{filter}
 use Rattle.plane.specs.Lists.{Has, Once}
 use Rattle.plane.specs.Runs.Steps.{Step, after}
 use Rattle.plane.specs.Runs.Moves.{Move, step_of, live_from}
-use Rattle.plane.specs.Runs.Gaps.{Gap, first_or, last_or, gaps_between, opened, is_real, next_gaps, closed_at, gaps_from, closed_from, no_gap, open_gaps, closed_gaps}
+use Rattle.plane.specs.Runs.Gaps.{Gap, first_or, last_or, gaps_between, opened, is_real, next_gaps}
+use Rattle.plane.specs.Runs.Gaps.{closed_at, gaps_from, closed_from, no_gap, open_gaps, closed_gaps}
 use Rattle.plane.proofs.ListLemmas.Lists.{has_front, has_back, has_append, once_front, once_back}
 use Rattle.plane.proofs.MoveLemmas.MadeSteps.{once_apart, once_append}
 use Rattle.plane.proofs.GapLemmas.GapSides.{Sides, sides, beside}
 use Rattle.plane.specs.Faces.Replays.{no_step}
 use Rattle.plane.specs.Runs.Moves.{Fit, steps_from}
-use Rattle.plane.proofs.GapLemmas.ClosedGaps.{closed_sides, closed_new, has_filter, filter_has, filter_once, whole_three, closed_was, after_move}
+use Rattle.plane.proofs.GapLemmas.ClosedGaps.{closed_sides, closed_new, has_filter, filter_has}
+use Rattle.plane.proofs.GapLemmas.ClosedGaps.{filter_once, whole_three, closed_was, after_move}
 use Rattle.plane.proofs.GapLemmas.GapCells.{some_none, some_same}
 
 -- ---- one move more
-gaps_more : (k : ℕ) (now : List ℕ) (gaps : List Gap) (vs : List Move) (v : Move) → gaps_from k now gaps (vs ++ (v ∷ [])) ≡ next_gaps (k + length vs) (live_from now vs) (gaps_from k now gaps vs) v
+gaps_more : (k : ℕ) (now : List ℕ) (gaps : List Gap) (vs : List Move) (v : Move)
+    → gaps_from k now gaps (vs ++ (v ∷ [])) ≡ next_gaps (k + length vs) (live_from now vs) (gaps_from k now gaps vs) v
 gaps_more k now gaps [] v = let e : k ≡ k + 0 = omega arith in ap (λ (i : ℕ). next_gaps i now gaps v) e
 gaps_more k now gaps (u ∷ vs) v =
     let e : suc k + length vs ≡ k + suc (length vs) = omega arith in
@@ -24,22 +29,27 @@ gaps_more k now gaps (u ∷ vs) v =
     let g = next_gaps k now gaps u in
     gaps_more (suc k) s g vs v ∙ ap (λ (i : ℕ). next_gaps i (live_from s vs) (gaps_from (suc k) s g vs) v) e
 
-closed_more : (k : ℕ) (now : List ℕ) (gaps : List Gap) (vs : List Move) (v : Move) → closed_from k now gaps (vs ++ (v ∷ [])) ≡ closed_from k now gaps vs ++ closed_at (gaps_from k now gaps vs) v
+closed_more : (k : ℕ) (now : List ℕ) (gaps : List Gap) (vs : List Move) (v : Move)
+    → closed_from k now gaps (vs ++ (v ∷ [])) ≡ closed_from k now gaps vs ++ closed_at (gaps_from k now gaps vs) v
 closed_more k now gaps [] v = append-nil (closed_at gaps v)
 closed_more k now gaps (u ∷ vs) v =
     let s = after (step_of now u) in
     let g = next_gaps k now gaps u in
     ap (λ (gs : List Gap). closed_at gaps u ++ gs) (closed_more (suc k) s g vs v) ∙ sym (append_assoc (closed_at gaps u) (closed_from (suc k) s g vs) (closed_at (gaps_from (suc k) s g vs) v))
 
-pub open_more : (vs : List Move) (v : Move) → open_gaps (vs ++ (v ∷ [])) ≡ next_gaps (length vs) (live_from [] vs) (open_gaps vs) v
+pub open_more : (vs : List Move) (v : Move)
+    → open_gaps (vs ++ (v ∷ [])) ≡ next_gaps (length vs) (live_from [] vs) (open_gaps vs) v
 open_more vs v = let e : 0 + length vs ≡ length vs = omega arith in gaps_more 0 [] (no_gap ∷ []) vs v ∙ ap (λ (i : ℕ). next_gaps i (live_from [] vs) (open_gaps vs) v) e
 
-pub all_closed_more : (vs : List Move) (v : Move) → closed_gaps (vs ++ (v ∷ [])) ≡ closed_gaps vs ++ closed_at (open_gaps vs) v
+pub all_closed_more : (vs : List Move) (v : Move)
+    → closed_gaps (vs ++ (v ∷ [])) ≡ closed_gaps vs ++ closed_at (open_gaps vs) v
 all_closed_more vs v = closed_more 0 [] (no_gap ∷ []) vs v
 
 -- ---- the gaps of one event differ
 -- the lower edge of each is l or an edge of the list
-lower_in : (k : ℕ) (l : Option ℕ) (es : List ℕ) (u : Option ℕ) (g : Gap) → Has g (gaps_between k l es u) → (g.event ≡ k) × ((g.lower ≡ l) ⊎ ((e : ℕ) × Has e es × (g.lower ≡ Some e)))
+lower_in : (k : ℕ) (l : Option ℕ) (es : List ℕ) (u : Option ℕ) (g : Gap)
+    → Has g (gaps_between k l es u)
+    → (g.event ≡ k) × ((g.lower ≡ l) ⊎ ((e : ℕ) × Has e es × (g.lower ≡ Some e)))
 lower_in k l [] u g (inl q) = (ap (λ (h : Gap). h.event) q, inl (ap (λ (h : Gap). h.lower) q))
 lower_in k l [] u g (inr h) = absurd h
 lower_in k l (e ∷ es) u g (inl q) = (ap (λ (h : Gap). h.event) q, inl (ap (λ (h : Gap). h.lower) q))
@@ -47,7 +57,8 @@ lower_in k l (e ∷ es) u g (inr h) =
     let r = lower_in k (Some e) es u g h in
     (r.0, inr (elim r.1 [ inl q ↦ (e, inl refl, q) | inr a ↦ (a.0, inr a.1, a.2) ]))
 
-between_once : (k : ℕ) (l : Option ℕ) (es : List ℕ) (u : Option ℕ) → ((e : ℕ) → Has e es → l ≡ Some e → ⊥) → Once es → Once (gaps_between k l es u)
+between_once : (k : ℕ) (l : Option ℕ) (es : List ℕ) (u : Option ℕ)
+    → ((e : ℕ) → Has e es → l ≡ Some e → ⊥) → Once es → Once (gaps_between k l es u)
 between_once k l [] u f h = ((λ a. a), tt)
 between_once k l (e ∷ es) u f h = (
   (λ a. elim (lower_in k (Some e) es u (record { lower = l; upper = Some e; event = k }) a).1 [
@@ -80,7 +91,8 @@ record Differ (k : ℕ) (gaps : List Gap) : Type 0 where
   once : Once (filter is_real gaps)
   early : (g : Gap) → Has g gaps → is_real g ≡ true → g.event < k
 
-real_append : (xs ys : List Gap) → filter is_real (xs ++ ys) ≡ filter is_real xs ++ filter is_real ys
+real_append : (xs ys : List Gap)
+    → filter is_real (xs ++ ys) ≡ filter is_real xs ++ filter is_real ys
 real_append xs ys = filter-append is_real xs ys
 
 module _ (k : ℕ) (now : List ℕ) (gaps : List Gap) (v : Move) (d : Differ k gaps) where
@@ -147,7 +159,8 @@ module _ (k : ℕ) (now : List ℕ) (gaps : List Gap) (v : Move) (d : Differ k g
       ]
 
 -- what is closed later was there or is opened later
-closed_later : (k : ℕ) (now : List ℕ) (gaps : List Gap) (vs : List Move) (g : Gap) → Has g (closed_from k now gaps vs) → Has g gaps ⊎ (k ≤ g.event)
+closed_later : (k : ℕ) (now : List ℕ) (gaps : List Gap) (vs : List Move) (g : Gap)
+    → Has g (closed_from k now gaps vs) → Has g gaps ⊎ (k ≤ g.event)
 closed_later k now gaps [] g h = absurd h
 closed_later k now gaps (v ∷ vs) g h = elim (has_append g (closed_at gaps v) (closed_from (suc k) (after (step_of now v)) (next_gaps k now gaps v) vs) h) [
   | inl a ↦ inl (closed_was gaps v g a).0
@@ -160,7 +173,9 @@ closed_later k now gaps (v ∷ vs) g h = elim (has_append g (closed_at gaps v) (
   ]
 ]
 
-closed_differ : (k : ℕ) (now : List ℕ) (gaps : List Gap) (vs : List Move) → Differ k gaps → ((j : ℕ) → j ≤ length vs → Once (live_from now (take j vs))) → Once (closed_from k now gaps vs)
+closed_differ : (k : ℕ) (now : List ℕ) (gaps : List Gap) (vs : List Move) → Differ k gaps
+    → ((j : ℕ) → j ≤ length vs → Once (live_from now (take j vs)))
+    → Once (closed_from k now gaps vs)
 closed_differ k now gaps [] d o = tt
 closed_differ k now gaps (v ∷ vs) d o =
     let s = after (step_of now v) in
@@ -179,7 +194,8 @@ closed_differ k now gaps (v ∷ vs) d o =
     first [] h = h
     first (u ∷ us) h = h
 
-pub closed_once : (vs : List Move) → ((k : ℕ) → k ≤ length vs → Once (live_from [] (take k vs))) → Once (closed_gaps vs)
+pub closed_once : (vs : List Move) → ((k : ℕ) → k ≤ length vs → Once (live_from [] (take k vs)))
+    → Once (closed_gaps vs)
 closed_once vs o = closed_differ 0 [] (no_gap ∷ []) vs (record { once = tt; early = λ g h r. absurd (unreal g h r) }) o
   where
     unreal : (g : Gap) → Has g (no_gap ∷ []) → is_real g ≡ true → ⊥
@@ -187,19 +203,23 @@ closed_once vs o = closed_differ 0 [] (no_gap ∷ []) vs (record { once = tt; ea
     unreal g (inr h) r = h
 
 -- ---- the edges and the event of a closed gap
-lower_has : (l : Option ℕ) (xs : List ℕ) (x : Sides) (d : ℕ) → Has x (beside l xs None) → x.0 ≡ Some d → (l ≡ Some d) ⊎ Has d xs
+lower_has : (l : Option ℕ) (xs : List ℕ) (x : Sides) (d : ℕ) → Has x (beside l xs None)
+    → x.0 ≡ Some d → (l ≡ Some d) ⊎ Has d xs
 lower_has l [] x d (inl q) e = inl (sym (ap (λ (y : Sides). y.0) q) ∙ e)
 lower_has l [] x d (inr n) e = absurd n
 lower_has l (y ∷ ys) x d (inl q) e = inl (sym (ap (λ (z : Sides). z.0) q) ∙ e)
 lower_has l (y ∷ ys) x d (inr h) e = elim (lower_has (Some y) ys x d h e) [ inl q ↦ inr (inl (sym (some_same y d q))) | inr k ↦ inr (inr k) ]
 
-upper_has : (l : Option ℕ) (xs : List ℕ) (x : Sides) (e : ℕ) → Has x (beside l xs None) → x.1 ≡ Some e → Has e xs
+upper_has : (l : Option ℕ) (xs : List ℕ) (x : Sides) (e : ℕ) → Has x (beside l xs None)
+    → x.1 ≡ Some e → Has e xs
 upper_has l [] x e (inl q) r = absurd (some_none e (sym r ∙ ap (λ (y : Sides). y.1) q))
 upper_has l [] x e (inr n) r = absurd n
 upper_has l (y ∷ ys) x e (inl q) r = inl (some_same e y (sym r ∙ ap (λ (z : Sides). z.1) q))
 upper_has l (y ∷ ys) x e (inr h) r = inr (upper_has (Some y) ys x e h r)
 
-pub closed_edges : (vs : List Move) (g : Gap) (e : ℕ) → Fit [] vs → Has g (closed_gaps vs) → ((g.lower ≡ Some e) ⊎ (g.upper ≡ Some e)) → (k : ℕ) × (k ≤ length vs) × Has e (live_from [] (take k vs))
+pub closed_edges : (vs : List Move) (g : Gap) (e : ℕ) → Fit [] vs → Has g (closed_gaps vs)
+    → ((g.lower ≡ Some e) ⊎ (g.upper ≡ Some e))
+    → (k : ℕ) × (k ≤ length vs) × Has e (live_from [] (take k vs))
 closed_edges vs g e fit h q =
     let (k, l, i) = closed_sides (sides g) 0 [] (no_gap ∷ []) vs fit refl g h refl in (
       k,

@@ -1,5 +1,6 @@
 -- From inside the circle to outside: past a place that is outside, the segment does not hit the half arc.
-use Rattle.std.proofs.Common.{◌≡◌, ℤ, pos, ◌+ℤ◌, ◌*ℤ◌, ◌<ℤ◌, ◌≤ℤ◌, [], ◌∷◌, refl, arith, ap, sym, ◌∙◌, subst}
+use Rattle.std.proofs.Common.{◌≡◌, ℤ, pos, ◌+ℤ◌, ◌*ℤ◌, ◌<ℤ◌, ◌≤ℤ◌, [], ◌∷◌, refl, arith, ap, sym}
+use Rattle.std.proofs.Common.{◌∙◌, subst}
 use Rattle.std.proofs.lemmas.Int.{ints, by_lt_z}
 use Rattle.plane.specs.Forms.Vectors.{Vector, Place, mix}
 use Rattle.plane.specs.Forms.Arcs.{HalfArc, power, seen}
@@ -17,16 +18,19 @@ use Rattle.plane.proofs.HalfArcs.Misses.{most_same}
 use Rattle.plane.proofs.Caps.Seen.{seen-mix, seen_same, shape_most, power_most}
 
 -- y is a mix of p and of each mix of y and q
-mixed_back : (s t a b : ℤ) (p q : Vector) → scaled ((a *ℤ t) +ℤ b) (mix s p t q) ≡ mix (b *ℤ s) p t (mix a (mix s p t q) b q)
+mixed_back : (s t a b : ℤ) (p q : Vector)
+    → scaled ((a *ℤ t) +ℤ b) (mix s p t q) ≡ mix (b *ℤ s) p t (mix a (mix s p t q) b q)
 mixed_back s t a b p q = vector_eq _ _ (one p.x q.x) (one p.y q.y) (one p.n q.n)
   where
-    one : (x y : ℤ) → ((a *ℤ t) +ℤ b) *ℤ ((s *ℤ x) +ℤ (t *ℤ y)) ≡ ((b *ℤ s) *ℤ x) +ℤ (t *ℤ ((a *ℤ ((s *ℤ x) +ℤ (t *ℤ y))) +ℤ (b *ℤ y)))
+    one : (x y : ℤ)
+        → ((a *ℤ t) +ℤ b) *ℤ ((s *ℤ x) +ℤ (t *ℤ y)) ≡ ((b *ℤ s) *ℤ x) +ℤ (t *ℤ ((a *ℤ ((s *ℤ x) +ℤ (t *ℤ y))) +ℤ (b *ℤ y)))
     one x y =
         let Y = plus (times (at 0) (at 4)) (times (at 1) (at 5)) in
         ring (times (plus (times (at 2) (at 1)) (at 3)) Y) (plus (times (times (at 3) (at 0)) (at 4)) (times (at 1) (plus (times (at 2) Y) (times (at 3) (at 5))))) (vars (s ∷ t ∷ a ∷ b ∷ x ∷ y ∷ [])) refl
 
 -- with a place not outside past it, y is not outside either
-not_outside : (c : Cap) (p q : Vector) (s t a b : ℤ) → IsCap c → Place p → Place q → pos 0 ≤ℤ s → pos 0 ≤ℤ t → pos 0 <ℤ (s +ℤ t) → pos 0 ≤ℤ a → pos 0 ≤ℤ b → pos 0 <ℤ (a +ℤ b)
+not_outside : (c : Cap) (p q : Vector) (s t a b : ℤ) → IsCap c → Place p → Place q → pos 0 ≤ℤ s
+    → pos 0 ≤ℤ t → pos 0 <ℤ (s +ℤ t) → pos 0 ≤ℤ a → pos 0 ≤ℤ b → pos 0 <ℤ (a +ℤ b)
     → shape c p ≤ℤ pos 0 → shape c (mix a (mix s p t q) b q) ≤ℤ pos 0 → shape c (mix s p t q) ≤ℤ pos 0
 not_outside c p q s t a b hc hp hq hs ht st ha hb ab low past = by_lt_z (pos 0) b far near
   where
@@ -49,7 +53,8 @@ not_outside c p q s t a b hc hp hq hs ht st ha hb ab low past = by_lt_z (pos 0) 
         let e = subst (λ (z : Vector). shape c z ≤ℤ pos 0) (alone (mix s p t q) (omega (arith, ints, k, hb))) past in
         cancel_most (a *ℤ a) (shape c (mix s p t q)) (square_positive a (omega (arith, ints, k, ab))) (subst (λ (z : ℤ). z ≤ℤ pos 0) (shape-scaled c a (mix s p t q)) e)
 
-pub after_misses : (h : HalfArc) (p q y : Vector) → IsCap (cap h) → Place p → Place q → IsOnWay p q y → power h p <ℤ pos 0 → pos 0 <ℤ power h y → HitsArc h y q → ⊥
+pub after_misses : (h : HalfArc) (p q y : Vector) → IsCap (cap h) → Place p → Place q
+    → IsOnWay p q y → power h p <ℤ pos 0 → pos 0 <ℤ power h y → HitsArc h y q → ⊥
 after_misses h p q y hc hp hq w inside outside k =
     let Y = way_place p q y hp hq w in
     let b = k.u_between in

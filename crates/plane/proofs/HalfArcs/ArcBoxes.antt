@@ -2,7 +2,8 @@
 use Rattle.std.proofs.Common.{◌≡◌, ℤ, pos, ◌+ℤ◌, ◌*ℤ◌, ◌-ℤ◌, ◌<ℤ◌, ◌≤ℤ◌, [], ◌∷◌, refl, arith, ap}
 use Rattle.std.proofs.lemmas.Int.{ints, by_lt_z}
 use Rattle.plane.specs.Forms.Vectors.{Vector, Place}
-use Rattle.plane.specs.Forms.Arcs.{HalfArc, wide, tall, third_x, third_y, off_x, off_y, bend, circle_x, circle_y, facing, power, bow}
+use Rattle.plane.specs.Forms.Arcs.{HalfArc, wide, tall, third_x, third_y, off_x, off_y, bend}
+use Rattle.plane.specs.Forms.Arcs.{circle_x, circle_y, facing, power, bow}
 use Rattle.plane.proofs.Algebra.Laws.{product_positive, product_nonnegative, square_nonnegative}
 use Rattle.plane.proofs.Algebra.Ring.{at, num, plus, minus, times, vars, ring}
 use Rattle.plane.proofs.Caps.CapOver.{cancel_most}
@@ -13,7 +14,8 @@ unfoldable pub spread : HalfArc → Vector → ℤ
 spread h z = (off_x h z *ℤ (off_x h z -ℤ (wide h *ℤ z.n))) +ℤ (off_y h z *ℤ (off_y h z -ℤ (tall h *ℤ z.n)))
 
 -- the circle over the disc of its chord
-pub power_over_disc : (h : HalfArc) (z : Vector) → power h z ≡ ((bend h *ℤ bend h) *ℤ spread h z) +ℤ ((facing h *ℤ bow h z) *ℤ z.n)
+pub power_over_disc : (h : HalfArc) (z : Vector)
+    → power h z ≡ ((bend h *ℤ bend h) *ℤ spread h z) +ℤ ((facing h *ℤ bow h z) *ℤ z.n)
 unfolding power bow bend facing circle_x circle_y spread
 power_over_disc h z =
     let W = at 0 in let T = at 1 in let EX = at 2 in let EY = at 3 in
@@ -31,7 +33,8 @@ power_over_disc h z =
     (vars (wide h ∷ tall h ∷ third_x h ∷ third_y h ∷ h.from.x ∷ h.from.y ∷ z.x ∷ z.y ∷ z.n ∷ [])) refl
 
 -- the cap of a half arc of at most half a turn is in the disc over its chord
-pub cap_in_disc : (h : HalfArc) (z : Vector) → Place z → pos 0 <ℤ (bend h *ℤ bend h) → pos 0 ≤ℤ facing h → power h z ≤ℤ pos 0 → pos 0 ≤ℤ bow h z → spread h z ≤ℤ pos 0
+pub cap_in_disc : (h : HalfArc) (z : Vector) → Place z → pos 0 <ℤ (bend h *ℤ bend h)
+    → pos 0 ≤ℤ facing h → power h z ≤ℤ pos 0 → pos 0 ≤ℤ bow h z → spread h z ≤ℤ pos 0
 cap_in_disc h z place bent half low away =
     let e = power_over_disc h z in
     let g = product_nonnegative (facing h *ℤ bow h z) z.n (product_nonnegative (facing h) (bow h z) half away) (omega (arith, ints, place)) in
@@ -45,7 +48,8 @@ square_above a b h k =
     omega (arith, ints, e, p)
 
 -- the two squares that the disc bounds
-disc_squares : (h : HalfArc) (z : Vector) → (((pos 2 *ℤ off_x h z) -ℤ (wide h *ℤ z.n)) *ℤ ((pos 2 *ℤ off_x h z) -ℤ (wide h *ℤ z.n))) +ℤ (((pos 2 *ℤ off_y h z) -ℤ (tall h *ℤ z.n)) *ℤ ((pos 2 *ℤ off_y h z) -ℤ (tall h *ℤ z.n)))
+disc_squares : (h : HalfArc) (z : Vector)
+    → (((pos 2 *ℤ off_x h z) -ℤ (wide h *ℤ z.n)) *ℤ ((pos 2 *ℤ off_x h z) -ℤ (wide h *ℤ z.n))) +ℤ (((pos 2 *ℤ off_y h z) -ℤ (tall h *ℤ z.n)) *ℤ ((pos 2 *ℤ off_y h z) -ℤ (tall h *ℤ z.n)))
     ≡ (pos 4 *ℤ spread h z) +ℤ (((wide h *ℤ wide h) +ℤ (tall h *ℤ tall h)) *ℤ (z.n *ℤ z.n))
 unfolding spread
 disc_squares h z =
@@ -75,7 +79,8 @@ pub record InBand (h : HalfArc) (r : ℤ) (z : Vector) : Type 0 where
   pub over : ((pos 2 *ℤ off_y h z) -ℤ (tall h *ℤ z.n)) ≤ℤ (r *ℤ z.n)
   pub under : (pos 0 -ℤ ((pos 2 *ℤ off_y h z) -ℤ (tall h *ℤ z.n))) ≤ℤ (r *ℤ z.n)
 
-pub cap_in_box : (h : HalfArc) (r : ℤ) (z : Vector) → Place z → pos 0 ≤ℤ r → ((wide h *ℤ wide h) +ℤ (tall h *ℤ tall h)) ≤ℤ (r *ℤ r) → spread h z ≤ℤ pos 0 → InBand h r z
+pub cap_in_box : (h : HalfArc) (r : ℤ) (z : Vector) → Place z → pos 0 ≤ℤ r
+    → ((wide h *ℤ wide h) +ℤ (tall h *ℤ tall h)) ≤ℤ (r *ℤ r) → spread h z ≤ℤ pos 0 → InBand h r z
 cap_in_box h r z place least long disc =
     let U = (pos 2 *ℤ off_x h z) -ℤ (wide h *ℤ z.n) in
     let V = (pos 2 *ℤ off_y h z) -ℤ (tall h *ℤ z.n) in
@@ -116,7 +121,8 @@ circle_squares h =
     ring (plus (times A A) (times B B)) (times (times L E) F) (vars (wide h ∷ tall h ∷ third_x h ∷ third_y h ∷ [])) refl
 
 -- D (D q - s n) of at most 0 bounds q, where s s is at most k q
-bounded : (D q s k n : ℤ) → pos 0 <ℤ (D *ℤ D) → pos 0 ≤ℤ q → pos 0 ≤ℤ k → (s *ℤ s) ≤ℤ (k *ℤ q) → (D *ℤ ((D *ℤ q) -ℤ (s *ℤ n))) ≤ℤ pos 0 → ((D *ℤ D) *ℤ q) ≤ℤ (k *ℤ (n *ℤ n))
+bounded : (D q s k n : ℤ) → pos 0 <ℤ (D *ℤ D) → pos 0 ≤ℤ q → pos 0 ≤ℤ k → (s *ℤ s) ≤ℤ (k *ℤ q)
+    → (D *ℤ ((D *ℤ q) -ℤ (s *ℤ n))) ≤ℤ pos 0 → ((D *ℤ D) *ℤ q) ≤ℤ (k *ℤ (n *ℤ n))
 bounded D q s k n bent least kept chord in_circle =
     let n2 = square_nonnegative n in
     let kn = product_nonnegative k (n *ℤ n) kept n2 in

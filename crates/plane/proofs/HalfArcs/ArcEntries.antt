@@ -1,11 +1,13 @@
 -- A segment from inside the circle to outside, not under the chord, has a place in the tube on either side of the circle, or it goes through an end of the half arc.
-use Rattle.std.proofs.Common.{◌≡◌, ℤ, pos, ◌+ℤ◌, ◌*ℤ◌, ◌-ℤ◌, ◌<ℤ◌, ◌≤ℤ◌, ◌⊎◌, inl, inr, List, [], ◌∷◌, refl, arith, ap, sym, ◌∙◌, subst}
+use Rattle.std.proofs.Common.{◌≡◌, ℤ, pos, ◌+ℤ◌, ◌*ℤ◌, ◌-ℤ◌, ◌<ℤ◌, ◌≤ℤ◌, ◌⊎◌, inl, inr, List, []}
+use Rattle.std.proofs.Common.{◌∷◌, refl, arith, ap, sym, ◌∙◌, subst}
 use Rattle.std.proofs.lemmas.Int.{ints, by_lt_z}
 use Rattle.plane.specs.declared.kinds.Point.{Point}
 use Rattle.plane.specs.Forms.Vectors.{Vector, Place, Same, Between, point, mix, side, Edge}
 use Rattle.plane.specs.Forms.Arcs.{HalfArc, power, bow, seen}
 use Rattle.plane.specs.Tubes.Caps.{Cap, IsCap, InSlab, cap, shape}
-use Rattle.plane.specs.Tubes.Bays.{Bay, InTriangle, InBays, InTube, IsTube, OnInner, OnOuter, AtEnds}
+use Rattle.plane.specs.Tubes.Bays.{Bay, InTriangle, InBays, InTube, IsTube, OnInner, OnOuter}
+use Rattle.plane.specs.Tubes.Bays.{AtEnds}
 use Rattle.plane.specs.Tubes.CapStrips.{line, InColumn, IsUnder, AtInner}
 use Rattle.plane.proofs.Caps.StripWords.{IsCapStrip, IsDip}
 use Rattle.plane.specs.Tubes.Regions.{NotUnder, seen_point, seen_bay, seen_bays}
@@ -52,33 +54,40 @@ outer_rises c q p (b ∷ rest) h = (before h.1, outer_rises c b.outer b.inner re
     before (inl e) = let k = ap (λ (v : Point). v.x) e in let u = h.0.up in omega (arith, ints, k, u)
     before (inr d) = let k = d.up in let u = h.0.up in omega (arith, ints, k, u)
 
-inner_last : (c : Cap) (q p : Point) (bs : List Bay) → IsCapStrip c q p bs → (last p (inners bs)).x ≡ c.chord
+inner_last : (c : Cap) (q p : Point) (bs : List Bay) → IsCapStrip c q p bs
+    → (last p (inners bs)).x ≡ c.chord
 inner_last c q p [] h = h.0
 inner_last c q p (b ∷ rest) h = inner_last c b.outer b.inner rest h.4
 
-outer_last : (c : Cap) (q p : Point) (bs : List Bay) → IsCapStrip c q p bs → (last q (outers p bs)).x ≡ c.chord
+outer_last : (c : Cap) (q p : Point) (bs : List Bay) → IsCapStrip c q p bs
+    → (last q (outers p bs)).x ≡ c.chord
 outer_last c q p [] h = h.0
 outer_last c q p (b ∷ rest) h = outer_last c b.outer b.inner rest h.4
 
-inner_tests : (R : Edge → Vector → Type 0) (z : Vector) (p : Point) (bs : List Bay) → AtInner R z p bs → AtChain R z p (inners bs)
+inner_tests : (R : Edge → Vector → Type 0) (z : Vector) (p : Point) (bs : List Bay)
+    → AtInner R z p bs → AtChain R z p (inners bs)
 inner_tests R z p [] h = tt
 inner_tests R z p (b ∷ rest) h = (h.0, inner_tests R z b.inner rest h.1)
 
-under_tests : (z : Vector) (q p : Point) (bs : List Bay) → IsUnder z q p bs → AtChain (Most side) z q (outers p bs)
+under_tests : (z : Vector) (q p : Point) (bs : List Bay) → IsUnder z q p bs
+    → AtChain (Most side) z q (outers p bs)
 under_tests z q p [] h = (h, tt)
 under_tests z q p (b ∷ rest) h = (h.0, under_tests z b.outer b.inner rest h.1)
 
-tests_under : (z : Vector) (q p : Point) (bs : List Bay) → AtChain (Most side) z q (outers p bs) → IsUnder z q p bs
+tests_under : (z : Vector) (q p : Point) (bs : List Bay) → AtChain (Most side) z q (outers p bs)
+    → IsUnder z q p bs
 tests_under z q p [] h = h.0
 tests_under z q p (b ∷ rest) h = (h.0, tests_under z b.outer b.inner rest h.1)
 
 -- the places of the chains are in the strip
-inner_there : (c : Cap) (q p : Point) (bs : List Bay) (z : Vector) → Place z → IsCapStrip c q p bs → OnChain z p (inners bs) → InBays p bs z
+inner_there : (c : Cap) (q p : Point) (bs : List Bay) (z : Vector) → Place z → IsCapStrip c q p bs
+    → OnChain z p (inners bs) → InBays p bs z
 inner_there c q p [] z hz h k = absurd k
 inner_there c q p (b ∷ rest) z hz h (inl k) = inl (on_straight p b.inner b.outer z hz (let u = h.0.up in let v = h.0.on in omega (arith, ints, u, v)) k.0 k.1)
 inner_there c q p (b ∷ rest) z hz h (inr k) = inr (inner_there c b.outer b.inner rest z hz h.4 k)
 
-turned : (z : Vector) (p q r : Point) → InTriangle z (point p) (point q) (point r) → InTriangle z (point r) (point p) (point q)
+turned : (z : Vector) (p q r : Point) → InTriangle z (point p) (point q) (point r)
+    → InTriangle z (point r) (point p) (point q)
 turned z p q r t = record {
   i = t.k;
   j = t.i;
@@ -93,10 +102,13 @@ turned z p q r t = record {
   };
 }
   where
-    one : (i j k x y z : ℤ) → ((k *ℤ z) +ℤ (i *ℤ x)) +ℤ (j *ℤ y) ≡ ((i *ℤ x) +ℤ (j *ℤ y)) +ℤ (k *ℤ z)
+    one : (i j k x y z : ℤ)
+        → ((k *ℤ z) +ℤ (i *ℤ x)) +ℤ (j *ℤ y) ≡ ((i *ℤ x) +ℤ (j *ℤ y)) +ℤ (k *ℤ z)
     one i j k x y z = omega (arith, ints)
 
-outer_there : (c : Cap) (q p : Point) (bs : List Bay) (z : Vector) → Place z → IsCapStrip c q p bs → OnChain z q (outers p bs) → Found z q p bs ⊎ (InColumn q p z × (side (line q p) z ≡ pos 0) × (q.x <ℤ p.x))
+outer_there : (c : Cap) (q p : Point) (bs : List Bay) (z : Vector) → Place z → IsCapStrip c q p bs
+    → OnChain z q (outers p bs)
+    → Found z q p bs ⊎ (InColumn q p z × (side (line q p) z ≡ pos 0) × (q.x <ℤ p.x))
 outer_there c q p [] z hz h (inl k) = inr (k.0, k.1, h.1)
 outer_there c q p [] z hz h (inr k) = absurd k
 outer_there c q p (b ∷ rest) z hz h (inl k) = inl (inl (turned z q b.outer p (on_straight q b.outer p z hz (outer_rises c q p (b ∷ rest) h).0 k.0 k.1)))
@@ -105,7 +117,8 @@ outer_there c q p (b ∷ rest) z hz h (inr k) = elim (outer_there c b.outer b.in
   | inr e ↦ inl (inr (inl (inl (turned z b.inner b.outer p (swapped z b.outer b.inner p (on_straight b.outer b.inner p z hz e.2 e.0 e.1))))))
 ]
   where
-    swapped : (z : Vector) (p q r : Point) → InTriangle z (point p) (point q) (point r) → InTriangle z (point q) (point p) (point r)
+    swapped : (z : Vector) (p q r : Point) → InTriangle z (point p) (point q) (point r)
+        → InTriangle z (point q) (point p) (point r)
     swapped z p q r t = record {
       i = t.j;
       j = t.i;
@@ -120,11 +133,13 @@ outer_there c q p (b ∷ rest) z hz h (inr k) = elim (outer_there c b.outer b.in
       };
     }
       where
-        one : (i j k x y z : ℤ) → ((j *ℤ y) +ℤ (i *ℤ x)) +ℤ (k *ℤ z) ≡ ((i *ℤ x) +ℤ (j *ℤ y)) +ℤ (k *ℤ z)
+        one : (i j k x y z : ℤ)
+            → ((j *ℤ y) +ℤ (i *ℤ x)) +ℤ (k *ℤ z) ≡ ((i *ℤ x) +ℤ (j *ℤ y)) +ℤ (k *ℤ z)
         one i j k x y z = omega (arith, ints)
 
 -- and on the chains of the tube
-between_at : (p q : Point) (z : Vector) → Place z → p.x <ℤ q.x → InColumn p q z → side (line p q) z ≡ pos 0 → Between z (point p) (point q)
+between_at : (p q : Point) (z : Vector) → Place z → p.x <ℤ q.x → InColumn p q z
+    → side (line p q) z ≡ pos 0 → Between z (point p) (point q)
 between_at p q z hz h k e =
     let t = on_straight p q q z hz h k e in
     record {
@@ -142,7 +157,9 @@ between_at p q z hz h k e =
     one : (i j k x y : ℤ) → (i *ℤ x) +ℤ ((j +ℤ k) *ℤ y) ≡ ((i *ℤ x) +ℤ (j *ℤ y)) +ℤ (k *ℤ y)
     one i j k x y = ring (plus (times (at 0) (at 3)) (times (plus (at 1) (at 2)) (at 4))) (plus (plus (times (at 0) (at 3)) (times (at 1) (at 4))) (times (at 2) (at 4))) (vars (i ∷ j ∷ k ∷ x ∷ y ∷ [])) refl
 
-between_only : (h : HalfArc) (z : Vector) (p q : Point) → IsCap (cap h) → Between (seen h z) (point (seen_point h p)) (point (seen_point h q)) → Between z (point p) (point q)
+between_only : (h : HalfArc) (z : Vector) (p q : Point) → IsCap (cap h)
+    → Between (seen h z) (point (seen_point h p)) (point (seen_point h q))
+    → Between z (point p) (point q)
 between_only h z p q hc b = record {
   s = b.s;
   t = b.t;
@@ -152,12 +169,16 @@ between_only h z p q hc b = record {
   is = seen_only h z (mix b.s (point p) b.t (point q)) hc (subst (λ (v : Vector). Same (seen h z) v) (sym (seen-mix h b.s (point p) b.t (point q))) b.is);
 }
 
-inner_on : (h : HalfArc) (p : Point) (bs : List Bay) (z : Vector) → IsCap (cap h) → Place z → Rises (seen_point h p) (inners (seen_bays h bs)) → OnChain (seen h z) (seen_point h p) (inners (seen_bays h bs)) → OnInner z p bs
+inner_on : (h : HalfArc) (p : Point) (bs : List Bay) (z : Vector) → IsCap (cap h) → Place z
+    → Rises (seen_point h p) (inners (seen_bays h bs))
+    → OnChain (seen h z) (seen_point h p) (inners (seen_bays h bs)) → OnInner z p bs
 inner_on h p [] z hc hz up k = absurd k
 inner_on h p (b ∷ rest) z hc hz up (inl k) = inl (between_only h z p b.inner hc (between_at (seen_point h p) (seen_point h b.inner) (seen h z) hz up.0 k.0 k.1))
 inner_on h p (b ∷ rest) z hc hz up (inr k) = inr (inner_on h b.inner rest z hc hz up.1 k)
 
-outer_on : (h : HalfArc) (q p e : Point) (bs : List Bay) (z : Vector) → IsCap (cap h) → Place z → EndsAt p e bs → Rises (seen_point h q) (outers (seen_point h p) (seen_bays h bs)) → OnChain (seen h z) (seen_point h q) (outers (seen_point h p) (seen_bays h bs))
+outer_on : (h : HalfArc) (q p e : Point) (bs : List Bay) (z : Vector) → IsCap (cap h) → Place z
+    → EndsAt p e bs → Rises (seen_point h q) (outers (seen_point h p) (seen_bays h bs))
+    → OnChain (seen h z) (seen_point h q) (outers (seen_point h p) (seen_bays h bs))
     → OnOuter z q e bs
 outer_on h q p e [] z hc hz end up (inl k) = subst (λ (v : Point). Between z (point q) (point v)) end (between_only h z q p hc (between_at (seen_point h q) (seen_point h p) (seen h z) hz up.0 k.0 k.1))
 outer_on h q p e [] z hc hz end up (inr k) = absurd k
@@ -176,7 +197,8 @@ record Clipped (c : Cap) (u v : Vector) : Type 0 where
   outside : (pos 0 <ℤ shape c at) ⊎ AtCorner c at
 
 -- on the slab's walls all that is over the chord's line is outside
-wall_high : (c : Cap) (z : Vector) → IsCap c → Place z → z.x *ℤ (z.x -ℤ (c.chord *ℤ z.n)) ≡ pos 0 → pos 0 <ℤ z.y → pos 0 <ℤ shape c z
+wall_high : (c : Cap) (z : Vector) → IsCap c → Place z → z.x *ℤ (z.x -ℤ (c.chord *ℤ z.n)) ≡ pos 0
+    → pos 0 <ℤ z.y → pos 0 <ℤ shape c z
 unfolding shape
 wall_high c z hc hz e hy =
     let a = product_of_zero c.size (z.x *ℤ (z.x -ℤ (c.chord *ℤ z.n))) e in
@@ -184,7 +206,8 @@ wall_high c z hc hz e hy =
     let b = product_positive z.y (z.y +ℤ (c.sag *ℤ z.n)) hy (omega (arith, ints, k, hy)) in
     omega (arith, ints, a, b)
 
-clip : (c : Cap) (u v : Vector) → IsCap c → Place u → Place v → InSlab c u → pos 0 ≤ℤ u.y → pos 0 ≤ℤ v.y → pos 0 <ℤ shape c v → Clipped c u v
+clip : (c : Cap) (u v : Vector) → IsCap c → Place u → Place v → InSlab c u → pos 0 ≤ℤ u.y
+    → pos 0 ≤ℤ v.y → pos 0 <ℤ shape c v → Clipped c u v
 clip c u v hc hu hv slab uy vy out =
     by_lt_z v.x (pos 0)
     (λ (l : v.x <ℤ pos 0). at_left l)
@@ -274,7 +297,8 @@ pub record IsThroughEnd (h : HalfArc) (p q y : Vector) : Type 0 where
   pub end : AtEnds h y
 
 -- a place of the segment's picture
-real_of : (h : HalfArc) (u v y : Vector) → IsOnWay (seen h u) (seen h v) y → (x : Vector) × IsOnWay u v x × (seen h x ≡ y)
+real_of : (h : HalfArc) (u v y : Vector) → IsOnWay (seen h u) (seen h v) y
+    → (x : Vector) × IsOnWay u v x × (seen h x ≡ y)
 real_of h u v y w = (mix w.s u w.t v, record { s = w.s; t = w.t; s_least = w.s_least; t_least = w.t_least; some = w.some; is = refl }, seen-mix h w.s u w.t v ∙ sym w.is)
 
 module _ (h : HalfArc) (b : Bay) (rest : List Bay) (t : IsTube h (b ∷ rest)) (u v : Vector) (hu : Place u) (hv : Place v)
@@ -312,7 +336,8 @@ module _ (h : HalfArc) (b : Bay) (rest : List Bay) (t : IsTube h (b ∷ rest)) (
   from_low : (z : Vector) → pos 0 ≤ℤ z.x → (P.x *ℤ z.n) ≤ℤ z.x
   from_low z l = let e = ap (λ (x : ℤ). x *ℤ z.n) (along-from h) in omega (arith, ints, e, l)
 
-  to_high : (p : Point) (z : Vector) → p.x ≡ (cap h).chord → z.x ≤ℤ ((cap h).chord *ℤ z.n) → z.x ≤ℤ (p.x *ℤ z.n)
+  to_high : (p : Point) (z : Vector) → p.x ≡ (cap h).chord → z.x ≤ℤ ((cap h).chord *ℤ z.n)
+      → z.x ≤ℤ (p.x *ℤ z.n)
   to_high p z e l = subst (λ (x : ℤ). z.x ≤ℤ (x *ℤ z.n)) (sym e) l
 
   k : Clipped (cap h) U V

@@ -5,7 +5,8 @@ use Rattle.plane.specs.Rule.HalfArcs.{HalfArc, HitsHalfArc}
 use Rattle.plane.proofs.HalfArcs.HitWords.{HitsArc}
 use Rattle.plane.proofs.Linear.Straights.{between_is}
 
-pub hits_half_arc : (h : HalfArc) (p q : Vector) → Place p → Place q → HitsArc h p q → HitsHalfArc h p q
+pub hits_half_arc : (h : HalfArc) (p q : Vector) → Place p → Place q → HitsArc h p q
+    → HitsHalfArc h p q
 hits_half_arc h p q P Q k = record {
   u = k.u;
   v = k.v;
@@ -33,5 +34,6 @@ hits_arc h p q P Q k = record {
   v_out = k.v_not_inside;
 }
 
-pub hits_arc_is : (h : HalfArc) (p q : Vector) → Place p → Place q → HitsArc h p q ↔ HitsHalfArc h p q
+pub hits_arc_is : (h : HalfArc) (p q : Vector) → Place p → Place q
+    → HitsArc h p q ↔ HitsHalfArc h p q
 hits_arc_is h p q P Q = ((λ k. hits_half_arc h p q P Q k), (λ k. hits_arc h p q P Q k))

@@ -1,20 +1,24 @@
 -- Boxes that hold the cap of a half arc, or the places that have a side for it; and that a tube's places have one.
-use Rattle.std.proofs.Common.{◌≡◌, ◌^◌, ◌-◌, zero, suc, ℤ, pos, negsuc, ◌+ℤ◌, ◌*ℤ◌, ◌-ℤ◌, ◌<ℤ◌, ◌≤ℤ◌, ◌⊎◌, inl, inr, List, [], ◌∷◌, refl, arith, ap, sym, ◌∙◌, subst}
+use Rattle.std.proofs.Common.{◌≡◌, ◌^◌, ◌-◌, zero, suc, ℤ, pos, negsuc, ◌+ℤ◌, ◌*ℤ◌, ◌-ℤ◌, ◌<ℤ◌}
+use Rattle.std.proofs.Common.{◌≤ℤ◌, ◌⊎◌, inl, inr, List, [], ◌∷◌, refl, arith, ap, sym, ◌∙◌, subst}
 use Rattle.std.proofs.lemmas.Int.{ints}
 use Rattle.plane.specs.declared.kinds.Point.{Point}
 use Rattle.plane.specs.Rule.Turns.{AreNear}
 use Rattle.plane.specs.Forms.Vectors.{Vector, Place, point}
 use Rattle.plane.specs.Lists.{Each}
-use Rattle.plane.specs.Forms.Arcs.{HalfArc, wide, tall, third_x, third_y, off_x, off_y, bend, circle_x, circle_y, facing, power}
+use Rattle.plane.specs.Forms.Arcs.{HalfArc, wide, tall, third_x, third_y, off_x, off_y, bend}
+use Rattle.plane.specs.Forms.Arcs.{circle_x, circle_y, facing, power}
 use Rattle.plane.specs.Rule.HalfArcs.{HasCircle, HasSide}
 use Rattle.plane.specs.Tubes.Bays.{Bay, InTube}
 use Rattle.plane.specs.Forms.Boxes.{Box, InBox, GoesBeyond, size, steps, sides, InCap}
-use Rattle.plane.proofs.Algebra.Laws.{product_comm, product_positive, product_nonnegative, square_nonnegative}
+use Rattle.plane.proofs.Algebra.Laws.{product_comm, product_positive, product_nonnegative}
+use Rattle.plane.proofs.Algebra.Laws.{square_nonnegative}
 use Rattle.plane.proofs.Algebra.Scaling.{times_le, cancel_le}
 use Rattle.plane.proofs.Algebra.Ring.{at, num, plus, minus, times, vars, ring}
 use Rattle.plane.proofs.Caps.Powers.{power-from, power-to}
 use Rattle.plane.proofs.Caps.Pictures.{bow-from, bow-to}
-use Rattle.plane.proofs.HalfArcs.ArcBoxes.{InBand, cap_in_disc, cap_in_box, root_most, circle_squares, inside_is_near}
+use Rattle.plane.proofs.HalfArcs.ArcBoxes.{InBand, cap_in_disc, cap_in_box, root_most}
+use Rattle.plane.proofs.HalfArcs.ArcBoxes.{circle_squares, inside_is_near}
 use Rattle.plane.proofs.HalfArcs.Boxes.{HasPoint, tube_has, times_same, near_in}
 
 -- ---- sizes
@@ -55,7 +59,9 @@ size_above (negsuc n) h = omega (arith, ints)
 
 -- ---- half arcs of less than half a turn: the ends' box, each side moved out by half the other extent
 -- one coordinate: twice z is in a band round f f + w
-band_high : (z n f w s t x hi : ℤ) → pos 0 <ℤ n → ((pos 2 *ℤ (z -ℤ (f *ℤ n))) -ℤ (w *ℤ n)) ≤ℤ ((s +ℤ t) *ℤ n) → t ≤ℤ (pos 2 *ℤ x) → (f +ℤ x) ≤ℤ hi → ((f +ℤ w) +ℤ x) ≤ℤ hi
+band_high : (z n f w s t x hi : ℤ) → pos 0 <ℤ n
+    → ((pos 2 *ℤ (z -ℤ (f *ℤ n))) -ℤ (w *ℤ n)) ≤ℤ ((s +ℤ t) *ℤ n) → t ≤ℤ (pos 2 *ℤ x)
+    → (f +ℤ x) ≤ℤ hi → ((f +ℤ w) +ℤ x) ≤ℤ hi
     → ((s ≡ w) ⊎ (s ≡ pos 0 -ℤ w)) → z ≤ℤ (hi *ℤ n)
 band_high z n f w s t x hi hn band half first second is =
     let most : ((((f +ℤ f) +ℤ w) +ℤ s) +ℤ t) ≤ℤ (hi +ℤ hi) = elim is [ inl e ↦ omega (arith, ints, half, second, e) | inr e ↦ omega (arith, ints, half, first, e) ] in
@@ -64,7 +70,9 @@ band_high z n f w s t x hi hn band half first second is =
     let g = ring (times (plus (at 0) (at 0)) (at 1)) (plus (times (at 0) (at 1)) (times (at 0) (at 1))) (vars (hi ∷ n ∷ [])) refl in
     omega (arith, ints, band, k, e, g)
 
-band_low : (z n f w s t x lo : ℤ) → pos 0 <ℤ n → (pos 0 -ℤ ((pos 2 *ℤ (z -ℤ (f *ℤ n))) -ℤ (w *ℤ n))) ≤ℤ ((s +ℤ t) *ℤ n) → t ≤ℤ (pos 2 *ℤ x) → (lo +ℤ x) ≤ℤ f → (lo +ℤ x) ≤ℤ (f +ℤ w)
+band_low : (z n f w s t x lo : ℤ) → pos 0 <ℤ n
+    → (pos 0 -ℤ ((pos 2 *ℤ (z -ℤ (f *ℤ n))) -ℤ (w *ℤ n))) ≤ℤ ((s +ℤ t) *ℤ n) → t ≤ℤ (pos 2 *ℤ x)
+    → (lo +ℤ x) ≤ℤ f → (lo +ℤ x) ≤ℤ (f +ℤ w)
     → ((s ≡ w) ⊎ (s ≡ pos 0 -ℤ w)) → (lo *ℤ n) ≤ℤ z
 band_low z n f w s t x lo hn band half first second is =
     let least : (((lo +ℤ lo) +ℤ s) +ℤ t) ≤ℤ ((f +ℤ f) +ℤ w) = elim is [ inl e ↦ omega (arith, ints, half, first, e) | inr e ↦ omega (arith, ints, half, second, e) ] in
@@ -79,7 +87,9 @@ either a = elim (size_is a) [ inl k ↦ inl k.0 | inr k ↦ inr k.0 ]
 turned : (q s t n : ℤ) → q ≤ℤ ((s +ℤ t) *ℤ n) → q ≤ℤ ((t +ℤ s) *ℤ n)
 turned q s t n h = let e = ring (times (plus (at 0) (at 1)) (at 2)) (times (plus (at 1) (at 0)) (at 2)) (vars (s ∷ t ∷ n ∷ [])) refl in omega (arith, ints, h, e)
 
-pub flat_cap_in_box : (h : HalfArc) (x y : ℤ) (b : Box) (z : Vector) → Place z → (bend h ≡ pos 0 → ⊥) → pos 0 ≤ℤ facing h → size (h.to.y -ℤ h.from.y) ≤ℤ (pos 2 *ℤ x) → size (h.to.x -ℤ h.from.x) ≤ℤ (pos 2 *ℤ y)
+pub flat_cap_in_box : (h : HalfArc) (x y : ℤ) (b : Box) (z : Vector) → Place z
+    → (bend h ≡ pos 0 → ⊥) → pos 0 ≤ℤ facing h → size (h.to.y -ℤ h.from.y) ≤ℤ (pos 2 *ℤ x)
+    → size (h.to.x -ℤ h.from.x) ≤ℤ (pos 2 *ℤ y)
     → GoesBeyond h.from x y b → GoesBeyond h.to x y b → InCap h z → InBox b z
 flat_cap_in_box h x y b z hz bent half hx hy first second in_cap =
     let w = h.to.x -ℤ h.from.x in
@@ -111,14 +121,16 @@ product_most a b c d ha hab hc hcd =
 squares_least : (a b : ℤ) → pos 0 ≤ℤ ((a *ℤ a) +ℤ (b *ℤ b))
 squares_least a b = let p = square_nonnegative a in let q = square_nonnegative b in omega (arith, ints, p, q)
 
-three_most : (a b c k l m : ℤ) → pos 0 ≤ℤ a → a ≤ℤ (k *ℤ k) → pos 0 ≤ℤ b → b ≤ℤ (l *ℤ l) → pos 0 ≤ℤ c → c ≤ℤ (m *ℤ m) → ((a *ℤ b) *ℤ c) ≤ℤ (((k *ℤ l) *ℤ m) *ℤ ((k *ℤ l) *ℤ m))
+three_most : (a b c k l m : ℤ) → pos 0 ≤ℤ a → a ≤ℤ (k *ℤ k) → pos 0 ≤ℤ b → b ≤ℤ (l *ℤ l)
+    → pos 0 ≤ℤ c → c ≤ℤ (m *ℤ m) → ((a *ℤ b) *ℤ c) ≤ℤ (((k *ℤ l) *ℤ m) *ℤ ((k *ℤ l) *ℤ m))
 three_most a b c k l m ha one hb two hc three =
     let both = product_most a (k *ℤ k) b (l *ℤ l) ha one hb two in
     let all = product_most (a *ℤ b) ((k *ℤ k) *ℤ (l *ℤ l)) c (m *ℤ m) (product_nonnegative a b ha hb) both hc three in
     let f = ring (times (times (times (at 0) (at 0)) (times (at 1) (at 1))) (times (at 2) (at 2))) (times (times (times (at 0) (at 1)) (at 2)) (times (times (at 0) (at 1)) (at 2))) (vars (k ∷ l ∷ m ∷ [])) refl in
     omega (arith, ints, all, f)
 
-circle_most : (h : HalfArc) → ((circle_x h *ℤ circle_x h) +ℤ (circle_y h *ℤ circle_y h)) ≤ℤ (sides h *ℤ sides h)
+circle_most : (h : HalfArc)
+    → ((circle_x h *ℤ circle_x h) +ℤ (circle_y h *ℤ circle_y h)) ≤ℤ (sides h *ℤ sides h)
 unfolding sides
 circle_most h =
     let k = steps h.from h.to in
@@ -137,7 +149,8 @@ circle_most h =
     subst (λ (u : ℤ). u ≤ℤ (sides h *ℤ sides h)) (sym (circle_squares h)) (three_most _ _ _ k l m a one b two c three)
 
 -- one coordinate X, seen from the first end: D X is at most the sides' product times n
-leg_most : (a N X n r : ℤ) → pos 0 <ℤ a → pos 0 ≤ℤ N → pos 0 <ℤ n → ((a *ℤ a) *ℤ (X *ℤ X)) ≤ℤ ((N *ℤ N) *ℤ (n *ℤ n)) → N ≤ℤ (a *ℤ r) → X ≤ℤ (r *ℤ n)
+leg_most : (a N X n r : ℤ) → pos 0 <ℤ a → pos 0 ≤ℤ N → pos 0 <ℤ n
+    → ((a *ℤ a) *ℤ (X *ℤ X)) ≤ℤ ((N *ℤ N) *ℤ (n *ℤ n)) → N ≤ℤ (a *ℤ r) → X ≤ℤ (r *ℤ n)
 leg_most a N X n r ha hN hn squares far =
     let e = ring (times (times (at 0) (at 1)) (times (at 0) (at 1))) (times (times (at 0) (at 0)) (times (at 1) (at 1))) (vars (a ∷ X ∷ [])) refl in
     let f = ring (times (times (at 0) (at 1)) (times (at 0) (at 1))) (times (times (at 0) (at 0)) (times (at 1) (at 1))) (vars (N ∷ n ∷ [])) refl in
@@ -166,7 +179,8 @@ sides_least h = product_nonnegative _ _ (product_nonnegative _ _ (legs h.from h.
 negated : (x : ℤ) → (pos 0 -ℤ x) *ℤ (pos 0 -ℤ x) ≡ x *ℤ x
 negated x = ring (times (minus (num (pos 0)) (at 0)) (minus (num (pos 0)) (at 0))) (times (at 0) (at 0)) (vars (x ∷ [])) refl
 
-pub circle_in_box : (h : HalfArc) (r : ℤ) (b : Box) (z : Vector) → Place z → (bend h ≡ pos 0 → ⊥) → sides h ≤ℤ (size (bend h) *ℤ r) → GoesBeyond h.from r r b → power h z ≤ℤ pos 0 → InBox b z
+pub circle_in_box : (h : HalfArc) (r : ℤ) (b : Box) (z : Vector) → Place z → (bend h ≡ pos 0 → ⊥)
+    → sides h ≤ℤ (size (bend h) *ℤ r) → GoesBeyond h.from r r b → power h z ≤ℤ pos 0 → InBox b z
 circle_in_box h r b z hz bent far beyond low =
     let D = size (bend h) in
     let X = off_x h z in
@@ -199,7 +213,8 @@ circle_in_box h r b z hz bent far beyond low =
     both a b c h k = omega (arith, ints, h, k)
 
 -- ---- places with a side
-pub side_in_box : (h : HalfArc) (b : Box) (z : Vector) → Place z → GoesBeyond h.from (pos (2 ^ 28)) (pos (2 ^ 28)) b → HasSide h z → InBox b z
+pub side_in_box : (h : HalfArc) (b : Box) (z : Vector) → Place z
+    → GoesBeyond h.from (pos (2 ^ 28)) (pos (2 ^ 28)) b → HasSide h z → InBox b z
 side_in_box h b z hz beyond side =
     let r = side.right in
     let l = side.left in
@@ -222,11 +237,15 @@ near_has p q near =
     let d = near.y.below in
     record { left = omega (arith, ints, a); right = omega (arith, ints, b); under = omega (arith, ints, c); over = omega (arith, ints, d) }
 
-corners_have : (p : Point) (bs : List Bay) → Each (λ b. AreNear (2 ^ 28) p b.outer × AreNear (2 ^ 28) p b.inner) bs → Each (λ b. HasPoint (near_box p) b.outer × HasPoint (near_box p) b.inner) bs
+corners_have : (p : Point) (bs : List Bay)
+    → Each (λ b. AreNear (2 ^ 28) p b.outer × AreNear (2 ^ 28) p b.inner) bs
+    → Each (λ b. HasPoint (near_box p) b.outer × HasPoint (near_box p) b.inner) bs
 corners_have p [] each = tt
 corners_have p (b ∷ rest) each = ((near_has p b.outer each.0.0, near_has p b.inner each.0.1), corners_have p rest each.1)
 
-pub tube_has_sides : (h : HalfArc) (bs : List Bay) (z : Vector) → HasCircle h → Each (λ b. AreNear (2 ^ 28) h.from b.outer × AreNear (2 ^ 28) h.from b.inner) bs → Place z → InTube h.from bs z → HasSide h z
+pub tube_has_sides : (h : HalfArc) (bs : List Bay) (z : Vector) → HasCircle h
+    → Each (λ b. AreNear (2 ^ 28) h.from b.outer × AreNear (2 ^ 28) h.from b.inner) bs → Place z
+    → InTube h.from bs z → HasSide h z
 tube_has_sides h bs z circle near hz t =
     let i = tube_has (near_box h.from) z h.from bs hz (record { left = omega (arith, ints); right = omega (arith, ints); under = omega (arith, ints); over = omega (arith, ints) }) (corners_have h.from bs near) t in
     record {
@@ -237,12 +256,14 @@ tube_has_sides h bs z circle near hz t =
       below = low h.from.y z.y z.n hz i.under;
     }
   where
-    high : (p z n : ℤ) → pos 0 <ℤ n → z ≤ℤ ((p +ℤ pos (2 ^ 28 - 1)) *ℤ n) → (z -ℤ (p *ℤ n)) <ℤ (pos (2 ^ 28) *ℤ n)
+    high : (p z n : ℤ) → pos 0 <ℤ n → z ≤ℤ ((p +ℤ pos (2 ^ 28 - 1)) *ℤ n)
+        → (z -ℤ (p *ℤ n)) <ℤ (pos (2 ^ 28) *ℤ n)
     high p z n hn h =
         let e = ring (times (plus (at 0) (minus (at 2) (num (pos 1)))) (at 1)) (minus (plus (times (at 0) (at 1)) (times (at 2) (at 1))) (at 1)) (vars (p ∷ n ∷ pos (2 ^ 28) ∷ [])) refl in
         omega (arith, ints, e, h, hn)
 
-    low : (p z n : ℤ) → pos 0 <ℤ n → ((p -ℤ pos (2 ^ 28 - 1)) *ℤ n) ≤ℤ z → (pos 0 -ℤ (z -ℤ (p *ℤ n))) <ℤ (pos (2 ^ 28) *ℤ n)
+    low : (p z n : ℤ) → pos 0 <ℤ n → ((p -ℤ pos (2 ^ 28 - 1)) *ℤ n) ≤ℤ z
+        → (pos 0 -ℤ (z -ℤ (p *ℤ n))) <ℤ (pos (2 ^ 28) *ℤ n)
     low p z n hn h =
         let e = ring (times (minus (at 0) (minus (at 2) (num (pos 1)))) (at 1)) (plus (minus (times (at 0) (at 1)) (times (at 2) (at 1))) (at 1)) (vars (p ∷ n ∷ pos (2 ^ 28) ∷ [])) refl in
         omega (arith, ints, e, h, hn)

@@ -1,5 +1,6 @@
 -- The power of a half arc along segments and near a place; triangles are convex.
-use Rattle.std.proofs.Common.{◌≡◌, ℤ, pos, ◌+ℤ◌, ◌*ℤ◌, ◌-ℤ◌, ◌<ℤ◌, ◌≤ℤ◌, [], ◌∷◌, refl, arith, ap, sym, ◌∙◌, subst}
+use Rattle.std.proofs.Common.{◌≡◌, ℤ, pos, ◌+ℤ◌, ◌*ℤ◌, ◌-ℤ◌, ◌<ℤ◌, ◌≤ℤ◌, [], ◌∷◌, refl, arith, ap}
+use Rattle.std.proofs.Common.{sym, ◌∙◌, subst}
 use Rattle.std.proofs.lemmas.Int.{ints, by_lt_z}
 use Rattle.plane.specs.Forms.Vectors.{Vector, Place, Same, mix}
 use Rattle.plane.specs.Forms.Arcs.{HalfArc, bend, circle_x, circle_y, power, seen}
@@ -19,16 +20,19 @@ use Rattle.plane.proofs.Caps.Seen.{seen-mix, power_below, power_most, shape_belo
 use Rattle.plane.proofs.Algebra.Ring.{Expr, at, num, plus, minus, times, vars, ring}
 
 -- ---- equal places are on one side
-pub inside_same : (h : HalfArc) (z v : Vector) → Place z → Place v → Same z v → power h z <ℤ pos 0 → power h v <ℤ pos 0
+pub inside_same : (h : HalfArc) (z v : Vector) → Place z → Place v → Same z v → power h z <ℤ pos 0
+    → power h v <ℤ pos 0
 inside_same h z v Z V e k = by_lt_z (power h v) (pos 0) (λ l. l)
     (λ (l : pos 0 ≤ℤ power h v). let m = not_inside_same h v z V Z (same_sym z v e) l in absurd (omega (arith, ints, m, k)))
 
-pub outside_same : (h : HalfArc) (z v : Vector) → Place z → Place v → Same z v → pos 0 <ℤ power h z → pos 0 <ℤ power h v
+pub outside_same : (h : HalfArc) (z v : Vector) → Place z → Place v → Same z v → pos 0 <ℤ power h z
+    → pos 0 <ℤ power h v
 outside_same h z v Z V e k = by_lt_z (pos 0) (power h v) (λ l. l)
     (λ (l : power h v ≤ℤ pos 0). let m = not_outside_same h v z V Z (same_sym z v e) l in absurd (omega (arith, ints, m, k)))
 
 -- ---- convexity
-weak_shape : (c : Cap) (s : ℤ) (p : Vector) (t : ℤ) (q : Vector) → IsCap c → Place p → Place q → pos 0 ≤ℤ s → pos 0 ≤ℤ t
+weak_shape : (c : Cap) (s : ℤ) (p : Vector) (t : ℤ) (q : Vector) → IsCap c → Place p → Place q
+    → pos 0 ≤ℤ s → pos 0 ≤ℤ t
     → shape c p ≤ℤ pos 0 → shape c q ≤ℤ pos 0 → shape c (mix s p t q) ≤ℤ pos 0
 weak_shape c s p t q hc hp hq hs ht a b =
     let dx = (q.n *ℤ p.x) -ℤ (p.n *ℤ q.x) in
@@ -54,14 +58,16 @@ weak_shape c s p t q hc hp hq hs ht a b =
         omega (arith, ints, a, b)
 
 -- places that are not outside
-pub not_outside_mix : (h : HalfArc) (s : ℤ) (p : Vector) (t : ℤ) (q : Vector) → IsCap (cap h) → Place p → Place q → pos 0 ≤ℤ s → pos 0 ≤ℤ t
+pub not_outside_mix : (h : HalfArc) (s : ℤ) (p : Vector) (t : ℤ) (q : Vector) → IsCap (cap h)
+    → Place p → Place q → pos 0 ≤ℤ s → pos 0 ≤ℤ t
     → power h p ≤ℤ pos 0 → power h q ≤ℤ pos 0 → power h (mix s p t q) ≤ℤ pos 0
 not_outside_mix h s p t q hc P Q hs ht a b =
     power_most h (mix s p t q) hc (subst (λ (z : Vector). shape (cap h) z ≤ℤ pos 0) (sym (seen-mix h s p t q))
     (weak_shape (cap h) s (seen h p) t (seen h q) hc P Q hs ht (shape_most h p hc a) (shape_most h q hc b)))
 
 -- places strictly inside
-pub inside_both : (h : HalfArc) (s : ℤ) (p : Vector) (t : ℤ) (q : Vector) → IsCap (cap h) → Place p → Place q → pos 0 ≤ℤ s → pos 0 ≤ℤ t → pos 0 <ℤ (s +ℤ t)
+pub inside_both : (h : HalfArc) (s : ℤ) (p : Vector) (t : ℤ) (q : Vector) → IsCap (cap h) → Place p
+    → Place q → pos 0 ≤ℤ s → pos 0 ≤ℤ t → pos 0 <ℤ (s +ℤ t)
     → power h p <ℤ pos 0 → power h q <ℤ pos 0 → power h (mix s p t q) <ℤ pos 0
 inside_both h s p t q hc P Q hs ht some a b =
     power_below h (mix s p t q) hc (subst (λ (z : Vector). shape (cap h) z <ℤ pos 0) (sym (seen-mix h s p t q))
@@ -81,7 +87,8 @@ POWER D A B AX AY x y n =
 abbrev both : HalfArc → Vector → Vector → ℤ
 both h x y = (power h (mix (pos 1) x (pos 1) y) -ℤ power h x) -ℤ power h y
 
-power-sum : (h : HalfArc) (m : ℤ) (x : Vector) (t : ℤ) (y : Vector) → power h (mix m x t y) ≡ ((m *ℤ m) *ℤ power h x) +ℤ (((m *ℤ t) *ℤ both h x y) +ℤ ((t *ℤ t) *ℤ power h y))
+power-sum : (h : HalfArc) (m : ℤ) (x : Vector) (t : ℤ) (y : Vector)
+    → power h (mix m x t y) ≡ ((m *ℤ m) *ℤ power h x) +ℤ (((m *ℤ t) *ℤ both h x y) +ℤ ((t *ℤ t) *ℤ power h y))
 unfolding power
 power-sum h m x t y =
     let P : Expr → Expr → Expr → Expr = POWER (at 0) (at 1) (at 2) (at 3) (at 4) in
@@ -107,7 +114,8 @@ margin b f = ((b *ℤ b) +ℤ (f *ℤ f)) +ℤ pos 1
 margin_least : (b f : ℤ) → pos 0 ≤ℤ margin b f
 margin_least b f = let x = square_nonnegative b in let y = square_nonnegative f in omega (arith, ints, x, y)
 
-first_wins : (a b f m t : ℤ) → a <ℤ pos 0 → pos 0 ≤ℤ t → (margin b f *ℤ t) ≤ℤ m → pos 0 <ℤ (m +ℤ t) → (((m *ℤ m) *ℤ a) +ℤ (((m *ℤ t) *ℤ b) +ℤ ((t *ℤ t) *ℤ f))) <ℤ pos 0
+first_wins : (a b f m t : ℤ) → a <ℤ pos 0 → pos 0 ≤ℤ t → (margin b f *ℤ t) ≤ℤ m → pos 0 <ℤ (m +ℤ t)
+    → (((m *ℤ m) *ℤ a) +ℤ (((m *ℤ t) *ℤ b) +ℤ ((t *ℤ t) *ℤ f))) <ℤ pos 0
 first_wins a b f m t ha ht hm some =
     let b2 = b *ℤ b in
     let f2 = f *ℤ f in
@@ -140,7 +148,8 @@ first_wins a b f m t ha ht hm some =
     omega (arith, ints, one, k, mm, u, v))
 
 -- a place near x on the way to y, as a mix of x and y
-near_mix : (n : ℤ) (x y z : Vector) → pos 0 ≤ℤ n → (w : IsOnWay x (mix n x (pos 1) y) z) → (m : ℤ) × ((n *ℤ w.t) ≤ℤ m) × (pos 0 <ℤ (m +ℤ w.t)) × (z ≡ mix m x w.t y)
+near_mix : (n : ℤ) (x y z : Vector) → pos 0 ≤ℤ n → (w : IsOnWay x (mix n x (pos 1) y) z)
+    → (m : ℤ) × ((n *ℤ w.t) ≤ℤ m) × (pos 0 <ℤ (m +ℤ w.t)) × (z ≡ mix m x w.t y)
 near_mix n x y z hn w =
     let s = w.s_least in
     let t = w.t_least in
@@ -153,7 +162,8 @@ near_mix n x y z hn w =
       w.is ∙ mix_start w.s w.t n (pos 1) x y ∙ ap (λ (v : ℤ). mix (w.s +ℤ (w.t *ℤ n)) x v y) (omega (arith, ints)),
     )
 
-pub near_inside : (h : HalfArc) (x y : Vector) → power h x <ℤ pos 0 → (n : ℤ) × (pos 0 ≤ℤ n) × ((z : Vector) → IsOnWay x (mix n x (pos 1) y) z → power h z <ℤ pos 0)
+pub near_inside : (h : HalfArc) (x y : Vector) → power h x <ℤ pos 0
+    → (n : ℤ) × (pos 0 ≤ℤ n) × ((z : Vector) → IsOnWay x (mix n x (pos 1) y) z → power h z <ℤ pos 0)
 near_inside h x y k =
     let n = margin (both h x y) (power h y) in (
       n,
@@ -165,14 +175,16 @@ near_inside h x y k =
           omega (arith, ints, f, e),
     )
 
-negated : (a b f m t : ℤ) → ((m *ℤ m) *ℤ (pos 0 -ℤ a)) +ℤ (((m *ℤ t) *ℤ (pos 0 -ℤ b)) +ℤ ((t *ℤ t) *ℤ (pos 0 -ℤ f))) ≡ pos 0 -ℤ (((m *ℤ m) *ℤ a) +ℤ (((m *ℤ t) *ℤ b) +ℤ ((t *ℤ t) *ℤ f)))
+negated : (a b f m t : ℤ)
+    → ((m *ℤ m) *ℤ (pos 0 -ℤ a)) +ℤ (((m *ℤ t) *ℤ (pos 0 -ℤ b)) +ℤ ((t *ℤ t) *ℤ (pos 0 -ℤ f))) ≡ pos 0 -ℤ (((m *ℤ m) *ℤ a) +ℤ (((m *ℤ t) *ℤ b) +ℤ ((t *ℤ t) *ℤ f)))
 negated a b f m t =
     let A = at 0 in let B = at 1 in let F = at 2 in let M = at 3 in let T = at 4 in
     let sum : Expr → Expr → Expr → Expr = λ a b f. plus (times (times M M) a) (plus (times (times M T) b) (times (times T T) f)) in
     let zero = num (pos 0) in
     ring (sum (minus zero A) (minus zero B) (minus zero F)) (minus zero (sum A B F)) (vars (a ∷ b ∷ f ∷ m ∷ t ∷ [])) refl
 
-pub near_outside : (h : HalfArc) (x y : Vector) → pos 0 <ℤ power h x → (n : ℤ) × (pos 0 ≤ℤ n) × ((z : Vector) → IsOnWay x (mix n x (pos 1) y) z → pos 0 <ℤ power h z)
+pub near_outside : (h : HalfArc) (x y : Vector) → pos 0 <ℤ power h x
+    → (n : ℤ) × (pos 0 ≤ℤ n) × ((z : Vector) → IsOnWay x (mix n x (pos 1) y) z → pos 0 <ℤ power h z)
 near_outside h x y k =
     let b = pos 0 -ℤ both h x y in
     let g = pos 0 -ℤ power h y in
@@ -188,10 +200,12 @@ near_outside h x y k =
     )
 
 -- ---- a segment on one side of the circle misses the half arc
-way_of_mix : (p q : Vector) (s t : ℤ) → pos 0 ≤ℤ s → pos 0 ≤ℤ t → pos 0 <ℤ (s +ℤ t) → IsOnWay p q (mix s p t q)
+way_of_mix : (p q : Vector) (s t : ℤ) → pos 0 ≤ℤ s → pos 0 ≤ℤ t → pos 0 <ℤ (s +ℤ t)
+    → IsOnWay p q (mix s p t q)
 way_of_mix p q s t hs ht some = record { s = s; t = t; s_least = hs; t_least = ht; some = some; is = refl }
 
-pub inside_way_misses : (h : HalfArc) (p q : Vector) → Place p → Place q → ((z : Vector) → IsOnWay p q z → power h z <ℤ pos 0) → HitsArc h p q → ⊥
+pub inside_way_misses : (h : HalfArc) (p q : Vector) → Place p → Place q
+    → ((z : Vector) → IsOnWay p q z → power h z <ℤ pos 0) → HitsArc h p q → ⊥
 inside_way_misses h p q P Q f k =
     let b = k.v_between in
     let m = mix b.s p b.t q in
@@ -199,7 +213,8 @@ inside_way_misses h p q P Q f k =
     let o = k.v_out in
     omega (arith, ints, a, o)
 
-pub outside_way_misses : (h : HalfArc) (p q : Vector) → Place p → Place q → ((z : Vector) → IsOnWay p q z → pos 0 <ℤ power h z) → HitsArc h p q → ⊥
+pub outside_way_misses : (h : HalfArc) (p q : Vector) → Place p → Place q
+    → ((z : Vector) → IsOnWay p q z → pos 0 <ℤ power h z) → HitsArc h p q → ⊥
 outside_way_misses h p q P Q f k =
     let b = k.u_between in
     let m = mix b.s p b.t q in
@@ -209,7 +224,9 @@ outside_way_misses h p q P Q f k =
 
 -- ---- triangles are convex
 -- the mean of two means, at the scale of both
-mean_entry : (s u m n pn qn a b c e f g x y z px qx : ℤ) → px *ℤ m ≡ (((a *ℤ x) +ℤ (b *ℤ y)) +ℤ (c *ℤ z)) *ℤ pn → qx *ℤ n ≡ (((e *ℤ x) +ℤ (f *ℤ y)) +ℤ (g *ℤ z)) *ℤ qn
+mean_entry : (s u m n pn qn a b c e f g x y z px qx : ℤ)
+    → px *ℤ m ≡ (((a *ℤ x) +ℤ (b *ℤ y)) +ℤ (c *ℤ z)) *ℤ pn
+    → qx *ℤ n ≡ (((e *ℤ x) +ℤ (f *ℤ y)) +ℤ (g *ℤ z)) *ℤ qn
     → (((((s *ℤ (n *ℤ pn)) *ℤ a) +ℤ ((u *ℤ (m *ℤ qn)) *ℤ e)) *ℤ x) +ℤ ((((s *ℤ (n *ℤ pn)) *ℤ b) +ℤ ((u *ℤ (m *ℤ qn)) *ℤ f)) *ℤ y)) +ℤ ((((s *ℤ (n *ℤ pn)) *ℤ c) +ℤ ((u *ℤ (m *ℤ qn)) *ℤ g)) *ℤ z)
     ≡ (m *ℤ n) *ℤ ((s *ℤ px) +ℤ (u *ℤ qx))
 mean_entry s u m n pn qn a b c e f g x y z px qx h k =
@@ -228,7 +245,8 @@ mean_entry s u m n pn qn a b c e f g x y z px qx h k =
     chain : (x y a b c d : ℤ) → x ≡ a +ℤ b → y ≡ c +ℤ d → c ≡ a → d ≡ b → x ≡ y
     chain x y a b c d e f g h = omega (arith, ints, e, f, g, h)
 
-pub triangle_mix : (t : Tile) (s : ℤ) (p : Vector) (u : ℤ) (q : Vector) → Place p → Place q → pos 0 ≤ℤ s → pos 0 ≤ℤ u → pos 0 <ℤ (s +ℤ u) → InTile t p → InTile t q → InTile t (mix s p u q)
+pub triangle_mix : (t : Tile) (s : ℤ) (p : Vector) (u : ℤ) (q : Vector) → Place p → Place q
+    → pos 0 ≤ℤ s → pos 0 ≤ℤ u → pos 0 <ℤ (s +ℤ u) → InTile t p → InTile t q → InTile t (mix s p u q)
 triangle_mix t s p u q P Q hs hu some i k = record {
   of_a = (v *ℤ i.of_a) +ℤ (w *ℤ k.of_a);
   of_b = (v *ℤ i.of_b) +ℤ (w *ℤ k.of_b);
@@ -267,14 +285,17 @@ triangle_mix t s p u q P Q hs hu some i k = record {
     ey : (weighed ((v *ℤ i.of_a) +ℤ (w *ℤ k.of_a)) t.a ((v *ℤ i.of_b) +ℤ (w *ℤ k.of_b)) t.b ((v *ℤ i.of_c) +ℤ (w *ℤ k.of_c)) t.c).y ≡ (m *ℤ n) *ℤ (mix s p u q).y
     ey = mean_entry s u m n p.n q.n i.of_a i.of_b i.of_c k.of_a k.of_b k.of_c t.a.y t.b.y t.c.y p.y q.y i.is.y k.is.y
 
-    units : (a b c r : ℤ) → r *ℤ ((a +ℤ b) +ℤ c) ≡ (((a *ℤ pos 1) +ℤ (b *ℤ pos 1)) +ℤ (c *ℤ pos 1)) *ℤ r
+    units : (a b c r : ℤ)
+        → r *ℤ ((a +ℤ b) +ℤ c) ≡ (((a *ℤ pos 1) +ℤ (b *ℤ pos 1)) +ℤ (c *ℤ pos 1)) *ℤ r
     units a b c r = let one = num (pos 1) in ring (times (at 3) (plus (plus (at 0) (at 1)) (at 2))) (times (plus (plus (times (at 0) one) (times (at 1) one)) (times (at 2) one)) (at 3)) (vars (a ∷ b ∷ c ∷ r ∷ [])) refl
 
     en : (((v *ℤ i.of_a) +ℤ (w *ℤ k.of_a)) +ℤ ((v *ℤ i.of_b) +ℤ (w *ℤ k.of_b))) +ℤ ((v *ℤ i.of_c) +ℤ (w *ℤ k.of_c)) ≡ (m *ℤ n) *ℤ (mix s p u q).n
     en = let e = mean_entry s u m n p.n q.n i.of_a i.of_b i.of_c k.of_a k.of_b k.of_c (pos 1) (pos 1) (pos 1) p.n q.n (units i.of_a i.of_b i.of_c p.n) (units k.of_a k.of_b k.of_c q.n) in omega (arith, ints, e)
 
-    one : (x y : ℤ) → y ≡ (m *ℤ n) *ℤ x → x *ℤ ((((v *ℤ i.of_a) +ℤ (w *ℤ k.of_a)) +ℤ ((v *ℤ i.of_b) +ℤ (w *ℤ k.of_b))) +ℤ ((v *ℤ i.of_c) +ℤ (w *ℤ k.of_c))) ≡ y *ℤ (mix s p u q).n
+    one : (x y : ℤ) → y ≡ (m *ℤ n) *ℤ x
+        → x *ℤ ((((v *ℤ i.of_a) +ℤ (w *ℤ k.of_a)) +ℤ ((v *ℤ i.of_b) +ℤ (w *ℤ k.of_b))) +ℤ ((v *ℤ i.of_c) +ℤ (w *ℤ k.of_c))) ≡ y *ℤ (mix s p u q).n
     one x y e = ap (λ (z : ℤ). x *ℤ z) en ∙ ring (times (at 0) (times (at 1) (at 2))) (times (times (at 1) (at 0)) (at 2)) (vars (x ∷ (m *ℤ n) ∷ (mix s p u q).n ∷ [])) refl ∙ ap (λ (z : ℤ). z *ℤ (mix s p u q).n) (sym e)
 
-pub triangle_way : (t : Tile) (p q z : Vector) → Place p → Place q → InTile t p → InTile t q → IsOnWay p q z → InTile t z
+pub triangle_way : (t : Tile) (p q z : Vector) → Place p → Place q → InTile t p → InTile t q
+    → IsOnWay p q z → InTile t z
 triangle_way t p q z P Q i k w = subst (λ (v : Vector). InTile t v) (sym w.is) (triangle_mix t w.s p w.t q P Q w.s_least w.t_least w.some i k)

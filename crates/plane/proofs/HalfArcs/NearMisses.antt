@@ -1,5 +1,6 @@
 -- Near a place a segment misses the edges that do not hold the place.
-use Rattle.std.proofs.Common.{◌≡◌, ℕ, zero, suc, ◌<◌, ℤ, pos, ◌+ℤ◌, ◌*ℤ◌, ◌-ℤ◌, ◌<ℤ◌, ◌≤ℤ◌, [], ◌∷◌, inl, inr, refl, arith, sym, ◌∙◌, subst}
+use Rattle.std.proofs.Common.{◌≡◌, ℕ, zero, suc, ◌<◌, ℤ, pos, ◌+ℤ◌, ◌*ℤ◌, ◌-ℤ◌, ◌<ℤ◌, ◌≤ℤ◌, [], ◌∷◌}
+use Rattle.std.proofs.Common.{inl, inr, refl, arith, sym, ◌∙◌, subst}
 use Rattle.std.proofs.lemmas.Int.{ints, by_lt_z}
 use Rattle.plane.specs.Forms.Vectors.{Vector, Place, mix, point, Edge, side, sweep, On, HitsEdge}
 use Rattle.plane.proofs.Algebra.Laws.{square_nonnegative, weight_at_most}
@@ -22,7 +23,8 @@ minus_most b =
     omega (arith, ints, a, e))
     (λ (l : pos 0 ≤ℤ b). omega (arith, ints, s, l))
 
-linear_wins : (a b c : ℤ) → pos 0 <ℤ a → (n : ℤ) × (pos 0 ≤ℤ n) × ((m : ℤ) → n ≤ℤ m → (pos 0 <ℤ ((m *ℤ a) +ℤ b)) × (pos 0 <ℤ ((m *ℤ a) +ℤ c)))
+linear_wins : (a b c : ℤ) → pos 0 <ℤ a
+    → (n : ℤ) × (pos 0 ≤ℤ n) × ((m : ℤ) → n ≤ℤ m → (pos 0 <ℤ ((m *ℤ a) +ℤ b)) × (pos 0 <ℤ ((m *ℤ a) +ℤ c)))
 linear_wins a b c A =
     let b2 = square_nonnegative b in
     let c2 = square_nonnegative c in
@@ -84,7 +86,8 @@ near_is_place m z p h Z P = mix_place m z (pos 1) p Z P h (omega (arith, ints)) 
 abbrev MissesNear : ℤ → Edge → Vector → Vector → Vector → Type 0
 MissesNear w e z p q = (n : ℤ) × (pos 0 ≤ℤ n) × ((m : ℤ) → n ≤ℤ m → HitsEdge w (near m z p) (near m z q) e → ⊥)
 
-by_form : (w : ℤ) (e : Edge) (z p q : Vector) (f : Vector → ℤ) → Place z → Place p → Place q → IsLinear f → pos 0 <ℤ f z → ((v : Vector) → On w e v → f v ≤ℤ pos 0) → MissesNear w e z p q
+by_form : (w : ℤ) (e : Edge) (z p q : Vector) (f : Vector → ℤ) → Place z → Place p → Place q
+    → IsLinear f → pos 0 <ℤ f z → ((v : Vector) → On w e v → f v ≤ℤ pos 0) → MissesNear w e z p q
 by_form w e z p q f Z P Q lin h none =
     let k = linear_near f lin z p q h in (
       k.0,
@@ -95,7 +98,8 @@ by_form w e z p q f Z P Q lin h none =
           (λ s t hs ht some on. let a = k.2 m l s t hs ht some in let b = none (mix s (near m z p) t (near m z q)) on in omega (arith, ints, a, b)),
     )
 
-near_misses : (w : ℤ) (e : Edge) (z p q : Vector) → Place z → Place p → Place q → (On w e z → ⊥) → MissesNear w e z p q
+near_misses : (w : ℤ) (e : Edge) (z p q : Vector) → Place z → Place p → Place q → (On w e z → ⊥)
+    → MissesNear w e z p q
 near_misses w e z p q Z P Q off = by_lt_z (pos 0) (side e z)
     (λ (a : pos 0 <ℤ side e z). by_form w e z p q (λ v. side e v) Z P Q (λ s p t q. side-mix e s p t q) a (λ v on. let x = on.line in omega (arith, ints, x)))
     (λ (a : side e z ≤ℤ pos 0). by_lt_z (side e z) (pos 0)
@@ -107,7 +111,8 @@ near_misses w e z p q Z P Q off = by_lt_z (pos 0) (side e z)
     (λ (g : sweep w z ≤ℤ (sweep w (point e.high) *ℤ z.n)). absurd (off (record { line = omega (arith, ints, a, b); low = c; high = g }))))))
 
 -- all edges but e
-pub others_missed : (w : ℤ) (E : ℕ → Edge) (e k : ℕ) (z p q : Vector) → Place z → Place p → Place q → ((f : ℕ) → f < k → (f ≡ e → ⊥) → On w (E f) z → ⊥)
+pub others_missed : (w : ℤ) (E : ℕ → Edge) (e k : ℕ) (z p q : Vector) → Place z → Place p → Place q
+    → ((f : ℕ) → f < k → (f ≡ e → ⊥) → On w (E f) z → ⊥)
     → (n : ℤ) × (pos 0 ≤ℤ n) × ((m : ℤ) → n ≤ℤ m → (f : ℕ) → f < k → (f ≡ e → ⊥) → HitsEdge w (near m z p) (near m z q) (E f) → ⊥)
 others_missed w E e zero z p q Z P Q off = (pos 0, omega (arith, ints), λ m l f h n. absurd (omega (arith, h)))
 others_missed w E e (suc k) z p q Z P Q off =

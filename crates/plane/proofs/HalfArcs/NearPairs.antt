@@ -1,5 +1,6 @@
 -- Boxes of curves: which boxes hold them, and that those of two bad curves share a place.
-use Rattle.std.proofs.Common.{◌≡◌, ◌^◌, ◌+◌, ◌*◌, ◌/◌, ℕ, ◌<◌, ◌≤◌, ℤ, pos, ◌*ℤ◌, ◌-ℤ◌, ◌≤ℤ◌, inl, inr, refl, arith, sym, subst}
+use Rattle.std.proofs.Common.{◌≡◌, ◌^◌, ◌+◌, ◌*◌, ◌/◌, ℕ, ◌<◌, ◌≤◌, ℤ, pos, ◌*ℤ◌, ◌-ℤ◌, ◌≤ℤ◌, inl}
+use Rattle.std.proofs.Common.{inr, refl, arith, sym, subst}
 use Rattle.std.proofs.lemmas.Int.{ints}
 use Rattle.std.proofs.Math.Nat.{lt-mul-div-succ}
 use Rattle.plane.specs.declared.kinds.Point.{Point}
@@ -11,20 +12,24 @@ use Rattle.plane.specs.Rule.Straights.{IsOnStraight}
 use Rattle.plane.specs.Rule.HalfArcs.{bend, HasCircle, HasSide}
 use Rattle.plane.specs.Forms.Arcs.{facing}
 use Rattle.plane.specs.Rule.Curves.{arc, IsOnKind, IsOn}
-use Rattle.plane.specs.Rule.BadPairs.{IsEndOf, EndsOn, sixteenth, IsCrossedOnTrial, AreBad, straights_meet, end_meets, crossed, one_arc}
+use Rattle.plane.specs.Rule.BadPairs.{IsEndOf, EndsOn, sixteenth, IsCrossedOnTrial, AreBad}
+use Rattle.plane.specs.Rule.BadPairs.{straights_meet, end_meets, crossed, one_arc}
 use Rattle.plane.specs.Forms.Boxes.{Box, InBox, GoesBeyond, size, sides, HoldsCurve}
 use Rattle.plane.proofs.Linear.EdgePlaces.{place_point}
 use Rattle.plane.proofs.Covers.SamePlace.{first_on, last_on}
 use Rattle.plane.proofs.Covers.NotApart.{on_sixteenths}
 use Rattle.plane.proofs.Covers.CurvePlaces.{no_kind}
 use Rattle.plane.proofs.HalfArcs.Boxes.{point_in, straight_in_box}
-use Rattle.plane.proofs.HalfArcs.ArcReach.{size_least, ends_in_cap, flat_cap_in_box, circle_in_box, side_in_box}
+use Rattle.plane.proofs.HalfArcs.ArcReach.{size_least, ends_in_cap, flat_cap_in_box, circle_in_box}
+use Rattle.plane.proofs.HalfArcs.ArcReach.{side_in_box}
 
 -- ---- boxes that hold a curve
-pub straight_held : (c : Curve) (b : Box) → c.kind ≡ kind.Straight → InBox b (point c.from) → InBox b (point c.to) → HoldsCurve b c
+pub straight_held : (c : Curve) (b : Box) → c.kind ≡ kind.Straight → InBox b (point c.from)
+    → InBox b (point c.to) → HoldsCurve b c
 straight_held c b s from to = record { from = from; to = to; cap = λ k. absurd (no_kind c.kind s k) }
 
-beyond_has : (p : Point) (x y : ℤ) (b : Box) → pos 0 ≤ℤ x → pos 0 ≤ℤ y → GoesBeyond p x y b → InBox b (point p)
+beyond_has : (p : Point) (x y : ℤ) (b : Box) → pos 0 ≤ℤ x → pos 0 ≤ℤ y → GoesBeyond p x y b
+    → InBox b (point p)
 beyond_has p x y b hx hy g =
     let l = g.left in
     let r = g.right in
@@ -32,7 +37,9 @@ beyond_has p x y b hx hy g =
     let o = g.over in
     point_in b p (record { left = omega (arith, ints, hx, l); right = omega (arith, ints, hx, r); under = omega (arith, ints, hy, u); over = omega (arith, ints, hy, o) })
 
-pub flat_held : (c : Curve) (x y : ℤ) (b : Box) → pos 0 ≤ℤ facing (arc c) → size (c.to.y -ℤ c.from.y) ≤ℤ (pos 2 *ℤ x) → size (c.to.x -ℤ c.from.x) ≤ℤ (pos 2 *ℤ y) → GoesBeyond c.from x y b → GoesBeyond c.to x y b → HoldsCurve b c
+pub flat_held : (c : Curve) (x y : ℤ) (b : Box) → pos 0 ≤ℤ facing (arc c)
+    → size (c.to.y -ℤ c.from.y) ≤ℤ (pos 2 *ℤ x) → size (c.to.x -ℤ c.from.x) ≤ℤ (pos 2 *ℤ y)
+    → GoesBeyond c.from x y b → GoesBeyond c.to x y b → HoldsCurve b c
 flat_held c x y b half hx hy first second =
     let lx = size_least (c.to.y -ℤ c.from.y) in
     let ly = size_least (c.to.x -ℤ c.from.x) in
@@ -44,7 +51,8 @@ flat_held c x y b half hx hy first second =
       cap = λ k z hz side in_cap. flat_cap_in_box (arc c) x y b z hz side.circle.bent half hx hy first second in_cap;
     }
 
-pub round_held : (c : Curve) (r : ℤ) (b : Box) → (bend (arc c) ≡ pos 0 → ⊥) → sides (arc c) ≤ℤ (size (bend (arc c)) *ℤ r) → GoesBeyond c.from r r b → HoldsCurve b c
+pub round_held : (c : Curve) (r : ℤ) (b : Box) → (bend (arc c) ≡ pos 0 → ⊥)
+    → sides (arc c) ≤ℤ (size (bend (arc c)) *ℤ r) → GoesBeyond c.from r r b → HoldsCurve b c
 round_held c r b bent far beyond =
     let ends = ends_in_cap (arc c) in
     record {
@@ -53,7 +61,8 @@ round_held c r b bent far beyond =
       cap = λ k z hz side in_cap. circle_in_box (arc c) r b z hz bent far beyond in_cap.within;
     }
 
-pub far_held : (c : Curve) (b : Box) → HasCircle (arc c) → GoesBeyond c.from (pos (2 ^ 28)) (pos (2 ^ 28)) b → HoldsCurve b c
+pub far_held : (c : Curve) (b : Box) → HasCircle (arc c)
+    → GoesBeyond c.from (pos (2 ^ 28)) (pos (2 ^ 28)) b → HoldsCurve b c
 far_held c b circle beyond =
     let zero_side : HasSide (arc c) (point c.from) = record { circle = circle; right = omega (arith, ints); left = omega (arith, ints); above = omega (arith, ints); below = omega (arith, ints) } in
     let a = circle.ends.x.above in
@@ -67,7 +76,8 @@ far_held c b circle beyond =
       cap = λ k z hz side in_cap. side_in_box (arc c) b z hz beyond side;
     }
 
-pub wild_held : (c : Curve) (b : Box) → (HasCircle (arc c) → ⊥) → InBox b (point c.from) → InBox b (point c.to) → HoldsCurve b c
+pub wild_held : (c : Curve) (b : Box) → (HasCircle (arc c) → ⊥) → InBox b (point c.from)
+    → InBox b (point c.to) → HoldsCurve b c
 wild_held c b none from to = record { from = from; to = to; cap = λ k z hz side. absurd (none side.circle) }
 
 -- ---- the rounding of a program
@@ -78,7 +88,8 @@ pub quotient_up : (a b : ℕ) → 0 < b → a ≤ b * (a / b + 1)
 quotient_up a b h = let k = lt-mul-div-succ a {b = b} h in omega (arith, k)
 
 -- ---- places on a curve
-pub place_held : (c : Curve) (b : Box) (z : Vector) → HoldsCurve b c → Place z → (c.kind ≡ kind.HalfArc → HasSide (arc c) z) → IsOn c z → InBox b z
+pub place_held : (c : Curve) (b : Box) (z : Vector) → HoldsCurve b c → Place z
+    → (c.kind ≡ kind.HalfArc → HasSide (arc c) z) → IsOn c z → InBox b z
 place_held c b z held hz side on = by_kind c.kind refl on
   where
     by_kind : (k : CurveKind) → c.kind ≡ k → IsOnKind k c z → InBox b z
@@ -96,10 +107,12 @@ ShareAPlace a b = (z : Vector) × Place z × InBox a z × InBox b z
 share_back : (a b : Box) → ShareAPlace a b → ShareAPlace b a
 share_back a b s = (s.0, s.1, s.3, s.2)
 
-ends_share : (c d : Curve) (a b : Box) → HoldsCurve a c → HoldsCurve b d → EndsOn c d → ShareAPlace a b
+ends_share : (c d : Curve) (a b : Box) → HoldsCurve a c → HoldsCurve b d → EndsOn c d
+    → ShareAPlace a b
 ends_share c d a b hc hd m = (point m.at, place_point m.at, end_held c a m.at hc m.of_first, place_held d b (point m.at) hd (place_point m.at) m.has_side m.on_second)
 
-trial_shares : (c d : Curve) (a b : Box) → HoldsCurve a c → HoldsCurve b d → IsCrossedOnTrial c d → ShareAPlace a b
+trial_shares : (c d : Curve) (a b : Box) → HoldsCurve a c → HoldsCurve b d → IsCrossedOnTrial c d
+    → ShareAPlace a b
 trial_shares c d a b hc hd t =
     let p = sixteenth c t.k in
     let q = sixteenth c (t.k + 1) in
@@ -111,7 +124,8 @@ trial_shares c d a b hc hd t =
       | inr s ↦ (q, Q, on q Q (last_on p q P Q), hd.cap t.half_arc q Q t.crossing.second_side (record { within = (let k = s.1 in omega (arith, ints, k)); away = t.crossing.second_away }))
     ]
 
-pub bad_share : (c d : Curve) (a b : Box) → AreBad c d → HoldsCurve a c → HoldsCurve b d → ShareAPlace a b
+pub bad_share : (c d : Curve) (a b : Box) → AreBad c d → HoldsCurve a c → HoldsCurve b d
+    → ShareAPlace a b
 bad_share c d a b (straights_meet m) hc hd = (m.z, m.place, place_held c a m.z hc m.place (λ k. absurd (no_kind c.kind m.first k)) m.on_first, place_held d b m.z hd m.place (λ k. absurd (no_kind d.kind m.second k)) m.on_second)
 bad_share c d a b (end_meets m) hc hd = elim m.ends [ inl e ↦ ends_share c d a b hc hd e | inr e ↦ share_back b a (ends_share d c b a hd hc e) ]
 bad_share c d a b (crossed (inl t)) hc hd = trial_shares c d a b hc hd t

@@ -20,7 +20,8 @@ pub bow_one : (g h : HalfArc) (v : Vector) → OneArc g h → bow g v ≡ bow h 
 bow_one g h v (inl e) = ap (λ (x : HalfArc). bow x v) e
 bow_one g h v (inr e) = ap (λ (x : HalfArc). bow x v) e ∙ bow-back h v
 
-pub hits_one : (g h : HalfArc) (p q : Vector) → OneArc g h → Place p → Place q → HitsHalfArc h p q → HitsArc g p q
+pub hits_one : (g h : HalfArc) (p q : Vector) → OneArc g h → Place p → Place q → HitsHalfArc h p q
+    → HitsArc g p q
 hits_one g h p q o P Q k = record {
   u = k.u;
   v = k.v;

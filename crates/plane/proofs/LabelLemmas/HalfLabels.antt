@@ -1,15 +1,18 @@
 -- Matched labels, by numbers: each cell has one label, linked cells have one label, and a path keeps it.
 -- An outer place has the label 0 of the borders.
-use Rattle.std.proofs.Common.{◌≡◌, ℕ, zero, suc, ◌+◌, ◌-◌, ◌<◌, ◌≤◌, List, ◌++◌, length, refl, arith, ap, sym, ◌∙◌, inl, inr, subst}
+use Rattle.std.proofs.Common.{◌≡◌, ℕ, zero, suc, ◌+◌, ◌-◌, ◌<◌, ◌≤◌, List, ◌++◌, length, refl}
+use Rattle.std.proofs.Common.{arith, ap, sym, ◌∙◌, inl, inr, subst}
 use Rattle.plane.specs.Forms.Vectors.{Vector, Place}
 use Rattle.plane.specs.Faces.Replays.{Replay, IsOffEdges}
 use Rattle.plane.proofs.Runs.RunWords.{IsRun, IsLawful}
-use Rattle.plane.specs.Faces.Cells.{label_of, Sector, IsSector, corner, sector, IsBorder, Opens, Linked, stays, onward, back, JoinedByEdges}
+use Rattle.plane.specs.Faces.Cells.{label_of, Sector, IsSector, corner, sector, IsBorder, Opens}
+use Rattle.plane.specs.Faces.Cells.{Linked, stays, onward, back, JoinedByEdges}
 use Rattle.plane.proofs.Strips.OuterWords.{IsOuterByEdges}
 use Rattle.plane.specs.Faces.Labels.{Labels, Match, label_at}
 use Rattle.plane.specs.Faces.Halves.{IsMatched}
 use Rattle.plane.proofs.LabelLemmas.LabelWords.{label_over}
-use Rattle.plane.proofs.LabelLemmas.Matches.{match_highest, at_front, at_end, over_back, sides_agree, step_match}
+use Rattle.plane.proofs.LabelLemmas.Matches.{match_highest, at_front, at_end, over_back}
+use Rattle.plane.proofs.LabelLemmas.Matches.{sides_agree, step_match}
 use Rattle.plane.proofs.Strips.Joins.{opens_from, opens_to, joined_linked}
 use Rattle.plane.proofs.Strips.Outer.{outer_linked}
 
@@ -23,7 +26,8 @@ module _ (r : Replay) (run : IsRun r) (law : IsLawful r) (lab : Labels) (matched
       (step_match lab (r.step k) (subst (λ (es : List ℕ). Match lab 0 es 0) (run.before k l) (labelled k (omega arith))) (matched k l))
 
   -- a cell's lower side and its upper side have one label
-  pub upper_label : (c : Sector) → IsSector r c → label_of lab r c ≡ label_over lab 0 c.index (r.list c.strip)
+  pub upper_label : (c : Sector) → IsSector r c
+      → label_of lab r c ≡ label_over lab 0 c.index (r.list c.strip)
   upper_label c C = sides_agree lab 0 0 c.index (r.list c.strip) C.index (labelled c.strip C.strip)
 
   pub border_label : (c : Sector) → IsSector r c → IsBorder r c → label_of lab r c ≡ 0
@@ -61,9 +65,11 @@ module _ (r : Replay) (run : IsRun r) (law : IsLawful r) (lab : Labels) (matched
   linked_label _ _ (back c x d o l) = sym (opens_label x c o) ∙ linked_label x d l
 
   -- joined places have one label
-  pub joined_label : (p q : Vector) → JoinedByEdges r p q → Place p → Place q → IsOffEdges r p → label_of lab r (sector r p) ≡ label_of lab r (sector r q)
+  pub joined_label : (p q : Vector) → JoinedByEdges r p q → Place p → Place q → IsOffEdges r p
+      → label_of lab r (sector r p) ≡ label_of lab r (sector r q)
   joined_label p q j P Q off = linked_label (sector r p) (sector r q) (joined_linked r run law p q j P Q off)
 
   -- an outer place has the border's label
-  pub outer_label : (p : Vector) → Place p → IsOffEdges r p → IsOuterByEdges r p → label_of lab r (sector r p) ≡ 0
+  pub outer_label : (p : Vector) → Place p → IsOffEdges r p → IsOuterByEdges r p
+      → label_of lab r (sector r p) ≡ 0
   outer_label p P off o = linked_label (sector r p) corner (outer_linked r run law p P off o)

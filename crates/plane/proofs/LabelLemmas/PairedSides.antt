@@ -1,5 +1,6 @@
 -- Numbers of half-edges that are equal on both sides of each cell, and 0 at the border, match as labels.
-use Rattle.std.proofs.Common.{◌≡◌, ℕ, suc, ◌+◌, ◌≤◌, List, [], ◌∷◌, ◌++◌, length, refl, arith, sym, ◌∙◌, ◌⊎◌, inl, inr, subst}
+use Rattle.std.proofs.Common.{◌≡◌, ℕ, suc, ◌+◌, ◌≤◌, List, [], ◌∷◌, ◌++◌, length, refl, arith, sym}
+use Rattle.std.proofs.Common.{◌∙◌, ◌⊎◌, inl, inr, subst}
 use Rattle.plane.specs.Faces.Labels.{Match, last_label}
 use Rattle.plane.specs.Faces.Replays.{Replay}
 use Rattle.plane.proofs.Runs.RunWords.{IsRun}
@@ -14,7 +15,8 @@ module _ (r : Replay) (run : IsRun r) (face : Half → ℕ) (across : (g h : Hal
   abbrev IsFloor : ℕ → ℕ → ℕ → Type 0
   IsFloor k n f = (IsBorder r (cell_of k n) × (f ≡ 0)) ⊎ ((e : ℕ) × Beside r (over e) (cell_of k n) × (f ≡ face (over e)))
 
-  match_from : (k n f : ℕ) (es : List ℕ) → k ≤ r.steps → n + length es ≡ length (r.list k) → StandsFrom r k n es → IsFloor k n f → Match (numbers face) f es 0
+  match_from : (k n f : ℕ) (es : List ℕ) → k ≤ r.steps → n + length es ≡ length (r.list k)
+      → StandsFrom r k n es → IsFloor k n f → Match (numbers face) f es 0
   match_from k n f [] h size stand (inl b) = b.1
   match_from k n f [] h size stand (inr b) =
       b.2 ∙ border (over b.0) (cell_of k n, record { strip = h; index = omega (arith, size) }, b.1, inr (omega (arith, size)))

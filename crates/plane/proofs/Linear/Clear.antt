@@ -1,7 +1,9 @@
 -- Segments that hit no edge: their parts, and the sides that they keep.
-use Rattle.std.proofs.Common.{◌≡◌, ℤ, pos, ◌+ℤ◌, ◌*ℤ◌, ◌<ℤ◌, ◌≤ℤ◌, [], ◌∷◌, refl, arith, sym, ◌∙◌, ◌⊎◌, subst}
+use Rattle.std.proofs.Common.{◌≡◌, ℤ, pos, ◌+ℤ◌, ◌*ℤ◌, ◌<ℤ◌, ◌≤ℤ◌, [], ◌∷◌, refl, arith, sym, ◌∙◌}
+use Rattle.std.proofs.Common.{◌⊎◌, subst}
 use Rattle.std.proofs.lemmas.Int.{ints}
-use Rattle.plane.specs.Forms.Vectors.{Vector, Place, Same, mix, point, Edge, side, sweep, On, HitsEdge}
+use Rattle.plane.specs.Forms.Vectors.{Vector, Place, Same, mix, point, Edge, side, sweep, On}
+use Rattle.plane.specs.Forms.Vectors.{HitsEdge}
 use Rattle.plane.proofs.Algebra.Laws.{product_nonnegative, weight_at_most, product-sum}
 use Rattle.plane.proofs.Algebra.Scaling.{times_le, cancel_le, cancel_zero, product_of_zero}
 use Rattle.plane.proofs.Linear.Signs.{mix_place}
@@ -44,21 +46,25 @@ mix_clear w e p q P Q h hit =
     let b = hit.between in
     h b.s b.t b.s_least b.t_least b.some (on_same w e hit.z (mix b.s p b.t q) b.is hit.place (mix_place b.s p b.t q P Q b.s_least b.t_least b.some) hit.on)
 
-pub mix_start : (a b s t : ℤ) (p q : Vector) → mix a p b (mix s p t q) ≡ mix (a +ℤ (b *ℤ s)) p (b *ℤ t) q
+pub mix_start : (a b s t : ℤ) (p q : Vector)
+    → mix a p b (mix s p t q) ≡ mix (a +ℤ (b *ℤ s)) p (b *ℤ t) q
 mix_start a b s t p q = vector_eq _ _ (one a b s t p.x q.x) (one a b s t p.y q.y) (one a b s t p.n q.n)
   where
-    one : (a b s t x y : ℤ) → (a *ℤ x) +ℤ (b *ℤ ((s *ℤ x) +ℤ (t *ℤ y))) ≡ ((a +ℤ (b *ℤ s)) *ℤ x) +ℤ ((b *ℤ t) *ℤ y)
+    one : (a b s t x y : ℤ)
+        → (a *ℤ x) +ℤ (b *ℤ ((s *ℤ x) +ℤ (t *ℤ y))) ≡ ((a +ℤ (b *ℤ s)) *ℤ x) +ℤ ((b *ℤ t) *ℤ y)
     one a b s t x y = ring (plus (times (at 0) (at 4)) (times (at 1) (plus (times (at 2) (at 4)) (times (at 3) (at 5)))))
         (plus (times (plus (at 0) (times (at 1) (at 2))) (at 4)) (times (times (at 1) (at 3)) (at 5))) (vars (a ∷ b ∷ s ∷ t ∷ x ∷ y ∷ [])) refl
 
 pub mix_back : (s t : ℤ) (p q : Vector) → mix s p t q ≡ mix t q s p
 mix_back s t p q = vector_eq _ _ (omega (arith, ints)) (omega (arith, ints)) (omega (arith, ints))
 
-pub clear_back : (w : ℤ) (e : Edge) (p q : Vector) → Place p → Place q → IsClear w p q e → IsClear w q p e
+pub clear_back : (w : ℤ) (e : Edge) (p q : Vector) → Place p → Place q → IsClear w p q e
+    → IsClear w q p e
 clear_back w e p q P Q h = mix_clear w e q p Q P (λ s t a b c on. clear_mix w e p q P Q h t s b a (omega (arith, ints)) (subst (λ (z : Vector). On w e z) (mix_back s t q p) on))
 
 -- the part from p to a place of the segment
-pub clear_start : (w : ℤ) (e : Edge) (p q : Vector) → Place p → Place q → (s t : ℤ) → pos 0 ≤ℤ s → pos 0 ≤ℤ t → pos 0 <ℤ (s +ℤ t)
+pub clear_start : (w : ℤ) (e : Edge) (p q : Vector) → Place p → Place q → (s t : ℤ) → pos 0 ≤ℤ s
+    → pos 0 ≤ℤ t → pos 0 <ℤ (s +ℤ t)
     → IsClear w p q e → IsClear w p (mix s p t q) e
 clear_start w e p q P Q s t hs ht some h = mix_clear w e p (mix s p t q) P (mix_place s p t q P Q hs ht some)
     (λ (a b : ℤ) (ha : pos 0 ≤ℤ a) (hb : pos 0 ≤ℤ b) (c : pos 0 <ℤ (a +ℤ b)) on.
@@ -69,7 +75,8 @@ clear_start w e p q P Q s t hs ht some h = mix_clear w e p (mix s p t q) P (mix_
     clear_mix w e p q P Q h (a +ℤ (b *ℤ s)) (b *ℤ t) (omega (arith, ints, bs)) bt (omega (arith, ints, w1, d)) (subst (λ (z : Vector). On w e z) (mix_start a b s t p q) on))
 
 -- the part from a place of the segment to q
-pub clear_end : (w : ℤ) (e : Edge) (p q : Vector) → Place p → Place q → (s t : ℤ) → pos 0 ≤ℤ s → pos 0 ≤ℤ t → pos 0 <ℤ (s +ℤ t)
+pub clear_end : (w : ℤ) (e : Edge) (p q : Vector) → Place p → Place q → (s t : ℤ) → pos 0 ≤ℤ s
+    → pos 0 ≤ℤ t → pos 0 <ℤ (s +ℤ t)
     → IsClear w p q e → IsClear w (mix s p t q) q e
 clear_end w e p q P Q s t hs ht some h =
     let o = mix s p t q in

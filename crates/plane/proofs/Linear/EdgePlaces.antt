@@ -41,7 +41,8 @@ pub record IsBalanced (s t : Edge) (z : Vector) : Type 0 where
   pub is : Same z (mix i (point t.low) j (point t.high))
   pub zero : (i *ℤ side s (point t.low)) +ℤ (j *ℤ side s (point t.high)) ≡ pos 0
 
-pub balanced : (s t : Edge) (z : Vector) → Place z → side s z ≡ pos 0 → OnStraight t z → IsBalanced s t z
+pub balanced : (s t : Edge) (z : Vector) → Place z → side s z ≡ pos 0 → OnStraight t z
+    → IsBalanced s t z
 balanced s t z Z on_s on_t =
     let L = place_point t.low in
     let H = place_point t.high in
@@ -60,7 +61,8 @@ balanced s t z Z on_s on_t =
     }
 
 -- a mean of the ends is on the edge
-pub mean_on : (e : Edge) (z : Vector) (i j : ℤ) → Place z → pos 0 ≤ℤ i → pos 0 ≤ℤ j → pos 0 <ℤ (i +ℤ j) → Same z (mix i (point e.low) j (point e.high)) → OnStraight e z
+pub mean_on : (e : Edge) (z : Vector) (i j : ℤ) → Place z → pos 0 ≤ℤ i → pos 0 ≤ℤ j
+    → pos 0 <ℤ (i +ℤ j) → Same z (mix i (point e.low) j (point e.high)) → OnStraight e z
 mean_on e z i j Z hi hj some is =
     between_straight (point e.low) (point e.high) z (place_point e.low) (place_point e.high) Z
     (record { s = i; t = j; s_least = hi; t_least = hj; some = some; is = is })

@@ -1,9 +1,12 @@
 -- What the signs of the forms say.
-use Rattle.std.proofs.Common.{◌≡◌, ℤ, pos, ◌+ℤ◌, ◌*ℤ◌, ◌-ℤ◌, ◌<ℤ◌, ◌≤ℤ◌, ◌⊎◌, inl, inr, [], ◌∷◌, refl, arith, ap, ◌∙◌}
+use Rattle.std.proofs.Common.{◌≡◌, ℤ, pos, ◌+ℤ◌, ◌*ℤ◌, ◌-ℤ◌, ◌<ℤ◌, ◌≤ℤ◌, ◌⊎◌, inl, inr, [], ◌∷◌}
+use Rattle.std.proofs.Common.{refl, arith, ap, ◌∙◌}
 use Rattle.std.proofs.lemmas.Int.{ints, by_lt_z}
 use Rattle.plane.specs.declared.kinds.Point.{Point}
-use Rattle.plane.specs.Forms.Vectors.{Vector, Place, point, mix, Between, Edge, side, sweep, up, rise, gap, On, InSpan, foot, HitsEdge}
-use Rattle.plane.proofs.Algebra.Laws.{product_positive, product_nonnegative, positive_factor, weight_at_most, product_comm, zero-product}
+use Rattle.plane.specs.Forms.Vectors.{Vector, Place, point, mix, Between, Edge, side, sweep, up}
+use Rattle.plane.specs.Forms.Vectors.{rise, gap, On, InSpan, foot, HitsEdge}
+use Rattle.plane.proofs.Algebra.Laws.{product_positive, product_nonnegative, positive_factor}
+use Rattle.plane.proofs.Algebra.Laws.{weight_at_most, product_comm, zero-product}
 use Rattle.plane.proofs.Algebra.Ring.{Expr, at, num, plus, minus, times, vars, ring}
 use Rattle.plane.proofs.Linear.Vectors.{side-mix, sweep-mix, side-up, sweep-up, gap-three}
 
@@ -34,17 +37,20 @@ foot_place w e z h k = let p = product_positive (rise w e) z.n h k in let e = fo
 least : (s n : ℤ) → pos 0 ≤ℤ s → pos 0 <ℤ n → s ≤ℤ (s *ℤ n)
 least s n h k = weight_at_most s n h k
 
-pub mix_place : (s : ℤ) (p : Vector) (t : ℤ) (q : Vector) → Place p → Place q → pos 0 ≤ℤ s → pos 0 ≤ℤ t → pos 0 <ℤ (s +ℤ t) → Place (mix s p t q)
+pub mix_place : (s : ℤ) (p : Vector) (t : ℤ) (q : Vector) → Place p → Place q → pos 0 ≤ℤ s
+    → pos 0 ≤ℤ t → pos 0 <ℤ (s +ℤ t) → Place (mix s p t q)
 mix_place s p t q hp hq hs ht h =
     let a = least s p.n hs hp in
     let b = least t q.n ht hq in
     omega (arith, ints, a, b)
 
-pub mix_between : (s : ℤ) (p : Vector) (t : ℤ) (q : Vector) → pos 0 ≤ℤ s → pos 0 ≤ℤ t → pos 0 <ℤ (s +ℤ t) → Between (mix s p t q) p q
+pub mix_between : (s : ℤ) (p : Vector) (t : ℤ) (q : Vector) → pos 0 ≤ℤ s → pos 0 ≤ℤ t
+    → pos 0 <ℤ (s +ℤ t) → Between (mix s p t q) p q
 mix_between s p t q hs ht h = record { s = s; t = t; s_least = hs; t_least = ht; some = h; is = record { x = refl; y = refl } }
 
 -- a lower bound of the sweep values of both ends is one for all weights
-pub span_low : (l s t a m b n : ℤ) → pos 0 ≤ℤ s → pos 0 ≤ℤ t → (l *ℤ m) ≤ℤ a → (l *ℤ n) ≤ℤ b → (l *ℤ ((s *ℤ m) +ℤ (t *ℤ n))) ≤ℤ ((s *ℤ a) +ℤ (t *ℤ b))
+pub span_low : (l s t a m b n : ℤ) → pos 0 ≤ℤ s → pos 0 ≤ℤ t → (l *ℤ m) ≤ℤ a → (l *ℤ n) ≤ℤ b
+    → (l *ℤ ((s *ℤ m) +ℤ (t *ℤ n))) ≤ℤ ((s *ℤ a) +ℤ (t *ℤ b))
 span_low l s t a m b n hs ht ha hb =
     let u = product_nonnegative s (a -ℤ (l *ℤ m)) hs (omega (arith, ints, ha)) in
     let v = product_nonnegative t (b -ℤ (l *ℤ n)) ht (omega (arith, ints, hb)) in
@@ -53,7 +59,8 @@ span_low l s t a m b n hs ht ha hb =
     (vars (l ∷ s ∷ t ∷ a ∷ m ∷ b ∷ n ∷ [])) refl in
     omega (arith, ints, u, v, e)
 
-pub span_high : (l s t a m b n : ℤ) → pos 0 ≤ℤ s → pos 0 ≤ℤ t → a ≤ℤ (l *ℤ m) → b ≤ℤ (l *ℤ n) → ((s *ℤ a) +ℤ (t *ℤ b)) ≤ℤ (l *ℤ ((s *ℤ m) +ℤ (t *ℤ n)))
+pub span_high : (l s t a m b n : ℤ) → pos 0 ≤ℤ s → pos 0 ≤ℤ t → a ≤ℤ (l *ℤ m) → b ≤ℤ (l *ℤ n)
+    → ((s *ℤ a) +ℤ (t *ℤ b)) ≤ℤ (l *ℤ ((s *ℤ m) +ℤ (t *ℤ n)))
 span_high l s t a m b n hs ht ha hb =
     let u = product_nonnegative s ((l *ℤ m) -ℤ a) hs (omega (arith, ints, ha)) in
     let v = product_nonnegative t ((l *ℤ n) -ℤ b) ht (omega (arith, ints, hb)) in
@@ -62,13 +69,15 @@ span_high l s t a m b n hs ht ha hb =
     (vars (l ∷ s ∷ t ∷ a ∷ m ∷ b ∷ n ∷ [])) refl in
     omega (arith, ints, u, v, e)
 
-pub mix_in_span : (w : ℤ) (e : Edge) (s : ℤ) (p : Vector) (t : ℤ) (q : Vector) → pos 0 ≤ℤ s → pos 0 ≤ℤ t → InSpan w e p → InSpan w e q → InSpan w e (mix s p t q)
+pub mix_in_span : (w : ℤ) (e : Edge) (s : ℤ) (p : Vector) (t : ℤ) (q : Vector) → pos 0 ≤ℤ s
+    → pos 0 ≤ℤ t → InSpan w e p → InSpan w e q → InSpan w e (mix s p t q)
 mix_in_span w e s p t q hs ht hp hq = record {
   low = rw (sweep-mix w s p t q) (span_low (sweep w (point e.low)) s t (sweep w p) p.n (sweep w q) q.n hs ht hp.low hq.low);
   high = rw (sweep-mix w s p t q) (span_high (sweep w (point e.high)) s t (sweep w p) p.n (sweep w q) q.n hs ht hp.high hq.high);
 }
 
-pub balanced_hit : (w : ℤ) (e : Edge) (s : ℤ) (p : Vector) (t : ℤ) (q : Vector) → Place p → Place q → InSpan w e p → InSpan w e q
+pub balanced_hit : (w : ℤ) (e : Edge) (s : ℤ) (p : Vector) (t : ℤ) (q : Vector) → Place p → Place q
+    → InSpan w e p → InSpan w e q
     → pos 0 ≤ℤ s → pos 0 ≤ℤ t → pos 0 <ℤ (s +ℤ t) → (s *ℤ side e p) +ℤ (t *ℤ side e q) ≡ pos 0 → HitsEdge w p q e
 balanced_hit w e s p t q hp hq sp sq hs ht h zero =
     let span = mix_in_span w e s p t q hs ht sp sq in
@@ -89,7 +98,8 @@ both_zero : (a b : ℤ) → a ≡ pos 0 → (pos 1 *ℤ a) +ℤ (pos 0 *ℤ b) �
 both_zero a b e = ring (plus (times (num (pos 1)) (at 0)) (times (num (pos 0)) (at 1))) (at 0) (vars (a ∷ b ∷ [])) refl ∙ e
 
 -- ---- without a hit the side does not change
-pub side_kept : (w : ℤ) (e : Edge) (p q : Vector) → Place p → Place q → InSpan w e p → InSpan w e q → (HitsEdge w p q e → ⊥)
+pub side_kept : (w : ℤ) (e : Edge) (p q : Vector) → Place p → Place q → InSpan w e p → InSpan w e q
+    → (HitsEdge w p q e → ⊥)
     → ((pos 0 <ℤ side e p) × (pos 0 <ℤ side e q)) ⊎ ((side e p <ℤ pos 0) × (side e q <ℤ pos 0))
 side_kept w e p q hp hq sp sq miss =
     let hit : (s t : ℤ) → pos 0 ≤ℤ s → pos 0 ≤ℤ t → pos 0 <ℤ (s +ℤ t) → (s *ℤ side e p) +ℤ (t *ℤ side e q) ≡ pos 0 → HitsEdge w p q e =
@@ -107,20 +117,23 @@ side_kept w e p q hp hq sp sq miss =
 
 -- ---- order on a sweep line
 -- the gap is at most the difference of the sides, where a is not under p and b not over it
-pub gap_at_most : (w : ℤ) (a b : Edge) (p : Vector) → pos 0 <ℤ rise w a → pos 0 <ℤ rise w b → pos 0 ≤ℤ side a p → side b p ≤ℤ pos 0 → gap w a b p ≤ℤ (side b p -ℤ side a p)
+pub gap_at_most : (w : ℤ) (a b : Edge) (p : Vector) → pos 0 <ℤ rise w a → pos 0 <ℤ rise w b
+    → pos 0 ≤ℤ side a p → side b p ≤ℤ pos 0 → gap w a b p ≤ℤ (side b p -ℤ side a p)
 unfolding gap
 gap_at_most w a b p ha hb sa sb =
     let u = weight_at_most (side a p) (rise w b) sa hb in
     let v = weight_at_most (pos 0 -ℤ side b p) (rise w a) (omega (arith, ints, sb)) ha in
     signs (rise w a) (rise w b) (side a p) (side b p) u v
   where
-    signs : (ra rb sa sb : ℤ) → sa ≤ℤ (sa *ℤ rb) → (pos 0 -ℤ sb) ≤ℤ ((pos 0 -ℤ sb) *ℤ ra) → ((ra *ℤ sb) -ℤ (rb *ℤ sa)) ≤ℤ (sb -ℤ sa)
+    signs : (ra rb sa sb : ℤ) → sa ≤ℤ (sa *ℤ rb) → (pos 0 -ℤ sb) ≤ℤ ((pos 0 -ℤ sb) *ℤ ra)
+        → ((ra *ℤ sb) -ℤ (rb *ℤ sa)) ≤ℤ (sb -ℤ sa)
     signs ra rb sa sb u v =
         let e = ring (minus (times (at 0) (at 3)) (times (at 1) (at 2))) (minus (num (pos 0)) (plus (times (at 2) (at 1)) (times (minus (num (pos 0)) (at 3)) (at 0)))) (vars (ra ∷ rb ∷ sa ∷ sb ∷ [])) refl in
         omega (arith, ints, u, v, e)
 
 -- a strictly below b: what is not under b is over a
-pub over_lower : (w : ℤ) (a b : Edge) (z : Vector) → pos 0 <ℤ rise w a → pos 0 <ℤ rise w b → gap w a b z <ℤ pos 0 → pos 0 ≤ℤ side b z → pos 0 <ℤ side a z
+pub over_lower : (w : ℤ) (a b : Edge) (z : Vector) → pos 0 <ℤ rise w a → pos 0 <ℤ rise w b
+    → gap w a b z <ℤ pos 0 → pos 0 ≤ℤ side b z → pos 0 <ℤ side a z
 unfolding gap
 over_lower w a b z ha hb g h =
     let u = product_nonnegative (rise w a) (side b z) (omega (arith, ints, ha)) h in
@@ -130,7 +143,8 @@ chain : (x y z u : ℤ) → x ≡ pos 0 -ℤ y → y ≡ z → u ≡ pos 0 -ℤ 
 chain x y z u e f g h = omega (arith, ints, e, f, g, h)
 
 -- a gap that is 0 or below at two sweep values, and below at one, is below 0 between them
-pub gap_between : (w : ℤ) (a b : Edge) (p q : Point) (z : Vector) → Place z → gap w a b (point p) ≤ℤ pos 0 → gap w a b (point q) ≤ℤ pos 0
+pub gap_between : (w : ℤ) (a b : Edge) (p q : Point) (z : Vector) → Place z
+    → gap w a b (point p) ≤ℤ pos 0 → gap w a b (point q) ≤ℤ pos 0
     → (gap w a b (point p) <ℤ pos 0) ⊎ (gap w a b (point q) <ℤ pos 0)
     → (sweep w (point p) *ℤ z.n) <ℤ sweep w z → sweep w z <ℤ (sweep w (point q) *ℤ z.n) → gap w a b z <ℤ pos 0
 gap_between w a b p q z hz gp gq one hp hq =
@@ -173,7 +187,8 @@ equal_down a b d h e = omega (arith, ints)
 equal_up : (a b d : ℤ) → a -ℤ b ≡ d → d ≡ pos 0 → a ≡ b
 equal_up a b d h e = omega (arith, ints)
 
-pub on_between : (w : ℤ) (e : Edge) (z : Vector) → pos 0 <ℤ rise w e → Place z → On w e z → Between z (point e.low) (point e.high)
+pub on_between : (w : ℤ) (e : Edge) (z : Vector) → pos 0 <ℤ rise w e → Place z → On w e z
+    → Between z (point e.low) (point e.high)
 unfolding side sweep rise
 on_between w e z hr hz on =
     let W = at 0 in let X = at 1 in let Y = at 2 in let N = at 3 in

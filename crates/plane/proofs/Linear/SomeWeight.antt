@@ -1,6 +1,7 @@
 -- Each list of points has a weight above 0.
 -- It is twice a bound of the y of all points, and 1.
-use Rattle.std.proofs.Common.{suc, zero, List, [], ◌∷◌, ℤ, pos, negsuc, ◌+ℤ◌, ◌*ℤ◌, ◌-ℤ◌, ◌<ℤ◌, ◌≤ℤ◌, arith}
+use Rattle.std.proofs.Common.{suc, zero, List, [], ◌∷◌, ℤ, pos, negsuc, ◌+ℤ◌, ◌*ℤ◌, ◌-ℤ◌, ◌<ℤ◌}
+use Rattle.std.proofs.Common.{◌≤ℤ◌, arith}
 use Rattle.std.proofs.lemmas.Int.{ints}
 use Rattle.plane.specs.declared.kinds.Point.{Point}
 use Rattle.plane.specs.Lists.{Each}
@@ -13,7 +14,8 @@ square_most (pos zero) = (omega (arith, ints), omega (arith, ints))
 square_most (pos (suc n)) = (omega (arith, ints), omega (arith, ints))
 square_most (negsuc n) = (omega (arith, ints), omega (arith, ints))
 
-bounds : (pts : List Point) → (n : ℤ) × (pos 0 ≤ℤ n) × Each (λ p. ((pos 0 -ℤ n) ≤ℤ p.y) × (p.y ≤ℤ n)) pts
+bounds : (pts : List Point)
+    → (n : ℤ) × (pos 0 ≤ℤ n) × Each (λ p. ((pos 0 -ℤ n) ≤ℤ p.y) × (p.y ≤ℤ n)) pts
 bounds [] = (pos 0, omega (arith, ints), tt)
 bounds (p ∷ pts) =
     let b = bounds pts in

@@ -1,10 +1,13 @@
 -- The working forms are the words of turns and dot products: Between, On and HitsEdge.
-use Rattle.std.proofs.Common.{◌≡◌, ℤ, pos, ◌+ℤ◌, ◌*ℤ◌, ◌-ℤ◌, ◌<ℤ◌, ◌≤ℤ◌, [], ◌∷◌, refl, arith, ap, sym, ◌∙◌, ◌↔◌}
+use Rattle.std.proofs.Common.{◌≡◌, ℤ, pos, ◌+ℤ◌, ◌*ℤ◌, ◌-ℤ◌, ◌<ℤ◌, ◌≤ℤ◌, [], ◌∷◌, refl, arith, ap}
+use Rattle.std.proofs.Common.{sym, ◌∙◌, ◌↔◌}
 use Rattle.std.proofs.lemmas.Int.{ints, by_lt_z}
-use Rattle.plane.specs.Forms.Vectors.{Vector, Place, Same, mix, Between, point, Edge, side, rise, InSpan, On, HitsEdge}
+use Rattle.plane.specs.Forms.Vectors.{Vector, Place, Same, mix, Between, point, Edge, side, rise}
+use Rattle.plane.specs.Forms.Vectors.{InSpan, On, HitsEdge}
 use Rattle.plane.specs.Rule.Straights.{turn, dot, IsOnStraight}
 use Rattle.plane.specs.Forms.Segments.{SharesPlace}
-use Rattle.plane.proofs.Algebra.Laws.{product_nonnegative, product_positive, square_nonnegative, square_zero, product-sum}
+use Rattle.plane.proofs.Algebra.Laws.{product_nonnegative, product_positive, square_nonnegative}
+use Rattle.plane.proofs.Algebra.Laws.{square_zero, product-sum}
 use Rattle.plane.proofs.Algebra.Scaling.{cancel_zero, cancel_le, product_of_zero, times_le}
 use Rattle.plane.proofs.Linear.Vectors.{side-mix, side-low, side-high, rise-is}
 use Rattle.plane.proofs.Linear.Signs.{mix_place, mix_in_span, on_between}
@@ -33,19 +36,22 @@ turn_cross p q z =
     (vars (p.x ∷ p.y ∷ p.n ∷ q.x ∷ q.y ∷ q.n ∷ z.x ∷ z.y ∷ z.n ∷ [])) refl
 
 -- z against the mix of p and q with the weights b.b and -a.b
-weighed : (px pm qx qm zx zn s t : ℤ) → (zx *ℤ ((s *ℤ pm) +ℤ (t *ℤ qm))) -ℤ (((s *ℤ px) +ℤ (t *ℤ qx)) *ℤ zn)
+weighed : (px pm qx qm zx zn s t : ℤ)
+    → (zx *ℤ ((s *ℤ pm) +ℤ (t *ℤ qm))) -ℤ (((s *ℤ px) +ℤ (t *ℤ qx)) *ℤ zn)
     ≡ pos 0 -ℤ ((s *ℤ ((px *ℤ zn) -ℤ (zx *ℤ pm))) +ℤ (t *ℤ ((qx *ℤ zn) -ℤ (zx *ℤ qm))))
 weighed px pm qx qm zx zn s t =
     let PX = at 0 in let PM = at 1 in let QX = at 2 in let QM = at 3 in let ZX = at 4 in let ZN = at 5 in let S = at 6 in let T = at 7 in
     ring (minus (times ZX (plus (times S PM) (times T QM))) (times (plus (times S PX) (times T QX)) ZN))
     (minus (num (pos 0)) (plus (times S (X PX PM ZX ZN)) (times T (X QX QM ZX ZN)))) (vars (px ∷ pm ∷ qx ∷ qm ∷ zx ∷ zn ∷ s ∷ t ∷ [])) refl
 
-project_x : (ax ay bx by : ℤ) → (((bx *ℤ bx) +ℤ (by *ℤ by)) *ℤ ax) +ℤ ((pos 0 -ℤ ((ax *ℤ bx) +ℤ (ay *ℤ by))) *ℤ bx) ≡ by *ℤ ((ax *ℤ by) -ℤ (ay *ℤ bx))
+project_x : (ax ay bx by : ℤ)
+    → (((bx *ℤ bx) +ℤ (by *ℤ by)) *ℤ ax) +ℤ ((pos 0 -ℤ ((ax *ℤ bx) +ℤ (ay *ℤ by))) *ℤ bx) ≡ by *ℤ ((ax *ℤ by) -ℤ (ay *ℤ bx))
 project_x ax ay bx by =
     let AX = at 0 in let AY = at 1 in let BX = at 2 in let BY = at 3 in
     ring (plus (times (plus (times BX BX) (times BY BY)) AX) (times (minus (num (pos 0)) (plus (times AX BX) (times AY BY))) BX)) (times BY (minus (times AX BY) (times AY BX))) (vars (ax ∷ ay ∷ bx ∷ by ∷ [])) refl
 
-project_y : (ax ay bx by : ℤ) → (((bx *ℤ bx) +ℤ (by *ℤ by)) *ℤ ay) +ℤ ((pos 0 -ℤ ((ax *ℤ bx) +ℤ (ay *ℤ by))) *ℤ by) ≡ (pos 0 -ℤ bx) *ℤ ((ax *ℤ by) -ℤ (ay *ℤ bx))
+project_y : (ax ay bx by : ℤ)
+    → (((bx *ℤ bx) +ℤ (by *ℤ by)) *ℤ ay) +ℤ ((pos 0 -ℤ ((ax *ℤ bx) +ℤ (ay *ℤ by))) *ℤ by) ≡ (pos 0 -ℤ bx) *ℤ ((ax *ℤ by) -ℤ (ay *ℤ bx))
 project_y ax ay bx by =
     let AX = at 0 in let AY = at 1 in let BX = at 2 in let BY = at 3 in
     ring (plus (times (plus (times BX BX) (times BY BY)) AY) (times (minus (num (pos 0)) (plus (times AX BX) (times AY BY))) BY)) (times (minus (num (pos 0)) BX) (minus (times AX BY) (times AY BX))) (vars (ax ∷ ay ∷ bx ∷ by ∷ [])) refl
@@ -53,7 +59,8 @@ project_y ax ay bx by =
 sum_zero : (a b : ℤ) → pos 0 ≤ℤ a → pos 0 ≤ℤ b → (a +ℤ b) ≤ℤ pos 0 → (a ≡ pos 0) × (b ≡ pos 0)
 sum_zero a b h k l = (omega (arith, ints), omega (arith, ints))
 
-pub straight_between : (p q z : Vector) → Place p → Place q → Place z → IsOnStraight p q z → Between z p q
+pub straight_between : (p q z : Vector) → Place p → Place q → Place z → IsOnStraight p q z
+    → Between z p q
 straight_between p q z P Q Z h =
     let ax = along_x p z in let ay = along_y p z in
     let bx = along_x q z in let by = along_y q z in
@@ -93,7 +100,8 @@ straight_between p q z P Q Z h =
     level : (a b c : ℤ) → a -ℤ b ≡ pos 0 -ℤ c → c ≡ pos 0 → a ≡ b
     level a b c e f = omega (arith, ints)
 
-    last : (px pn qx qn zx zn : ℤ) → (qx *ℤ zn) -ℤ (zx *ℤ qn) ≡ pos 0 → zx *ℤ ((pos 0 *ℤ pn) +ℤ (pos 1 *ℤ qn)) ≡ ((pos 0 *ℤ px) +ℤ (pos 1 *ℤ qx)) *ℤ zn
+    last : (px pn qx qn zx zn : ℤ) → (qx *ℤ zn) -ℤ (zx *ℤ qn) ≡ pos 0
+        → zx *ℤ ((pos 0 *ℤ pn) +ℤ (pos 1 *ℤ qn)) ≡ ((pos 0 *ℤ px) +ℤ (pos 1 *ℤ qx)) *ℤ zn
     last px pn qx qn zx zn e =
         let a = ring (times (at 4) (plus (times (num (pos 0)) (at 1)) (times (num (pos 1)) (at 3)))) (times (at 4) (at 3)) (vars (px ∷ pn ∷ qx ∷ qn ∷ zx ∷ zn ∷ [])) refl in
         let b = ring (times (plus (times (num (pos 0)) (at 0)) (times (num (pos 1)) (at 2))) (at 5)) (times (at 2) (at 5)) (vars (px ∷ pn ∷ qx ∷ qn ∷ zx ∷ zn ∷ [])) refl in
@@ -145,14 +153,16 @@ dot_mixed p q s t =
     (vars (p.x ∷ p.y ∷ p.n ∷ q.x ∷ q.y ∷ q.n ∷ s ∷ t ∷ [])) refl
 
 -- a product of two numbers that are linear in one place
-scaled_pair : (m z a b c d : ℤ) → m *ℤ a ≡ z *ℤ c → m *ℤ b ≡ z *ℤ d → (m *ℤ m) *ℤ (a *ℤ b) ≡ (z *ℤ z) *ℤ (c *ℤ d)
+scaled_pair : (m z a b c d : ℤ) → m *ℤ a ≡ z *ℤ c → m *ℤ b ≡ z *ℤ d
+    → (m *ℤ m) *ℤ (a *ℤ b) ≡ (z *ℤ z) *ℤ (c *ℤ d)
 scaled_pair m z a b c d e f =
     regroup m a b ∙ ap (λ (v : ℤ). v *ℤ (m *ℤ b)) e ∙ ap (λ (v : ℤ). (z *ℤ c) *ℤ v) f ∙ sym (regroup z c d)
   where
     regroup : (m a b : ℤ) → (m *ℤ m) *ℤ (a *ℤ b) ≡ (m *ℤ a) *ℤ (m *ℤ b)
     regroup m a b = ring (times (times (at 0) (at 0)) (times (at 1) (at 2))) (times (times (at 0) (at 1)) (times (at 0) (at 2))) (vars (m ∷ a ∷ b ∷ [])) refl
 
-along_scaled : (px pn zx zn mx mn : ℤ) → zx *ℤ mn ≡ mx *ℤ zn → mn *ℤ ((px *ℤ zn) -ℤ (zx *ℤ pn)) ≡ zn *ℤ ((px *ℤ mn) -ℤ (mx *ℤ pn))
+along_scaled : (px pn zx zn mx mn : ℤ) → zx *ℤ mn ≡ mx *ℤ zn
+    → mn *ℤ ((px *ℤ zn) -ℤ (zx *ℤ pn)) ≡ zn *ℤ ((px *ℤ mn) -ℤ (mx *ℤ pn))
 along_scaled px pn zx zn mx mn h =
     let a = ring (times (at 5) (minus (times (at 0) (at 3)) (times (at 2) (at 1)))) (minus (times (times (at 0) (at 3)) (at 5)) (times (at 1) (times (at 2) (at 5)))) (vars (px ∷ pn ∷ zx ∷ zn ∷ mx ∷ mn ∷ [])) refl in
     let b = ring (times (at 3) (minus (times (at 0) (at 5)) (times (at 4) (at 1)))) (minus (times (times (at 0) (at 3)) (at 5)) (times (at 1) (times (at 4) (at 3)))) (vars (px ∷ pn ∷ zx ∷ zn ∷ mx ∷ mn ∷ [])) refl in
@@ -170,7 +180,8 @@ dot_scaled p q z m h =
     added : (l r a b c d : ℤ) → l ≡ a +ℤ b → r ≡ c +ℤ d → a ≡ c → b ≡ d → l ≡ r
     added l r a b c d e f g h = omega (arith, ints)
 
-pub between_straight : (p q z : Vector) → Place p → Place q → Place z → Between z p q → IsOnStraight p q z
+pub between_straight : (p q z : Vector) → Place p → Place q → Place z → Between z p q
+    → IsOnStraight p q z
 between_straight p q z P Q Z h =
     let m = mix h.s p h.t q in
     let M = mix_place h.s p h.t q P Q h.s_least h.t_least h.some in
@@ -202,7 +213,8 @@ pub between_is : (p q z : Vector) → Place p → Place q → Place z → Betwee
 between_is p q z P Q Z = ((λ h. between_straight p q z P Q Z h), (λ h. straight_between p q z P Q Z h))
 
 -- ---- edges
-pub between_on : (w : ℤ) (e : Edge) (z : Vector) → pos 0 <ℤ rise w e → Place z → Between z (point e.low) (point e.high) → On w e z
+pub between_on : (w : ℤ) (e : Edge) (z : Vector) → pos 0 <ℤ rise w e → Place z
+    → Between z (point e.low) (point e.high) → On w e z
 between_on w e z u Z h =
     let l = point e.low in
     let t = point e.high in
@@ -223,7 +235,8 @@ between_on w e z u Z h =
     none : (a b c : ℤ) → a ≡ b +ℤ c → b ≡ pos 0 → c ≡ pos 0 → a ≡ pos 0
     none a b c e f g = omega (arith, ints)
 
-pub on_is : (w : ℤ) (e : Edge) (z : Vector) → pos 0 <ℤ rise w e → Place z → On w e z ↔ IsOnStraight (point e.low) (point e.high) z
+pub on_is : (w : ℤ) (e : Edge) (z : Vector) → pos 0 <ℤ rise w e → Place z
+    → On w e z ↔ IsOnStraight (point e.low) (point e.high) z
 on_is w e z u Z =
     let L : Place (point e.low) = omega (arith, ints) in
     let H : Place (point e.high) = omega (arith, ints) in (
@@ -231,7 +244,8 @@ on_is w e z u Z =
       (λ h. between_on w e z u Z (straight_between (point e.low) (point e.high) z L H Z h)),
     )
 
-pub hits_is : (w : ℤ) (e : Edge) (p q : Vector) → pos 0 <ℤ rise w e → Place p → Place q → HitsEdge w p q e ↔ SharesPlace p q e
+pub hits_is : (w : ℤ) (e : Edge) (p q : Vector) → pos 0 <ℤ rise w e → Place p → Place q
+    → HitsEdge w p q e ↔ SharesPlace p q e
 hits_is w e p q u P Q = (
   (λ h. record { z = h.z; place = h.place; of_segment = between_straight p q h.z P Q h.place h.between; of_edge = (on_is w e h.z u h.place).0 h.on }),
   (λ h. record { z = h.z; place = h.place; between = straight_between p q h.z P Q h.place h.of_segment; on = (on_is w e h.z u h.place).1 h.of_edge }),

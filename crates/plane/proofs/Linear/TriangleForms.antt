@@ -29,14 +29,17 @@ side-mean e i p j q k r =
     ring (F (m (at 3) (at 6) (at 9)) (m (at 4) (at 7) (at 10)) (m (at 5) (at 8) (at 11))) (m (F (at 3) (at 4) (at 5)) (F (at 6) (at 7) (at 8)) (F (at 9) (at 10) (at 11)))
     (vars (i ∷ j ∷ k ∷ p.x ∷ p.y ∷ p.n ∷ q.x ∷ q.y ∷ q.n ∷ r.x ∷ r.y ∷ r.n ∷ e.low.x ∷ e.low.y ∷ e.high.x ∷ e.high.y ∷ [])) refl
 
-pub mean_place : (i : ℤ) (p : Vector) (j : ℤ) (q : Vector) (k : ℤ) (r : Vector) → Place p → Place q → Place r → pos 0 ≤ℤ i → pos 0 ≤ℤ j → pos 0 ≤ℤ k → pos 0 <ℤ ((i +ℤ j) +ℤ k) → Place (mean i p j q k r)
+pub mean_place : (i : ℤ) (p : Vector) (j : ℤ) (q : Vector) (k : ℤ) (r : Vector) → Place p → Place q
+    → Place r → pos 0 ≤ℤ i → pos 0 ≤ℤ j → pos 0 ≤ℤ k → pos 0 <ℤ ((i +ℤ j) +ℤ k)
+    → Place (mean i p j q k r)
 mean_place i p j q k r P Q R hi hj hk some =
     let a = weight_at_most i p.n hi P in
     let b = weight_at_most j q.n hj Q in
     let c = weight_at_most k r.n hk R in
     omega (arith, ints, a, b, c, some)
 
-pub side_in_triangle : (e : Edge) (z p q r : Vector) → Place z → Place p → Place q → Place r → InTriangle z p q r
+pub side_in_triangle : (e : Edge) (z p q r : Vector) → Place z → Place p → Place q → Place r
+    → InTriangle z p q r
     → pos 0 ≤ℤ side e p → pos 0 ≤ℤ side e q → pos 0 ≤ℤ side e r → pos 0 ≤ℤ side e z
 side_in_triangle e z p q r Z P Q R h a b c =
     let m = mean h.i p h.j q h.k r in
@@ -47,5 +50,6 @@ side_in_triangle e z p q r Z P Q R h a b c =
     let s = side-mean e h.i p h.j q h.k r in
     same_least z.n m.n (side e m) (side e z) Z M (sym (side_same e z m h.is)) (omega (arith, ints, u, v, w, s))
 
-pub flat_is : (z a b : Vector) → Place z → Place a → Place b → InTriangle z a b b ↔ IsOnStraight a b z
+pub flat_is : (z a b : Vector) → Place z → Place a → Place b
+    → InTriangle z a b b ↔ IsOnStraight a b z
 flat_is z a b Z A B = ((λ h. flat_on z a b Z A B h), (λ h. on_flat z a b Z A B h))

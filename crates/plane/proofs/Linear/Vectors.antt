@@ -16,7 +16,8 @@ abbrev pub RISE : Expr → Expr → Expr → Expr → Expr → Expr
 RISE w lx ly hx hy = minus (plus (times w hx) hy) (plus (times w lx) ly)
 
 -- the forms are linear
-pub side-mix : (e : Edge) (s : ℤ) (p : Vector) (t : ℤ) (q : Vector) → side e (mix s p t q) ≡ (s *ℤ side e p) +ℤ (t *ℤ side e q)
+pub side-mix : (e : Edge) (s : ℤ) (p : Vector) (t : ℤ) (q : Vector)
+    → side e (mix s p t q) ≡ (s *ℤ side e p) +ℤ (t *ℤ side e q)
 unfolding side
 side-mix e s p t q =
     let S : Expr → Expr → Expr → Expr = SIDE (at 0) (at 1) (at 2) (at 3) in
@@ -26,7 +27,8 @@ side-mix e s p t q =
     ring (S (m PX QX) (m PY QY) (m PN QN)) (m (S PX PY PN) (S QX QY QN))
     (vars (e.low.x ∷ e.low.y ∷ e.high.x ∷ e.high.y ∷ s ∷ t ∷ p.x ∷ p.y ∷ p.n ∷ q.x ∷ q.y ∷ q.n ∷ [])) refl
 
-pub sweep-mix : (w s : ℤ) (p : Vector) (t : ℤ) (q : Vector) → sweep w (mix s p t q) ≡ (s *ℤ sweep w p) +ℤ (t *ℤ sweep w q)
+pub sweep-mix : (w s : ℤ) (p : Vector) (t : ℤ) (q : Vector)
+    → sweep w (mix s p t q) ≡ (s *ℤ sweep w p) +ℤ (t *ℤ sweep w q)
 unfolding sweep
 sweep-mix w s p t q =
     let S : Expr → Expr → Expr = SWEEP (at 0) in
@@ -44,7 +46,8 @@ unfolding side
 side-high e = ring (SIDE (at 0) (at 1) (at 2) (at 3) (at 2) (at 3) (num (pos 1))) (num (pos 0)) (vars (e.low.x ∷ e.low.y ∷ e.high.x ∷ e.high.y ∷ [])) refl
 
 -- the side of a point is the cross product of high - low and the point - low
-pub side-point : (e : Edge) (c : Point) → side e (point c) ≡ ((e.high.x -ℤ e.low.x) *ℤ (c.y -ℤ e.low.y)) -ℤ ((e.high.y -ℤ e.low.y) *ℤ (c.x -ℤ e.low.x))
+pub side-point : (e : Edge) (c : Point)
+    → side e (point c) ≡ ((e.high.x -ℤ e.low.x) *ℤ (c.y -ℤ e.low.y)) -ℤ ((e.high.y -ℤ e.low.y) *ℤ (c.x -ℤ e.low.x))
 unfolding side
 side-point e c =
     ring (SIDE (at 0) (at 1) (at 2) (at 3) (at 4) (at 5) (num (pos 1))) (minus (times (minus (at 2) (at 0)) (minus (at 5) (at 1))) (times (minus (at 3) (at 1)) (minus (at 4) (at 0))))
@@ -65,7 +68,8 @@ unfolding sweep
 sweep-up w = ring (plus (times (at 0) (minus (num (pos 0)) (num (pos 1)))) (at 0)) (num (pos 0)) (vars (w ∷ [])) refl
 
 -- on one sweep line, higher raises every side
-lift_apart : (w : ℤ) (e : Edge) (p q : Vector) → ((q.n *ℤ side e p) -ℤ (p.n *ℤ side e q)) -ℤ (lift p q *ℤ rise w e) ≡ (e.high.x -ℤ e.low.x) *ℤ ((q.n *ℤ sweep w p) -ℤ (p.n *ℤ sweep w q))
+lift_apart : (w : ℤ) (e : Edge) (p q : Vector)
+    → ((q.n *ℤ side e p) -ℤ (p.n *ℤ side e q)) -ℤ (lift p q *ℤ rise w e) ≡ (e.high.x -ℤ e.low.x) *ℤ ((q.n *ℤ sweep w p) -ℤ (p.n *ℤ sweep w q))
 unfolding side rise sweep lift
 lift_apart w e p q =
     let W = at 4 in
@@ -75,7 +79,8 @@ lift_apart w e p q =
     (times (minus (at 2) (at 0)) (minus (times QN (SWEEP W PX PY)) (times PN (SWEEP W QX QY))))
     (vars (e.low.x ∷ e.low.y ∷ e.high.x ∷ e.high.y ∷ w ∷ p.x ∷ p.y ∷ p.n ∷ q.x ∷ q.y ∷ q.n ∷ [])) refl
 
-pub side-lift : (w : ℤ) (e : Edge) (p q : Vector) → q.n *ℤ sweep w p ≡ p.n *ℤ sweep w q → (q.n *ℤ side e p) -ℤ (p.n *ℤ side e q) ≡ lift p q *ℤ rise w e
+pub side-lift : (w : ℤ) (e : Edge) (p q : Vector) → q.n *ℤ sweep w p ≡ p.n *ℤ sweep w q
+    → (q.n *ℤ side e p) -ℤ (p.n *ℤ side e q) ≡ lift p q *ℤ rise w e
 side-lift w e p q h =
     let a = lift_apart w e p q in
     let d : (q.n *ℤ sweep w p) -ℤ (p.n *ℤ sweep w q) ≡ pos 0 = omega (arith, ints, h) in
@@ -96,7 +101,8 @@ moment e = ((e.high.y -ℤ e.low.y) *ℤ e.low.x) -ℤ ((e.high.x -ℤ e.low.x) 
 abbrev pub gap_at_zero : ℤ → Edge → Edge → ℤ
 gap_at_zero w a b = (rise w a *ℤ moment b) -ℤ (rise w b *ℤ moment a)
 
-pub gap-form : (w : ℤ) (a b : Edge) (v : Vector) → gap w a b v ≡ (gap_slope a b *ℤ sweep w v) +ℤ (gap_at_zero w a b *ℤ v.n)
+pub gap-form : (w : ℤ) (a b : Edge) (v : Vector)
+    → gap w a b v ≡ (gap_slope a b *ℤ sweep w v) +ℤ (gap_at_zero w a b *ℤ v.n)
 unfolding gap side rise sweep
 gap-form w a b v =
     let W = at 0 in
@@ -125,7 +131,8 @@ pub gap-three : (w : ℤ) (a b : Edge) (z p q : Vector) →
 gap-three w a b z p q =
     rw (gap-form w a b z, gap-form w a b p, gap-form w a b q) (affine_three (gap_slope a b) (gap_at_zero w a b) (sweep w z) z.n (sweep w p) p.n (sweep w q) q.n)
 
-pub gap-mix : (w : ℤ) (a b : Edge) (s : ℤ) (p : Vector) (t : ℤ) (q : Vector) → gap w a b (mix s p t q) ≡ (s *ℤ gap w a b p) +ℤ (t *ℤ gap w a b q)
+pub gap-mix : (w : ℤ) (a b : Edge) (s : ℤ) (p : Vector) (t : ℤ) (q : Vector)
+    → gap w a b (mix s p t q) ≡ (s *ℤ gap w a b p) +ℤ (t *ℤ gap w a b q)
 unfolding gap
 gap-mix w a b s p t q =
     let e = ring (minus (times (at 0) (plus (times (at 2) (at 4)) (times (at 3) (at 5)))) (times (at 1) (plus (times (at 2) (at 6)) (times (at 3) (at 7)))))

@@ -5,7 +5,8 @@ use Rattle.plane.specs.declared.kinds.Point.{Point}
 use Rattle.plane.specs.Rule.Turns.{AreNear}
 use Rattle.plane.specs.Rule.Windows.{IsNarrow, IsInside}
 
-pub inside_near : (low high p q : Point) → IsNarrow low high → IsInside low high p → IsInside low high q → AreNear (2 ^ 40) p q
+pub inside_near : (low high p q : Point) → IsNarrow low high → IsInside low high p
+    → IsInside low high q → AreNear (2 ^ 40) p q
 inside_near low high p q n h k =
     let nx = n.x in let ny = n.y in
     let a = h.left in let b = h.right in let c = h.bottom in let d = h.top in

@@ -1,5 +1,6 @@
 -- A timetable repeats no edge at an event, and is the only one of its edges.
-use Rattle.std.proofs.Common.{◌≡◌, ℕ, ◌<◌, ◌≤◌, ◌⊎◌, inl, inr, List, [], ◌∷◌, map, length, get_or, drop, refl, arith, ap, sym, ◌∙◌, subst, suc, pos, ◌≤ℤ◌}
+use Rattle.std.proofs.Common.{◌≡◌, ℕ, ◌<◌, ◌≤◌, ◌⊎◌, inl, inr, List, [], ◌∷◌, map, length, get_or}
+use Rattle.std.proofs.Common.{drop, refl, arith, ap, sym, ◌∙◌, subst, suc, pos, ◌≤ℤ◌}
 use Rattle.std.proofs.lemmas.Int.{ints}
 use Rattle.plane.specs.declared.kinds.Point.{Point}
 use Rattle.plane.specs.Lists.{Each, Has, Once}
@@ -25,7 +26,8 @@ pub ending_once : (m : ℕ) (E : ℕ → Edge) (t : Timed) → IsTimed m E t →
 ending_once m E t h = sorted_once (λ a b. a < b) (λ a. Unit {0}) (λ a u l. omega (arith, l)) (λ a b c u v w l k. omega (arith, l, k)) t.ending (λ e k. tt) h.by_number
 
 -- a list of edges that end at an event, without repeats and as long as the list of all that do, holds each of them
-pub whole : (m : ℕ) (E : ℕ → Edge) (t : Timed) (xs : List ℕ) → IsTimed m E t → Once xs → ((e : ℕ) → Has e xs → (e < m) × ((E e).high ≡ t.at)) → length t.ending ≤ length xs
+pub whole : (m : ℕ) (E : ℕ → Edge) (t : Timed) (xs : List ℕ) → IsTimed m E t → Once xs
+    → ((e : ℕ) → Has e xs → (e < m) × ((E e).high ≡ t.at)) → length t.ending ≤ length xs
     → (e : ℕ) → e < m → (E e).high ≡ t.at → Has e xs
 whole m E t xs h once here long e l q = all_of xs t.ending once (λ f k. (h.ending f).1 (here f k)) long e ((h.ending e).1 (l, q))
 
@@ -36,7 +38,8 @@ module _ (m : ℕ) (E : ℕ → Edge) (edges : (e : ℕ) → e < m → Before (E
   pub starting_once : (t : Timed) → IsTimed m E t → Once t.starting
   starting_once t h = sorted_once (BySlope E) (StartsAt E t.at) (slope_never E t.at) (slope_trans E t.at) t.starting (starts t h) h.by_slope
 
-  same_starting : (t u : Timed) → IsTimed m E t → IsTimed m E u → t.at ≡ u.at → t.starting ≡ u.starting
+  same_starting : (t u : Timed) → IsTimed m E t → IsTimed m E u → t.at ≡ u.at
+      → t.starting ≡ u.starting
   same_starting t u h k q =
       same_sorted (BySlope E) (StartsAt E t.at) (slope_never E t.at) (slope_trans E t.at) t.starting u.starting (starts t h)
       (λ e i. let s = starts u k e i in (s.0 ∙ sym q, s.1)) h.by_slope k.by_slope
@@ -56,7 +59,8 @@ module _ (m : ℕ) (E : ℕ → Edge) (edges : (e : ℕ) → e < m → Before (E
       let c = ap (λ (es : List ℕ). record { at = u.at; ending = u.ending; starting = es }) (same_starting t u h k q) in
       a ∙ b ∙ c
 
-  same_events : (ts us : List Timed) → Each (IsTimed m E) ts → Each (IsTimed m E) us → map point_of ts ≡ map point_of us → ts ≡ us
+  same_events : (ts us : List Timed) → Each (IsTimed m E) ts → Each (IsTimed m E) us
+      → map point_of ts ≡ map point_of us → ts ≡ us
   same_events [] [] h k q = refl
   same_events [] (u ∷ us) h k q = absurd (let n = ap (λ (ps : List Point). length ps) q in omega (arith, n))
   same_events (t ∷ ts) [] h k q = absurd (let n = ap (λ (ps : List Point). length ps) q in omega (arith, n))
@@ -66,21 +70,26 @@ module _ (m : ℕ) (E : ℕ → Edge) (edges : (e : ℕ) → e < m → Before (E
       subst (λ (x : Timed). t ∷ ts ≡ x ∷ us) head (ap (λ (xs : List Timed). t ∷ xs) tail)
 
 -- neighbours by slope do not turn right
-pub slopes_rise : (m : ℕ) (E : ℕ → Edge) (t : Timed) (i : ℕ) → IsTimed m E t → suc i < length t.starting → pos 0 ≤ℤ turn_at E (get_or t.starting i 0) (E (get_or t.starting (suc i) 0)).high
+pub slopes_rise : (m : ℕ) (E : ℕ → Edge) (t : Timed) (i : ℕ) → IsTimed m E t
+    → suc i < length t.starting
+    → pos 0 ≤ℤ turn_at E (get_or t.starting i 0) (E (get_or t.starting (suc i) 0)).high
 slopes_rise m E t i h l = elim (neighbours_at (BySlope E) 0 t.starting i l h.by_slope) [
   | inl x ↦ omega (arith, ints, x)
   | inr x ↦ (let z = x.0 in omega (arith, ints, z))
 ]
 
 -- the points of two event lists of the same edges
-same_points : (m : ℕ) (E : ℕ → Edge) (ps qs : List Point) → IsEventList m E ps → IsEventList m E qs → ps ≡ qs
+same_points : (m : ℕ) (E : ℕ → Edge) (ps qs : List Point) → IsEventList m E ps → IsEventList m E qs
+    → ps ≡ qs
 same_points m E ps qs h k =
     same_sorted Before (λ p. Unit {0}) (λ p u l. never p l) (λ p q r x y z l n. before_trans p q r l n) ps qs (λ p i. tt) (λ p i. tt) h.rises k.rises
     (λ p i. holds p qs k (h.events p i)) (λ p i. holds p ps h (k.events p i))
   where
-    holds : (p : Point) (rs : List Point) → IsEventList m E rs → (e : ℕ) × (e < m) × (((E e).low ≡ p) ⊎ ((E e).high ≡ p)) → Has p rs
+    holds : (p : Point) (rs : List Point) → IsEventList m E rs
+        → (e : ℕ) × (e < m) × (((E e).low ≡ p) ⊎ ((E e).high ≡ p)) → Has p rs
     holds p rs g (e, l, inl q) = subst (λ (x : Point). Has x rs) q (g.ends e l).0
     holds p rs g (e, l, inr q) = subst (λ (x : Point). Has x rs) q (g.ends e l).1
 
-pub one_timetable : (m : ℕ) (E : ℕ → Edge) (ts us : List Timed) → IsTimetable m E ts → IsTimetable m E us → ts ≡ us
+pub one_timetable : (m : ℕ) (E : ℕ → Edge) (ts us : List Timed) → IsTimetable m E ts
+    → IsTimetable m E us → ts ≡ us
 one_timetable m E ts us h k = same_events m E h.events.edges ts us h.timed k.timed (same_points m E (map point_of ts) (map point_of us) h.events k.events)

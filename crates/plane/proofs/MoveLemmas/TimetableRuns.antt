@@ -1,31 +1,38 @@
 -- Good moves of a timetable are a complete run; a move is good by tests at its position alone, and good moves go on one by one.
-use Rattle.std.proofs.Common.{◌≡◌, ℕ, zero, suc, ◌+◌, ◌<◌, ◌≤◌, ◌⊎◌, inl, inr, List, [], ◌∷◌, ◌++◌, map, length, take, drop, get_or, refl, arith, ap, sym, ◌∙◌, subst}
+use Rattle.std.proofs.Common.{◌≡◌, ℕ, zero, suc, ◌+◌, ◌<◌, ◌≤◌, ◌⊎◌, inl, inr, List, [], ◌∷◌, ◌++◌}
+use Rattle.std.proofs.Common.{map, length, take, drop, get_or, refl, arith, ap, sym, ◌∙◌, subst}
 use Rattle.std.proofs.lemmas.List.{length-take-le, length-drop, take-append-drop, length-map}
 use Rattle.std.proofs.Math.Seq.{take-suc}
 use Rattle.plane.specs.declared.kinds.Point.{Point}
 use Rattle.plane.specs.Lists.{Each, Neighbours, Has, Once}
 use Rattle.plane.specs.Forms.Vectors.{Edge, Before}
 use Rattle.plane.specs.Runs.Steps.{Step, after, live, IsReplay, Replayed, Run, AtSome}
-use Rattle.plane.specs.Runs.Moves.{Move, no_move, step_of, steps_from, live_from, made, Fit, Risen, IsGood, AreGood}
-use Rattle.plane.specs.Runs.Timetables.{Timed, IsTimed, IsTimetable, move_at, moves_at, no_event, PassesAt}
+use Rattle.plane.specs.Runs.Moves.{Move, no_move, step_of, steps_from, live_from, made, Fit, Risen}
+use Rattle.plane.specs.Runs.Moves.{IsGood, AreGood}
+use Rattle.plane.specs.Runs.Timetables.{Timed, IsTimed, IsTimetable, move_at, moves_at, no_event}
+use Rattle.plane.specs.Runs.Timetables.{PassesAt}
 use Rattle.plane.proofs.ListLemmas.Lists.{has_front, has_back, once_front, once_back}
 use Rattle.plane.proofs.Runs.Positions.{good_step_by_turns}
 use Rattle.plane.proofs.Runs.Moments.{replays}
 use Rattle.plane.proofs.Runs.LiveEdges.{live_started}
-use Rattle.plane.proofs.MoveLemmas.MadeSteps.{never, live_made, all_made, replayed, front_once, front_empty}
+use Rattle.plane.proofs.MoveLemmas.MadeSteps.{never, live_made, all_made, replayed, front_once}
+use Rattle.plane.proofs.MoveLemmas.MadeSteps.{front_empty}
 use Rattle.plane.proofs.ListLemmas.SortedLists.{first_before, has_at, room}
 use Rattle.plane.proofs.MoveLemmas.OneTimetable.{point_of, whole, starting_once, before_trans}
 
 -- ---- good moves
-pub good_more : (m : ℕ) (E : ℕ → Edge) (done : List Step) (vs : List Move) (v : Move) → AreGood m E done vs → IsGood m E (made done vs) v → AreGood m E done (vs ++ (v ∷ []))
+pub good_more : (m : ℕ) (E : ℕ → Edge) (done : List Step) (vs : List Move) (v : Move)
+    → AreGood m E done vs → IsGood m E (made done vs) v → AreGood m E done (vs ++ (v ∷ []))
 good_more m E done [] v h k = (k, tt)
 good_more m E done (u ∷ vs) v h k = (h.0, good_more m E (step_of (live done) u ∷ done) vs v h.1 k)
 
-pub good_fit : (m : ℕ) (E : ℕ → Edge) (done : List Step) (vs : List Move) → AreGood m E done vs → Fit (live done) vs
+pub good_fit : (m : ℕ) (E : ℕ → Edge) (done : List Step) (vs : List Move) → AreGood m E done vs
+    → Fit (live done) vs
 good_fit m E done [] h = tt
 good_fit m E done (v ∷ vs) h = (h.0.fits, good_fit m E (step_of (live done) v ∷ done) vs h.1)
 
-pub good_risen : (m : ℕ) (E : ℕ → Edge) (done : List Step) (vs : List Move) → Risen done → AreGood m E done vs → Risen (made done vs)
+pub good_risen : (m : ℕ) (E : ℕ → Edge) (done : List Step) (vs : List Move) → Risen done
+    → AreGood m E done vs → Risen (made done vs)
 good_risen m E done [] r h = r
 good_risen m E done (v ∷ vs) r h = good_risen m E (step_of (live done) v ∷ done) vs (h.0.once, h.0.later, r) h.1
 
@@ -51,7 +58,8 @@ steps_points : (now : List ℕ) (vs : List Move) → map point_at (steps_from no
 steps_points now [] = refl
 steps_points now (v ∷ vs) = ap (λ (ps : List Point). v.at ∷ ps) (steps_points (after (step_of now v)) vs)
 
-moves_points : (table : List Timed) (ps : List ℕ) → length ps ≡ length table → map place_of (moves_at table ps) ≡ map point_of table
+moves_points : (table : List Timed) (ps : List ℕ) → length ps ≡ length table
+    → map place_of (moves_at table ps) ≡ map point_of table
 moves_points [] ps e = refl
 moves_points (t ∷ table) [] e = absurd (omega (arith, e))
 moves_points (t ∷ table) (p ∷ ps) e = ap (λ (qs : List Point). t.at ∷ qs) (moves_points table ps (omega (arith, e)))
@@ -66,7 +74,8 @@ has_point s [] h = absurd h
 has_point s (t ∷ steps) (inl e) = inl (ap point_at e)
 has_point s (t ∷ steps) (inr h) = inr (has_point s steps h)
 
-steps_rise : (steps : List Step) → Neighbours Before (map point_at steps) → Neighbours (λ s t. Before s.at t.at) steps
+steps_rise : (steps : List Step) → Neighbours Before (map point_at steps)
+    → Neighbours (λ s t. Before s.at t.at) steps
 steps_rise [] h = tt
 steps_rise (s ∷ []) h = (tt, tt)
 steps_rise (s ∷ (t ∷ steps)) h = (h.0, steps_rise (t ∷ steps) h.1)
@@ -76,7 +85,8 @@ kept : (s : Step) (done : List Step) (vs : List Move) → Has s done → Has s (
 kept s done [] h = h
 kept s done (v ∷ vs) h = kept s (step_of (live done) v ∷ done) vs (inr h)
 
-made_has : (s : Step) (done : List Step) (vs : List Move) → Has s (steps_from (live done) vs) → Has s (made done vs)
+made_has : (s : Step) (done : List Step) (vs : List Move) → Has s (steps_from (live done) vs)
+    → Has s (made done vs)
 made_has s done [] h = absurd h
 made_has s done (v ∷ vs) (inl e) = kept s (step_of (live done) v ∷ done) vs (inl e)
 made_has s done (v ∷ vs) (inr h) = made_has s (step_of (live done) v ∷ done) vs h
@@ -124,7 +134,8 @@ has_block now p n e h =
 block_length : (now : List ℕ) (p n : ℕ) → (p + n) ≤ length now → length (take n (drop p now)) ≡ n
 block_length now p n h = length-take-le n (drop p now) (let l = length-drop p now in omega (arith, h, l))
 
-pub passes_good : (m : ℕ) (E : ℕ → Edge) (done : List Step) (t : Timed) (p : ℕ) → ((e : ℕ) → e < m → Before (E e).low (E e).high) → Replayed m E done → Risen done
+pub passes_good : (m : ℕ) (E : ℕ → Edge) (done : List Step) (t : Timed) (p : ℕ)
+    → ((e : ℕ) → e < m → Before (E e).low (E e).high) → Replayed m E done → Risen done
     → IsTimed m E t → ((s : Step) → Has s done → Before s.at t.at) → PassesAt E (live done) t p → IsGood m E done (move_at t p)
 passes_good m E done t p edges h r is later test =
     let now = live done in
@@ -143,7 +154,8 @@ passes_good m E done t p edges h r is later test =
     }
 
 -- ---- moves one by one
-from_made : (s : Step) (done : List Step) (vs : List Move) → Has s (made done vs) → Has s done ⊎ Has s (steps_from (live done) vs)
+from_made : (s : Step) (done : List Step) (vs : List Move) → Has s (made done vs)
+    → Has s done ⊎ Has s (steps_from (live done) vs)
 from_made s done [] h = inl h
 from_made s done (v ∷ vs) h = elim (from_made s (step_of (live done) v ∷ done) vs h) [
   | inl k ↦ elim k [ inl e ↦ inr (inl e) | inr i ↦ inl i ]
@@ -151,7 +163,8 @@ from_made s done (v ∷ vs) h = elim (from_made s (step_of (live done) v ∷ don
 ]
 
 -- of rising points the first k are before that of number k
-first_points : (q : Point) (qs : List Point) (k : ℕ) (d : Point) → Neighbours Before qs → k < length qs → Has q (take k qs) → Before q (get_or qs k d)
+first_points : (q : Point) (qs : List Point) (k : ℕ) (d : Point) → Neighbours Before qs
+    → k < length qs → Has q (take k qs) → Before q (get_or qs k d)
 first_points q [] k d h l i = absurd (omega (arith, l))
 first_points q (x ∷ qs) zero d h l i = absurd i
 first_points q (x ∷ qs) (suc k) d h l (inl e) =
@@ -165,23 +178,28 @@ map_take [] (suc k) = refl
 map_take (u ∷ us) zero = refl
 map_take (u ∷ us) (suc k) = ap (λ (ps : List Point). u.at ∷ ps) (map_take us k)
 
-map_at : (table : List Timed) (k : ℕ) → k < length table → get_or (map point_of table) k no_event.at ≡ (get_or table k no_event).at
+map_at : (table : List Timed) (k : ℕ) → k < length table
+    → get_or (map point_of table) k no_event.at ≡ (get_or table k no_event).at
 map_at [] k l = absurd (omega (arith, l))
 map_at (t ∷ table) zero l = refl
 map_at (t ∷ table) (suc k) l = map_at table k (omega (arith, l))
 
-timed_at : (m : ℕ) (E : ℕ → Edge) (table : List Timed) (k : ℕ) → k < length table → Each (IsTimed m E) table → IsTimed m E (get_or table k no_event)
+timed_at : (m : ℕ) (E : ℕ → Edge) (table : List Timed) (k : ℕ) → k < length table
+    → Each (IsTimed m E) table → IsTimed m E (get_or table k no_event)
 timed_at m E [] k l h = absurd (omega (arith, l))
 timed_at m E (t ∷ table) zero l h = h.0
 timed_at m E (t ∷ table) (suc k) l h = timed_at m E table k (omega (arith, l)) h.1
 
-pub moved_at : (table : List Timed) (ps : List ℕ) (k : ℕ) → length ps ≡ length table → k < length table → get_or (moves_at table ps) k no_move ≡ move_at (get_or table k no_event) (get_or ps k 0)
+pub moved_at : (table : List Timed) (ps : List ℕ) (k : ℕ) → length ps ≡ length table
+    → k < length table
+    → get_or (moves_at table ps) k no_move ≡ move_at (get_or table k no_event) (get_or ps k 0)
 moved_at [] ps k e l = absurd (omega (arith, l))
 moved_at (t ∷ table) [] k e l = absurd (omega (arith, e))
 moved_at (t ∷ table) (p ∷ ps) zero e l = refl
 moved_at (t ∷ table) (p ∷ ps) (suc k) e l = moved_at table ps k (omega (arith, e)) (omega (arith, l))
 
-pub moves_length : (table : List Timed) (ps : List ℕ) → length ps ≡ length table → length (moves_at table ps) ≡ length table
+pub moves_length : (table : List Timed) (ps : List ℕ) → length ps ≡ length table
+    → length (moves_at table ps) ≡ length table
 moves_length [] ps e = refl
 moves_length (t ∷ table) [] e = absurd (omega (arith, e))
 moves_length (t ∷ table) (p ∷ ps) e = ap (λ (n : ℕ). suc n) (moves_length table ps (omega (arith, e)))
@@ -204,7 +222,8 @@ module _ (m : ℕ) (E : ℕ → Edge) (table : List Timed) (ps : List ℕ) (is :
         subst (λ (y : Point). Before s.at y) (map_at table k l) (first_points s.at (map point_of table) k no_event.at is.events.rises (omega (arith, l, n)) there))
   ]
 
-  pub table_goes_on : PassesAt E (live_from [] front) next (get_or ps k 0) → AreGood m E [] (take (suc k) (moves_at table ps))
+  pub table_goes_on : PassesAt E (live_from [] front) next (get_or ps k 0)
+      → AreGood m E [] (take (suc k) (moves_at table ps))
   table_goes_on test =
       let e = live_made [] front in
       let here = subst (λ (now : List ℕ). PassesAt E now next (get_or ps k 0)) (sym e) test in

@@ -1,5 +1,6 @@
 -- In the first bay of a tube stands a segment that crosses the half arc, straight up from the inside to the outer corner.
-use Rattle.std.proofs.Common.{◌≡◌, List, [], ◌∷◌, ℤ, pos, ◌+ℤ◌, ◌*ℤ◌, ◌-ℤ◌, ◌<ℤ◌, ◌≤ℤ◌, inl, inr, refl, arith, ap, sym, ◌∙◌, subst}
+use Rattle.std.proofs.Common.{◌≡◌, List, [], ◌∷◌, ℤ, pos, ◌+ℤ◌, ◌*ℤ◌, ◌-ℤ◌, ◌<ℤ◌, ◌≤ℤ◌, inl, inr}
+use Rattle.std.proofs.Common.{refl, arith, ap, sym, ◌∙◌, subst}
 use Rattle.std.proofs.lemmas.Int.{ints, by_lt_z}
 use Rattle.plane.specs.Forms.Vectors.{Vector, Place, Same, mix, point}
 use Rattle.plane.specs.Forms.Arcs.{HalfArc, power, along, bow, seen, chord}
@@ -16,7 +17,8 @@ use Rattle.plane.proofs.OneTube.TubeStrips.{before_end, tube_cap, tube_rest}
 use Rattle.plane.proofs.OneTube.Chains.{tube_inner, tube_outer_corners}
 
 -- on the chord, strictly between its ends, all is strictly inside
-shape_low : (c : Cap) (v : Vector) → IsCap c → v.y ≡ pos 0 → pos 0 <ℤ v.x → v.x <ℤ (c.chord *ℤ v.n) → shape c v <ℤ pos 0
+shape_low : (c : Cap) (v : Vector) → IsCap c → v.y ≡ pos 0 → pos 0 <ℤ v.x → v.x <ℤ (c.chord *ℤ v.n)
+    → shape c v <ℤ pos 0
 unfolding shape
 shape_low c v hc e l k =
     let a = product_positive v.x ((c.chord *ℤ v.n) -ℤ v.x) l (omega (arith, ints, k)) in
@@ -98,7 +100,8 @@ module _ (h : HalfArc) (b : Bay) (rest : List Bay) (t : IsTube h (b ∷ rest)) w
   column_low : (u v : ℤ) → Place (mix u y v o) → pos 0 <ℤ along h (mix u y v o)
   column_low u v Z = let e = column_along u v in let p = product_positive O (mix u y v o).n O_least Z in omega (arith, ints, e, p)
 
-  column_high : (u v : ℤ) → Place (mix u y v o) → along h (mix u y v o) <ℤ (chord h *ℤ (mix u y v o).n)
+  column_high : (u v : ℤ) → Place (mix u y v o)
+      → along h (mix u y v o) <ℤ (chord h *ℤ (mix u y v o).n)
   column_high u v Z =
       let n = (mix u y v o).n in
       let e = column_along u v in
@@ -122,7 +125,8 @@ module _ (h : HalfArc) (b : Bay) (rest : List Bay) (t : IsTube h (b ∷ rest)) w
       omega (arith, ints, e, f, l)
 
   -- and in the first triangle
-  column_there : (u v : ℤ) → pos 0 ≤ℤ u → pos 0 ≤ℤ v → pos 0 <ℤ (u +ℤ v) → InTube h.from (b ∷ rest) (mix u y v o)
+  column_there : (u v : ℤ) → pos 0 ≤ℤ u → pos 0 ≤ℤ v → pos 0 <ℤ (u +ℤ v)
+      → InTube h.from (b ∷ rest) (mix u y v o)
   column_there u v hu hv some =
       let a = O_least in
       let c = O_before in
@@ -142,7 +146,8 @@ module _ (h : HalfArc) (b : Bay) (rest : List Bay) (t : IsTube h (b ∷ rest)) w
         is = subst (λ (w : Vector). Same z w) e (record { x = refl; y = refl });
       }))
     where
-      one : (f i g : ℤ) → (u *ℤ (((V -ℤ O) *ℤ f) +ℤ (O *ℤ i))) +ℤ (v *ℤ g) ≡ (((u *ℤ (V -ℤ O)) *ℤ f) +ℤ ((u *ℤ O) *ℤ i)) +ℤ (v *ℤ g)
+      one : (f i g : ℤ)
+          → (u *ℤ (((V -ℤ O) *ℤ f) +ℤ (O *ℤ i))) +ℤ (v *ℤ g) ≡ (((u *ℤ (V -ℤ O)) *ℤ f) +ℤ ((u *ℤ O) *ℤ i)) +ℤ (v *ℤ g)
       one f i g = ring (plus (times (at 0) (plus (times (minus (at 3) (at 2)) (at 4)) (times (at 2) (at 5)))) (times (at 1) (at 6))) (plus (plus (times (times (at 0) (minus (at 3) (at 2))) (at 4)) (times (times (at 0) (at 2)) (at 5))) (times (at 1) (at 6)))
           (vars (u ∷ v ∷ O ∷ V ∷ f ∷ i ∷ g ∷ [])) refl
 
@@ -200,7 +205,8 @@ module _ (h : HalfArc) (b : Bay) (rest : List Bay) (t : IsTube h (b ∷ rest)) w
         },
       )
     where
-      on_column : (z : Vector) → IsOnWay (mix start.0 y start.1 o) o z → (u : ℤ) × (v : ℤ) × (pos 0 ≤ℤ u) × ((pos 0 ≤ℤ v) × (pos 0 <ℤ (u +ℤ v))) × (z ≡ mix u y v o)
+      on_column : (z : Vector) → IsOnWay (mix start.0 y start.1 o) o z
+          → (u : ℤ) × (v : ℤ) × (pos 0 ≤ℤ u) × ((pos 0 ≤ℤ v) × (pos 0 <ℤ (u +ℤ v))) × (z ≡ mix u y v o)
       on_column z w =
           let s = start.2 in
           let a = s.u_least in
@@ -221,5 +227,6 @@ module _ (h : HalfArc) (b : Bay) (rest : List Bay) (t : IsTube h (b ∷ rest)) w
             w.is ∙ vector_eq _ (mix u y v o) (one w.s w.t start.0 start.1 y.x o.x) (one w.s w.t start.0 start.1 y.y o.y) (one w.s w.t start.0 start.1 y.n o.n),
           )
         where
-          one : (s t u v x g : ℤ) → (s *ℤ ((u *ℤ x) +ℤ (v *ℤ g))) +ℤ (t *ℤ g) ≡ ((s *ℤ u) *ℤ x) +ℤ (((s *ℤ v) +ℤ t) *ℤ g)
+          one : (s t u v x g : ℤ)
+              → (s *ℤ ((u *ℤ x) +ℤ (v *ℤ g))) +ℤ (t *ℤ g) ≡ ((s *ℤ u) *ℤ x) +ℤ (((s *ℤ v) +ℤ t) *ℤ g)
           one s t u v x g = ring (plus (times (at 0) (plus (times (at 2) (at 4)) (times (at 3) (at 5)))) (times (at 1) (at 5))) (plus (times (times (at 0) (at 2)) (at 4)) (times (plus (times (at 0) (at 3)) (at 1)) (at 5))) (vars (s ∷ t ∷ u ∷ v ∷ x ∷ g ∷ [])) refl

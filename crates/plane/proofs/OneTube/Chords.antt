@@ -1,5 +1,6 @@
 -- Where an inner corner of a tube does not stand over the chord, a place of the chord strictly between its ends is in the tube.
-use Rattle.std.proofs.Common.{◌≡◌, ◌⊎◌, inl, inr, List, [], ◌∷◌, ℤ, pos, ◌+ℤ◌, ◌*ℤ◌, ◌-ℤ◌, ◌<ℤ◌, ◌≤ℤ◌, refl, arith, ap, sym, ◌∙◌, subst}
+use Rattle.std.proofs.Common.{◌≡◌, ◌⊎◌, inl, inr, List, [], ◌∷◌, ℤ, pos, ◌+ℤ◌, ◌*ℤ◌, ◌-ℤ◌, ◌<ℤ◌}
+use Rattle.std.proofs.Common.{◌≤ℤ◌, refl, arith, ap, sym, ◌∙◌, subst}
 use Rattle.std.proofs.lemmas.Int.{ints}
 use Rattle.plane.specs.declared.kinds.Point.{Point}
 use Rattle.plane.specs.Lists.{Has}
@@ -16,7 +17,8 @@ use Rattle.plane.proofs.OneTube.TubeStrips.{IsRest, rest_of, before_end, tube_re
 use Rattle.plane.proofs.OneTube.TubeEdges.{chord_in_tube}
 
 -- ---- an inner corner stands strictly between the ends, or is the last one
-pub inner_after : (h : HalfArc) (p : Point) (c : Bay) (rest : List Bay) (b : Bay) → IsRest h p c rest → Has b (c ∷ rest) → along h (point p) <ℤ along h (point b.inner)
+pub inner_after : (h : HalfArc) (p : Point) (c : Bay) (rest : List Bay) (b : Bay)
+    → IsRest h p c rest → Has b (c ∷ rest) → along h (point p) <ℤ along h (point b.inner)
 inner_after h p c rest b r (inl e) =
     let up = r.are_bays.0.up in let on = r.are_bays.0.on in
     subst (λ (x : Bay). along h (point p) <ℤ along h (point x.inner)) (sym e) (omega (arith, ints, up, on))
@@ -26,7 +28,8 @@ inner_after h p c (d ∷ rest) b r (inr m) =
     let k = inner_after h c.inner d rest b (rest_of h p c d rest r) m in
     omega (arith, ints, up, on, k)
 
-pub inner_before : (h : HalfArc) (p : Point) (c : Bay) (rest : List Bay) (b : Bay) → IsRest h p c rest → Has b (c ∷ rest) → (b.inner ≡ h.to) ⊎ (along h (point b.inner) <ℤ chord h)
+pub inner_before : (h : HalfArc) (p : Point) (c : Bay) (rest : List Bay) (b : Bay)
+    → IsRest h p c rest → Has b (c ∷ rest) → (b.inner ≡ h.to) ⊎ (along h (point b.inner) <ℤ chord h)
 inner_before h p c [] b r (inl e) = inl (ap (λ (x : Bay). x.inner) e ∙ r.ends)
 inner_before h p c [] b r (inr m) = absurd m
 inner_before h p c (d ∷ rest) b r (inl e) =
@@ -54,7 +57,9 @@ chord_along l k a b e f = (λ i. ((l -ℤ k) *ℤ e i) +ℤ (k *ℤ f i)) ∙ ri
 chord_bow : (l k a b : ℤ) → a ≡ pos 0 → b ≡ pos 0 → ((l -ℤ k) *ℤ a) +ℤ (k *ℤ b) ≡ pos 0
 chord_bow l k a b e f = (λ i. ((l -ℤ k) *ℤ e i) +ℤ (k *ℤ f i)) ∙ ring (plus (times (minus (at 0) (at 1)) (num (pos 0))) (times (at 1) (num (pos 0)))) (num (pos 0)) (vars (l ∷ k ∷ [])) refl
 
-pub low_corner_place : (h : HalfArc) (bs : List Bay) (b : Bay) → IsTube h bs → Has b bs → power h (point b.inner) <ℤ pos 0 → bow h (point b.inner) ≤ℤ pos 0 → (z : Vector) × IsInnerPlace h bs z
+pub low_corner_place : (h : HalfArc) (bs : List Bay) (b : Bay) → IsTube h bs → Has b bs
+    → power h (point b.inner) <ℤ pos 0 → bow h (point b.inner) ≤ℤ pos 0
+    → (z : Vector) × IsInnerPlace h bs z
 low_corner_place h [] b t m inside low = absurd m
 low_corner_place h (c ∷ rest) b t m inside low =
     let bs = c ∷ rest in
@@ -91,7 +96,8 @@ low_corner_place h (c ∷ rest) b t m inside low =
     )
 
 -- such a place is no end of the half arc
-pub inner_no_end : (h : HalfArc) (bs : List Bay) (z : Vector) → IsInnerPlace h bs z → Same z (point h.from) ⊎ Same z (point h.to) → ⊥
+pub inner_no_end : (h : HalfArc) (bs : List Bay) (z : Vector) → IsInnerPlace h bs z
+    → Same z (point h.from) ⊎ Same z (point h.to) → ⊥
 inner_no_end h bs z i (inl s) =
     let e = (seen_same h z (point h.from) s).x in let f = along-from h in let l = i.low in
     let g = ap (λ (v : ℤ). v *ℤ z.n) f in

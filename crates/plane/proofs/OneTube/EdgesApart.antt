@@ -25,7 +25,8 @@ OnlyInGaps p (b ∷ []) = Unit {0}
 OnlyInGaps p (b ∷ (d ∷ rest)) = (InTriangle (point p) (point b.inner) (point b.outer) (point d.outer) → (p ≡ b.inner) ⊎ ((p ≡ b.outer) ⊎ (p ≡ d.outer))) × OnlyInGaps p (d ∷ rest)
 
 -- a corner from v on is not before v
-not_before : (h : HalfArc) (p v : Point) (bs : List Bay) → AreBays h v bs → FromCorner p v bs → along h (point v) ≤ℤ along h (point p)
+not_before : (h : HalfArc) (p v : Point) (bs : List Bay) → AreBays h v bs → FromCorner p v bs
+    → along h (point v) ≤ℤ along h (point p)
 not_before h p v [] are e = let k = ap (λ (q : Point). along h (point q)) e in omega (arith, ints, k)
 not_before h p v (b ∷ rest) are c =
     let up = are.0.up in
@@ -37,7 +38,10 @@ not_before h p v (b ∷ rest) are c =
     ]
 
 -- the span of a triangle along the chord
-span : (h : HalfArc) (p a b c : Point) (l m : ℤ) → InTriangle (point p) (point a) (point b) (point c) → l ≤ℤ along h (point a) → l ≤ℤ along h (point b) → l ≤ℤ along h (point c) → along h (point a) ≤ℤ m → along h (point b) ≤ℤ m → along h (point c) ≤ℤ m
+span : (h : HalfArc) (p a b c : Point) (l m : ℤ)
+    → InTriangle (point p) (point a) (point b) (point c) → l ≤ℤ along h (point a)
+    → l ≤ℤ along h (point b) → l ≤ℤ along h (point c) → along h (point a) ≤ℤ m
+    → along h (point b) ≤ℤ m → along h (point c) ≤ℤ m
     → (l ≤ℤ along h (point p)) × (along h (point p) ≤ℤ m)
 span h p a b c l m t la lb lc ma mb mc =
     let s = triangle_seen h (point p) (point a) (point b) (point c) t in
@@ -46,7 +50,8 @@ span h p a b c l m t la lb lc ma mb mc =
     (omega (arith, ints, low), omega (arith, ints, high))
 
 -- of a place before v no triangle from v on is one
-bays_after : (h : HalfArc) (p v : Point) (bs : List Bay) → AreBays h v bs → along h (point p) <ℤ along h (point v) → OnlyInBays p v bs
+bays_after : (h : HalfArc) (p v : Point) (bs : List Bay) → AreBays h v bs
+    → along h (point p) <ℤ along h (point v) → OnlyInBays p v bs
 bays_after h p v [] are before = tt
 bays_after h p v (b ∷ rest) are before =
     let up = are.0.up in
@@ -55,7 +60,8 @@ bays_after h p v (b ∷ rest) are before =
       bays_after h p b.inner rest are.1 (omega (arith, ints, up, on, before)),
     )
 
-pub corners_in_bays : (h : HalfArc) (p v : Point) (bs : List Bay) → AreBays h v bs → FromCorner p v bs → OnlyInBays p v bs
+pub corners_in_bays : (h : HalfArc) (p v : Point) (bs : List Bay) → AreBays h v bs
+    → FromCorner p v bs → OnlyInBays p v bs
 corners_in_bays h p v [] are c = tt
 corners_in_bays h p v (b ∷ rest) are c =
     let up = are.0.up in
@@ -66,7 +72,9 @@ corners_in_bays h p v (b ∷ rest) are c =
       | inr (inr r) ↦ (first h p v b rest are r, corners_in_bays h p b.inner rest are.1 r)
     ]
   where
-    first : (h : HalfArc) (p v : Point) (b : Bay) (rest : List Bay) → AreBays h v (b ∷ rest) → FromCorner p b.inner rest → InTriangle (point p) (point v) (point b.inner) (point b.outer) → (p ≡ v) ⊎ ((p ≡ b.inner) ⊎ (p ≡ b.outer))
+    first : (h : HalfArc) (p v : Point) (b : Bay) (rest : List Bay) → AreBays h v (b ∷ rest)
+        → FromCorner p b.inner rest → InTriangle (point p) (point v) (point b.inner) (point b.outer)
+        → (p ≡ v) ⊎ ((p ≡ b.inner) ⊎ (p ≡ b.outer))
     first h p v b [] are r t = inr (inl r)
     first h p v b (d ∷ rest) are r t =
         let up = are.0.up in
@@ -81,7 +89,8 @@ corners_in_bays h p v (b ∷ rest) are c =
         ]
 
 -- ---- the triangles between neighbours of the outer chain
-gaps_after : (h : HalfArc) (p v : Point) (bs : List Bay) → AreBays h v bs → along h (point p) <ℤ along h (point v) → OnlyInGaps p bs
+gaps_after : (h : HalfArc) (p v : Point) (bs : List Bay) → AreBays h v bs
+    → along h (point p) <ℤ along h (point v) → OnlyInGaps p bs
 gaps_after h p v [] are before = tt
 gaps_after h p v (b ∷ []) are before = tt
 gaps_after h p v (b ∷ (d ∷ rest)) are before =
@@ -92,7 +101,8 @@ gaps_after h p v (b ∷ (d ∷ rest)) are before =
       gaps_after h p b.inner (d ∷ rest) are.1 (omega (arith, ints, up, on, before)),
     )
 
-pub corners_in_gaps : (h : HalfArc) (p v : Point) (bs : List Bay) → AreBays h v bs → FromCorner p v bs → OnlyInGaps p bs
+pub corners_in_gaps : (h : HalfArc) (p v : Point) (bs : List Bay) → AreBays h v bs
+    → FromCorner p v bs → OnlyInGaps p bs
 corners_in_gaps h p v [] are c = tt
 corners_in_gaps h p v (b ∷ []) are c = tt
 corners_in_gaps h p v (b ∷ (d ∷ rest)) are c =

@@ -1,6 +1,7 @@
 -- Where the inner corners of a tube stand strictly over the chord, no place of the chord but its ends is in the tube; and of a tube with
 -- two bays no bound joins the ends of the half arc.
-use Rattle.std.proofs.Common.{◌≡◌, ◌⊎◌, inl, inr, List, [], ◌∷◌, ℤ, pos, ◌+ℤ◌, ◌*ℤ◌, ◌-ℤ◌, ◌<ℤ◌, ◌≤ℤ◌, refl, arith, ap, sym, ◌∙◌, subst}
+use Rattle.std.proofs.Common.{◌≡◌, ◌⊎◌, inl, inr, List, [], ◌∷◌, ℤ, pos, ◌+ℤ◌, ◌*ℤ◌, ◌-ℤ◌, ◌<ℤ◌}
+use Rattle.std.proofs.Common.{◌≤ℤ◌, refl, arith, ap, sym, ◌∙◌, subst}
 use Rattle.std.proofs.lemmas.Int.{ints, by_lt_z}
 use Rattle.plane.specs.declared.kinds.Point.{Point}
 use Rattle.plane.specs.Lists.{Each, Has, Last}
@@ -20,7 +21,8 @@ use Rattle.plane.proofs.OneTube.TubeStrips.{IsRest, rest_of, before_end, tube_re
 use Rattle.plane.proofs.OneTube.TubeLaws.{tube_region}
 
 -- ---- a place of the x axis and a straight over it
-side_axis : (p q : Point) (z : Vector) → z.y ≡ pos 0 → side (line p q) z ≡ pos 0 -ℤ ((p.y *ℤ ((q.x *ℤ z.n) -ℤ z.x)) +ℤ (q.y *ℤ (z.x -ℤ (p.x *ℤ z.n))))
+side_axis : (p q : Point) (z : Vector) → z.y ≡ pos 0
+    → side (line p q) z ≡ pos 0 -ℤ ((p.y *ℤ ((q.x *ℤ z.n) -ℤ z.x)) +ℤ (q.y *ℤ (z.x -ℤ (p.x *ℤ z.n))))
 unfolding side
 side_axis p q z e =
     ap (λ (v : ℤ). ((q.x -ℤ p.x) *ℤ (v -ℤ (p.y *ℤ z.n))) -ℤ ((q.y -ℤ p.y) *ℤ (z.x -ℤ (p.x *ℤ z.n)))) e
@@ -31,7 +33,8 @@ side_axis p q z e =
 abbrev IsHigh : Point → Point → Vector → Type 0
 IsHigh p q z = ((pos 0 <ℤ q.y) × ((p.x *ℤ z.n) <ℤ z.x)) ⊎ ((pos 0 <ℤ p.y) × (z.x <ℤ (q.x *ℤ z.n)))
 
-not_under : (p q : Point) (z : Vector) → z.y ≡ pos 0 → pos 0 ≤ℤ p.y → pos 0 ≤ℤ q.y → InColumn p q z → IsHigh p q z → pos 0 ≤ℤ side (line p q) z → ⊥
+not_under : (p q : Point) (z : Vector) → z.y ≡ pos 0 → pos 0 ≤ℤ p.y → pos 0 ≤ℤ q.y → InColumn p q z
+    → IsHigh p q z → pos 0 ≤ℤ side (line p q) z → ⊥
 not_under p q z e hp hq col (inl h) l =
     let top = col.high in
     let x = h.1 in
@@ -56,7 +59,8 @@ high_least h b (inl e) = let x = ap (λ (p : Point). bow h (point p)) e in let y
 high_least h b (inr l) = omega (arith, ints, l)
 
 -- of a place before the end of the chord: a corner that is not before it stands high
-at_high : (h : HalfArc) (b : Bay) (z : Vector) → along h z <ℤ (chord h *ℤ z.n) → StandsHigh h b → (along h (point b.inner) *ℤ z.n) ≤ℤ along h z → pos 0 <ℤ bow h (point b.inner)
+at_high : (h : HalfArc) (b : Bay) (z : Vector) → along h z <ℤ (chord h *ℤ z.n) → StandsHigh h b
+    → (along h (point b.inner) *ℤ z.n) ≤ℤ along h z → pos 0 <ℤ bow h (point b.inner)
 at_high h b z before (inr l) k = l
 at_high h b z before (inl e) k =
     let x = ap (λ (p : Point). along h (point p) *ℤ z.n) e in
@@ -80,7 +84,8 @@ module _ (h : HalfArc) (z : Vector) (Z : Place z) (axis : bow h z ≡ pos 0) (be
       ])
       (over.0 (record { low = low; high = l }))
 
-  walk : (p : Point) (b : Bay) (rest : List Bay) → AreBays h p (b ∷ rest) → Last (λ d. d.inner ≡ h.to) (b ∷ rest) → Each (StandsHigh h) (b ∷ rest)
+  walk : (p : Point) (b : Bay) (rest : List Bay) → AreBays h p (b ∷ rest)
+      → Last (λ d. d.inner ≡ h.to) (b ∷ rest) → Each (StandsHigh h) (b ∷ rest)
       → pos 0 ≤ℤ bow h (point p) → (along h (point p) *ℤ z.n) ≤ℤ along h z → (pos 0 <ℤ bow h (point p)) ⊎ ((pos 0 <ℤ bow h (point b.inner)) × ((along h (point p) *ℤ z.n) <ℤ along h z))
       → AtInner NotUnder (seen h z) (seen_point h p) (seen_bays h (b ∷ rest)) → ⊥
   walk p b [] are ends high hp low start over =
@@ -94,7 +99,8 @@ module _ (h : HalfArc) (z : Vector) (Z : Place z) (axis : bow h z ≡ pos 0) (be
       (λ (l : along h z ≤ℤ (along h (point b.inner) *ℤ z.n)). here p b (d ∷ rest) are high.0 hp low start over l)
 
 -- no place of the chord strictly between its ends is in the tube, if the inner corners but the last stand over it
-pub high_chord_out : (h : HalfArc) (b : Bay) (rest : List Bay) (z : Vector) → IsTube h (b ∷ rest) → IsSome rest → Each (StandsHigh h) (b ∷ rest) → Place z → bow h z ≡ pos 0
+pub high_chord_out : (h : HalfArc) (b : Bay) (rest : List Bay) (z : Vector) → IsTube h (b ∷ rest)
+    → IsSome rest → Each (StandsHigh h) (b ∷ rest) → Place z → bow h z ≡ pos 0
     → pos 0 <ℤ along h z → along h z <ℤ (chord h *ℤ z.n) → InTube h.from (b ∷ rest) z → ⊥
 high_chord_out h b [] z t wide high Z axis after before inside = wide
 high_chord_out h b (d ∷ rest) z t wide high Z axis after before inside =
@@ -120,11 +126,13 @@ abbrev pub Rests : HalfArc → Point → List Bay → Type 0
 Rests h p [] = Unit {0}
 Rests h p (k ∷ ks) = IsRest h p k ks
 
-pub rests_after : (h : HalfArc) (p : Point) (k : Bay) (ks : List Bay) → IsRest h p k ks → Rests h k.inner ks
+pub rests_after : (h : HalfArc) (p : Point) (k : Bay) (ks : List Bay) → IsRest h p k ks
+    → Rests h k.inner ks
 rests_after h p k [] r = tt
 rests_after h p k (d ∷ ks) r = rest_of h p k d ks r
 
-fence_middle : (h : HalfArc) (p u : Point) (ks : List Bay) (e : Edge) → pos 0 <ℤ along h (point u) → along h (point u) <ℤ along h (point p) → along h (point p) ≤ℤ chord h
+fence_middle : (h : HalfArc) (p u : Point) (ks : List Bay) (e : Edge) → pos 0 <ℤ along h (point u)
+    → along h (point u) <ℤ along h (point p) → along h (point p) ≤ℤ chord h
     → Rests h p ks → Has e (fence p u ks) → HasMiddle h e
 fence_middle h p u [] e low l top r (inl m) = subst (HasMiddle h) (sym m) (u, inr refl, low, omega (arith, ints, l, top))
 fence_middle h p u [] e low l top r (inr m) = absurd m
@@ -143,7 +151,8 @@ fence_middle h p u (k ∷ ks) e low l top r (inr (inr m)) =
     let up = s.are_bays.0.up in let on = s.are_bays.0.on in
     fence_middle h k.inner k.outer ks e (omega (arith, ints, low, l, up)) on (before_end h p k ks s) (rests_after h p k ks s) m
 
-pub bound_middle : (h : HalfArc) (b : Bay) (rest : List Bay) (e : Edge) → IsTube h (b ∷ rest) → IsSome rest → Has e (bounds h.from (b ∷ rest)) → HasMiddle h e
+pub bound_middle : (h : HalfArc) (b : Bay) (rest : List Bay) (e : Edge) → IsTube h (b ∷ rest)
+    → IsSome rest → Has e (bounds h.from (b ∷ rest)) → HasMiddle h e
 bound_middle h b [] e t wide m = absurd wide
 bound_middle h b (d ∷ rest) e t wide m =
     let r = tube_rest h b (d ∷ rest) t in

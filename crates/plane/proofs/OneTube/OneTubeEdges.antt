@@ -1,5 +1,6 @@
 -- Every two edges of one tube share no place, or one end and nothing else.
-use Rattle.std.proofs.Common.{◌≡◌, ◌⊎◌, inl, inr, ℕ, ◌<◌, ◌≤◌, List, [], ◌∷◌, ◌++◌, length, get_or, ℤ, pos, ◌*ℤ◌, ◌<ℤ◌, ◌≤ℤ◌, refl, arith, ap, ◌∙◌, subst}
+use Rattle.std.proofs.Common.{◌≡◌, ◌⊎◌, inl, inr, ℕ, ◌<◌, ◌≤◌, List, [], ◌∷◌, ◌++◌, length, get_or}
+use Rattle.std.proofs.Common.{ℤ, pos, ◌*ℤ◌, ◌<ℤ◌, ◌≤ℤ◌, refl, arith, ap, ◌∙◌, subst}
 use Rattle.std.proofs.lemmas.Int.{ints}
 use Rattle.plane.specs.declared.kinds.Point.{Point}
 use Rattle.plane.specs.declared.kinds.Curve.{Curve}
@@ -10,7 +11,8 @@ use Rattle.plane.specs.Forms.Arcs.{HalfArc, along}
 use Rattle.plane.specs.Rule.Curves.{arc}
 use Rattle.plane.specs.Forms.Meets.{OnStraight, IsEnd, Disjoint, Touch}
 use Rattle.plane.specs.Tubes.Bays.{Bay, AreBays, IsTube, OnInner, OnOuter, AtEnds}
-use Rattle.plane.specs.CurveRuns.TubedRuns.{inner, outer, Owned, chain, inner_corners, outer_corners, edges_of, no_edge, Connects}
+use Rattle.plane.specs.CurveRuns.TubedRuns.{inner, outer, Owned, chain, inner_corners}
+use Rattle.plane.specs.CurveRuns.TubedRuns.{outer_corners, edges_of, no_edge, Connects}
 use Rattle.plane.proofs.ListLemmas.Lists.{each_map}
 use Rattle.plane.proofs.ListLemmas.ListPairs.{Pairs, pairs_append, pairs_at}
 use Rattle.plane.proofs.Algebra.Scaling.{times_le}
@@ -22,7 +24,9 @@ use Rattle.plane.proofs.Covers.NotApart.{one_point}
 use Rattle.plane.proofs.Sweep.Meets.{point_test}
 use Rattle.plane.proofs.Windings.Under.{by_order}
 use Rattle.plane.proofs.OneTube.TubeEdges.{inner_outer_meet}
-use Rattle.plane.proofs.OneTube.ChainEdges.{straight_at, at_corner, at_first, at_last, EndsAt, ends_at, inner_edges_meet, inner_edges_apart, outer_edges_meet, outer_edges_apart}
+use Rattle.plane.proofs.OneTube.ChainEdges.{straight_at, at_corner, at_first, at_last, EndsAt}
+use Rattle.plane.proofs.OneTube.ChainEdges.{ends_at, inner_edges_meet, inner_edges_apart}
+use Rattle.plane.proofs.OneTube.ChainEdges.{outer_edges_meet, outer_edges_apart}
 
 -- the place is on the edge
 abbrev pub IsAt : Vector → Owned → Type 0
@@ -43,15 +47,18 @@ meet_back x y (inl n) = inl (λ z hz a b. n z hz b a)
 meet_back x y (inr m) = inr (m.0, record { of_first = m.1.of_second; of_second = m.1.of_first; only = λ z hz a b. m.1.only z hz b a })
 
 -- ---- two edges of one chain
-inner_on : (i : ℕ) (v : Point) (bs : List Bay) → Each (λ x. (z : Vector) → IsAt z x → OnInner z v bs) (chain i inner v (inner_corners bs))
+inner_on : (i : ℕ) (v : Point) (bs : List Bay)
+    → Each (λ x. (z : Vector) → IsAt z x → OnInner z v bs) (chain i inner v (inner_corners bs))
 inner_on i v [] = tt
 inner_on i v (b ∷ rest) = ((λ z k. inl k), each_map (λ x. (z : Vector) → IsAt z x → OnInner z b.inner rest) _ (chain i inner b.inner (inner_corners rest)) (λ x f z k. inr (f z k)) (inner_on i b.inner rest))
 
-outer_on : (i : ℕ) (q e : Point) (bs : List Bay) → Each (λ x. (z : Vector) → IsAt z x → OnOuter z q e bs) (chain i outer q (outer_corners bs ++ e ∷ []))
+outer_on : (i : ℕ) (q e : Point) (bs : List Bay)
+    → Each (λ x. (z : Vector) → IsAt z x → OnOuter z q e bs) (chain i outer q (outer_corners bs ++ e ∷ []))
 outer_on i q e [] = ((λ z k. k), tt)
 outer_on i q e (b ∷ rest) = ((λ z k. inl k), each_map (λ x. (z : Vector) → IsAt z x → OnOuter z b.outer e rest) _ (chain i outer b.outer (outer_corners rest ++ e ∷ [])) (λ x f z k. inr (f z k)) (outer_on i b.outer e rest))
 
-inner_pairs : (h : HalfArc) (i : ℕ) (v : Point) (bs : List Bay) → AreBays h v bs → Pairs Meet (chain i inner v (inner_corners bs))
+inner_pairs : (h : HalfArc) (i : ℕ) (v : Point) (bs : List Bay) → AreBays h v bs
+    → Pairs Meet (chain i inner v (inner_corners bs))
 inner_pairs h i v [] a = tt
 inner_pairs h i v (b ∷ rest) a = (later rest a, inner_pairs h i b.inner rest a.1)
   where
@@ -62,7 +69,9 @@ inner_pairs h i v (b ∷ rest) a = (later rest a, inner_pairs h i b.inner rest a
       each_map (λ x. (z : Vector) → IsAt z x → OnInner z d.inner more) _ (chain i inner d.inner (inner_corners more)) (λ y on. inl (λ z hz k l. inner_edges_apart h v b d more z hz a k (on z l))) (inner_on i d.inner more),
     )
 
-outer_pairs : (h : HalfArc) (i : ℕ) (q p e : Point) (bs : List Bay) → AreBays h p bs → EndsAt p e bs → along h (point q) ≤ℤ along h (point p) → Pairs Meet (chain i outer q (outer_corners bs ++ e ∷ []))
+outer_pairs : (h : HalfArc) (i : ℕ) (q p e : Point) (bs : List Bay) → AreBays h p bs → EndsAt p e bs
+    → along h (point q) ≤ℤ along h (point p)
+    → Pairs Meet (chain i outer q (outer_corners bs ++ e ∷ []))
 outer_pairs h i q p e [] a end l = (tt, tt)
 outer_pairs h i q p e (b ∷ rest) a end l = (later rest a end, outer_pairs h i b.outer b.inner e rest a.1 end (let on = a.0.on in omega (arith, ints, on)))
   where
@@ -80,14 +89,17 @@ record Rises (h : HalfArc) (p e : Point) (x : Owned) : Type 0 where
   pub low : along h (point p) ≤ℤ along h (point x.from)
   pub high : along h (point x.to) ≤ℤ along h (point e)
 
-ends_after : (h : HalfArc) (v e : Point) (bs : List Bay) → AreBays h v bs → EndsAt v e bs → along h (point v) ≤ℤ along h (point e)
+ends_after : (h : HalfArc) (v e : Point) (bs : List Bay) → AreBays h v bs → EndsAt v e bs
+    → along h (point v) ≤ℤ along h (point e)
 ends_after h v e [] a end = let k = ap (λ (q : Point). along h (point q)) end in omega (arith, ints, k)
 ends_after h v e (b ∷ rest) a end = let k = ends_after h b.inner e rest a.1 end in let up = a.0.up in let on = a.0.on in omega (arith, ints, k, up, on)
 
-rises_from : (h : HalfArc) (p q e : Point) (x : Owned) → along h (point p) ≤ℤ along h (point q) → Rises h q e x → Rises h p e x
+rises_from : (h : HalfArc) (p q e : Point) (x : Owned) → along h (point p) ≤ℤ along h (point q)
+    → Rises h q e x → Rises h p e x
 rises_from h p q e x l r = record { up = r.up; low = (let k = r.low in omega (arith, ints, l, k)); high = r.high }
 
-inner_rises : (h : HalfArc) (i : ℕ) (v e : Point) (bs : List Bay) → AreBays h v bs → EndsAt v e bs → Each (Rises h v e) (chain i inner v (inner_corners bs))
+inner_rises : (h : HalfArc) (i : ℕ) (v e : Point) (bs : List Bay) → AreBays h v bs → EndsAt v e bs
+    → Each (Rises h v e) (chain i inner v (inner_corners bs))
 inner_rises h i v e [] a end = tt
 inner_rises h i v e (b ∷ rest) a end =
     let up = a.0.up in
@@ -97,7 +109,9 @@ inner_rises h i v e (b ∷ rest) a end =
       each_map (Rises h b.inner e) (Rises h v e) (chain i inner b.inner (inner_corners rest)) (λ x. rises_from h v b.inner e x (omega (arith, ints, l))) (inner_rises h i b.inner e rest a.1 end),
     )
 
-outer_rises : (h : HalfArc) (i : ℕ) (q v e : Point) (bs : List Bay) → AreBays h v bs → EndsAt v e bs → along h (point q) <ℤ along h (point v) → Each (Rises h q e) (chain i outer q (outer_corners bs ++ e ∷ []))
+outer_rises : (h : HalfArc) (i : ℕ) (q v e : Point) (bs : List Bay) → AreBays h v bs → EndsAt v e bs
+    → along h (point q) <ℤ along h (point v)
+    → Each (Rises h q e) (chain i outer q (outer_corners bs ++ e ∷ []))
 outer_rises h i q v e [] a end l = (record { up = (let k = ap (λ (p : Point). along h (point p)) end in omega (arith, ints, k, l)); low = omega (arith, ints); high = omega (arith, ints) }, tt)
 outer_rises h i q v e (b ∷ rest) a end l =
     let up = a.0.up in
@@ -113,7 +127,9 @@ record IsPart (h : HalfArc) (p e : Point) (x : Owned) : Type 0 where
   pub rises : Rises h p e x
   pub part : (along h (point p) <ℤ along h (point x.from)) ⊎ (along h (point x.to) <ℤ along h (point e))
 
-outer_parts : (h : HalfArc) (i : ℕ) (v e : Point) (b : Bay) (rest : List Bay) → AreBays h v (b ∷ rest) → EndsAt v e (b ∷ rest) → Each (IsPart h v e) (chain i outer v (outer_corners (b ∷ rest) ++ e ∷ []))
+outer_parts : (h : HalfArc) (i : ℕ) (v e : Point) (b : Bay) (rest : List Bay)
+    → AreBays h v (b ∷ rest) → EndsAt v e (b ∷ rest)
+    → Each (IsPart h v e) (chain i outer v (outer_corners (b ∷ rest) ++ e ∷ []))
 outer_parts h i v e b rest a end =
     let up = a.0.up in
     let on = a.0.on in
@@ -128,13 +144,15 @@ times_same : (a b n : ℤ) → pos 0 <ℤ n → a ≤ℤ b → (a *ℤ n) ≤ℤ
 times_same a b n hn l = let k = times_le n a b (omega (arith, ints, hn)) l in let e = product_comm n a in let f = product_comm n b in omega (arith, ints, k, e, f)
 
 -- an end of the chord on the edge is an end of the edge
-at_low : (h : HalfArc) (p e : Point) (x : Owned) (z : Vector) → Rises h p e x → Place z → IsAt z x → Same z (point p) → x.from ≡ p
+at_low : (h : HalfArc) (p e : Point) (x : Owned) (z : Vector) → Rises h p e x → Place z → IsAt z x
+    → Same z (point p) → x.from ≡ p
 at_low h p e x z r hz on same =
     let c = at_corner h z p same in
     let k = times_same (along h (point p)) (along h (point x.from)) z.n hz r.low in
     one_point x.from p (same_trans (point x.from) z (point p) hz (same_sym z (point x.from) (at_first h z x.from x.to hz r.up (straight_at h z x.from x.to hz r.up on) (omega (arith, ints, c, k)))) same)
 
-at_high : (h : HalfArc) (p e : Point) (x : Owned) (z : Vector) → Rises h p e x → Place z → IsAt z x → Same z (point e) → x.to ≡ e
+at_high : (h : HalfArc) (p e : Point) (x : Owned) (z : Vector) → Rises h p e x → Place z → IsAt z x
+    → Same z (point e) → x.to ≡ e
 at_high h p e x z r hz on same =
     let c = at_corner h z e same in
     let k = times_same (along h (point x.to)) (along h (point e)) z.n hz r.high in
@@ -147,7 +165,8 @@ both_test p q c = elim (point_test p c) [
 ]
 
 -- edges that share ends of the chord alone share one of them at most
-cross_meet : (h : HalfArc) (x y : Owned) → Rises h h.from h.to x → IsPart h h.from h.to y → ((z : Vector) → Place z → IsAt z x → IsAt z y → AtEnds h z) → Meet x y
+cross_meet : (h : HalfArc) (x y : Owned) → Rises h h.from h.to x → IsPart h h.from h.to y
+    → ((z : Vector) → Place z → IsAt z x → IsAt z y → AtEnds h z) → Meet x y
 cross_meet h x y rx py ends = elim (both_test x.from y.from h.from) [
   | inl f ↦ inr (h.from, record { of_first = inl f.0; of_second = inl f.1; only = λ z hz a b. elim (ends z hz a b) [ inl e ↦ e | inr e ↦ absurd (whole f.1 (at_high h h.from h.to y z py.rises hz b e)) ] })
   | inr n ↦ elim (both_test x.to y.to h.to) [
@@ -166,11 +185,13 @@ cross_meet h x y rx py ends = elim (both_test x.from y.from h.from) [
         elim py.part [ inl a ↦ omega (arith, ints, a, k) | inr a ↦ omega (arith, ints, a, l) ]
 
 -- ---- all edges of a tube
-each_both : {X : Type 0} (P Q : X → Type 0) (xs : List X) → Each P xs → Each Q xs → Each (λ x. P x × Q x) xs
+each_both : {X : Type 0} (P Q : X → Type 0) (xs : List X) → Each P xs → Each Q xs
+    → Each (λ x. P x × Q x) xs
 each_both P Q [] h k = tt
 each_both P Q (x ∷ xs) h k = ((h.0, k.0), each_both P Q xs h.1 k.1)
 
-tube_pairs : (i : ℕ) (c : Curve) (bs : List Bay) → IsTube (arc c) bs → Pairs Meet (edges_of i kind.HalfArc c bs)
+tube_pairs : (i : ℕ) (c : Curve) (bs : List Bay) → IsTube (arc c) bs
+    → Pairs Meet (edges_of i kind.HalfArc c bs)
 tube_pairs i c [] t = absurd t.some
 tube_pairs i c (b ∷ rest) t =
     let h = arc c in
@@ -184,7 +205,8 @@ tube_pairs i c (b ∷ rest) t =
     (each_map _ (λ x. Each (Meet x) ys) xs (λ x kx. each_map _ (Meet x) ys (λ y ky. cross_meet h x y kx.0 ky.0 (λ z hz a b. inner_outer_meet h bs z t hz (kx.1 z a) (ky.1 z b))) ry) rx)
 
 -- ---- in the words of edges
-on_connected : (a : Edge) (p q : Point) (z : Vector) → Connects a p q → Place z → OnStraight a z → Between z (point p) (point q)
+on_connected : (a : Edge) (p q : Point) (z : Vector) → Connects a p q → Place z → OnStraight a z
+    → Between z (point p) (point q)
 on_connected a p q z k hz on =
     let one : pos 0 <ℤ pos 1 = omega (arith, ints) in
     let b = straight_between (point a.low) (point a.high) z one one hz on in
@@ -199,7 +221,8 @@ end_connected a p q c (inl e) (inr f) = inr (e.1 ∙ f)
 end_connected a p q c (inr e) (inl f) = inr (e.1 ∙ f)
 end_connected a p q c (inr e) (inr f) = inl (e.0 ∙ f)
 
-meet_edges : (x y : Owned) (a b : Edge) → Connects a x.from x.to → Connects b y.from y.to → Meet x y → Disjoint a b ⊎ Touch a b
+meet_edges : (x y : Owned) (a b : Edge) → Connects a x.from x.to → Connects b y.from y.to → Meet x y
+    → Disjoint a b ⊎ Touch a b
 meet_edges x y a b ka kb (inl n) = inl (λ z hz oa ob. n z hz (on_connected a x.from x.to z ka hz oa) (on_connected b y.from y.to z kb hz ob))
 meet_edges x y a b ka kb (inr m) = inr (record {
   at = m.0;
@@ -208,7 +231,9 @@ meet_edges x y a b ka kb (inr m) = inr (record {
   only = λ z hz oa ob. m.1.only z hz (on_connected a x.from x.to z ka hz oa) (on_connected b y.from y.to z kb hz ob);
 })
 
-pub edges_meet : (i : ℕ) (c : Curve) (bs : List Bay) (e f : ℕ) (a b : Edge) → IsTube (arc c) bs → e < length (edges_of i kind.HalfArc c bs) → f < length (edges_of i kind.HalfArc c bs) → (e ≡ f → ⊥)
+pub edges_meet : (i : ℕ) (c : Curve) (bs : List Bay) (e f : ℕ) (a b : Edge) → IsTube (arc c) bs
+    → e < length (edges_of i kind.HalfArc c bs) → f < length (edges_of i kind.HalfArc c bs)
+    → (e ≡ f → ⊥)
     → Connects a (get_or (edges_of i kind.HalfArc c bs) e no_edge).from (get_or (edges_of i kind.HalfArc c bs) e no_edge).to
     → Connects b (get_or (edges_of i kind.HalfArc c bs) f no_edge).from (get_or (edges_of i kind.HalfArc c bs) f no_edge).to
     → Disjoint a b ⊎ Touch a b

@@ -1,11 +1,13 @@
 -- The tube of a half arc, seen from its other end, is a tube of the turned half arc.
-use Rattle.std.proofs.Common.{◌≡◌, ◌⊎◌, inl, inr, List, [], ◌∷◌, ◌++◌, ℤ, pos, ◌*ℤ◌, ◌-ℤ◌, ◌<ℤ◌, ◌≤ℤ◌, refl, arith, ap, sym, ◌∙◌, subst}
+use Rattle.std.proofs.Common.{◌≡◌, ◌⊎◌, inl, inr, List, [], ◌∷◌, ◌++◌, ℤ, pos, ◌*ℤ◌, ◌-ℤ◌, ◌<ℤ◌}
+use Rattle.std.proofs.Common.{◌≤ℤ◌, refl, arith, ap, sym, ◌∙◌, subst}
 use Rattle.std.proofs.lemmas.Int.{ints}
 use Rattle.plane.specs.declared.kinds.Point.{Point}
 use Rattle.plane.specs.Lists.{Each, First, Last, Neighbours}
 use Rattle.plane.specs.Forms.Vectors.{point}
 use Rattle.plane.specs.Forms.Arcs.{HalfArc, bend, circle_x, circle_y, chord, facing, power, along}
-use Rattle.plane.specs.Tubes.Bays.{Bay, IsBay, AreBays, AreNext, IsSome, IsTube, outward, distance, ahead_of_from, ahead_of_to}
+use Rattle.plane.specs.Tubes.Bays.{Bay, IsBay, AreBays, AreNext, IsSome, IsTube, outward, distance}
+use Rattle.plane.specs.Tubes.Bays.{ahead_of_from, ahead_of_to}
 use Rattle.plane.specs.CurveRuns.TubedRuns.{backward}
 use Rattle.plane.proofs.Settling.EdgesAndTubes.{turned}
 use Rattle.plane.proofs.ListLemmas.Lists.{each_append}
@@ -47,7 +49,8 @@ facing-turned h =
     let f : Expr → Expr → Expr → Expr → Expr → Expr → Expr = λ fx fy tx ty hx hy. plus (times (minus hx fx) (minus (minus hx fx) (minus tx fx))) (times (minus hy fy) (minus (minus hy fy) (minus ty fy))) in
     ring (Back f) (Over f) (vars (h.from.x ∷ h.from.y ∷ h.to.x ∷ h.to.y ∷ h.third.x ∷ h.third.y ∷ [])) refl
 
-pub along-turned : (h : HalfArc) (p : Point) → along (turned h) (point p) ≡ chord h -ℤ along h (point p)
+pub along-turned : (h : HalfArc) (p : Point)
+    → along (turned h) (point p) ≡ chord h -ℤ along h (point p)
 unfolding along chord
 along-turned h p =
     let f : Expr → Expr → Expr → Expr → Expr = λ fx fy tx ty. plus (times (minus tx fx) (minus (at 4) (times fx (num (pos 1))))) (times (minus ty fy) (minus (at 5) (times fy (num (pos 1))))) in
@@ -85,7 +88,8 @@ unfolding ahead_of_from ahead_of_to bend circle_x circle_y
 to-turned h o = ring (Back TO) (Over FROM) (vars (h.from.x ∷ h.from.y ∷ h.to.x ∷ h.to.y ∷ h.third.x ∷ h.third.y ∷ o.x ∷ o.y ∷ [])) refl
 
 -- ---- lists with one more at the end
-bays_end : (h : HalfArc) (p : Point) (xs : List Bay) (k : Bay) → AreBays h p xs → IsBay h (last_inner p xs) k → AreBays h p (xs ++ k ∷ [])
+bays_end : (h : HalfArc) (p : Point) (xs : List Bay) (k : Bay) → AreBays h p xs
+    → IsBay h (last_inner p xs) k → AreBays h p (xs ++ k ∷ [])
 bays_end h p [] k a b = (b, tt)
 bays_end h p (x ∷ xs) k a b = (a.0, bays_end h x.inner xs k a.1 b)
 
@@ -94,7 +98,8 @@ last_end P [] k p = p
 last_end P (x ∷ []) k p = p
 last_end P (x ∷ (y ∷ xs)) k p = last_end P (y ∷ xs) k p
 
-neighbours_end : {X : Type 0} (R : X → X → Type 0) (xs : List X) (k : X) → Neighbours R xs → Last (λ x. R x k) xs → Neighbours R (xs ++ k ∷ [])
+neighbours_end : {X : Type 0} (R : X → X → Type 0) (xs : List X) (k : X) → Neighbours R xs
+    → Last (λ x. R x k) xs → Neighbours R (xs ++ k ∷ [])
 neighbours_end R [] k n l = (tt, tt)
 neighbours_end R (x ∷ []) k n l = (l, (tt, tt))
 neighbours_end R (x ∷ (y ∷ xs)) k n l = (n.0, neighbours_end R (y ∷ xs) k n.1 l)
@@ -115,13 +120,15 @@ back_bay h a b k =
     let e = outward-turned h a b.inner b.outer in
     record { up = omega (arith, ints, v, w, on); on = omega (arith, ints, u, v, up); over = omega (arith, ints, e, over) }
 
-back_bays : (h : HalfArc) (e a : Point) (bs : List Bay) → last_inner a bs ≡ e → AreBays h a bs → AreBays (turned h) e (backward a bs)
+back_bays : (h : HalfArc) (e a : Point) (bs : List Bay) → last_inner a bs ≡ e → AreBays h a bs
+    → AreBays (turned h) e (backward a bs)
 back_bays h e a [] q k = tt
 back_bays h e a (b ∷ bs) q k =
     bays_end (turned h) e (backward b.inner bs) (record { outer = b.outer; inner = a }) (back_bays h e b.inner bs q k.1)
     (subst (λ (p : Point). IsBay (turned h) p (record { outer = b.outer; inner = a })) (sym (last_backward e b.inner bs q)) (back_bay h a b k.0))
 
-back_next : (h : HalfArc) (a : Point) (bs : List Bay) → Neighbours (AreNext h) bs → Neighbours (AreNext (turned h)) (backward a bs)
+back_next : (h : HalfArc) (a : Point) (bs : List Bay) → Neighbours (AreNext h) bs
+    → Neighbours (AreNext (turned h)) (backward a bs)
 back_next h a [] n = tt
 back_next h a (b ∷ []) n = (tt, tt)
 back_next h a (b ∷ (d ∷ rest)) n =
@@ -140,7 +147,8 @@ back_next h a (b ∷ (d ∷ rest)) n =
 abbrev IsGood : HalfArc → Point → Type 0
 IsGood h q = (power (turned h) (point q) <ℤ pos 0) ⊎ (q ≡ h.from)
 
-back_inside : (h : HalfArc) (a : Point) (b : Bay) (rest : List Bay) → IsRest h a b rest → IsGood h a → Each (λ k. IsGood h k.inner) (backward a (b ∷ rest))
+back_inside : (h : HalfArc) (a : Point) (b : Bay) (rest : List Bay) → IsRest h a b rest → IsGood h a
+    → Each (λ k. IsGood h k.inner) (backward a (b ∷ rest))
 back_inside h a b [] r g = (g, tt)
 back_inside h a b (d ∷ rest) r g =
     let s = rest_of h a b d rest r in
@@ -156,14 +164,17 @@ back_inside h a b (d ∷ rest) r g =
     ]))
     (g, tt)
 
-back_first : (h : HalfArc) (a : Point) (bs : List Bay) → Last (λ b. ahead_of_to h b.outer ≤ℤ pos 0) bs → First (λ b. ahead_of_from (turned h) b.outer ≤ℤ pos 0) (backward a bs)
+back_first : (h : HalfArc) (a : Point) (bs : List Bay)
+    → Last (λ b. ahead_of_to h b.outer ≤ℤ pos 0) bs
+    → First (λ b. ahead_of_from (turned h) b.outer ≤ℤ pos 0) (backward a bs)
 back_first h a [] l = tt
 back_first h a (b ∷ []) l = let e = from-turned h b.outer in omega (arith, ints, e, l)
 back_first h a (b ∷ (d ∷ rest)) l =
     first_front (λ b. ahead_of_from (turned h) b.outer ≤ℤ pos 0) (backward b.inner (d ∷ rest)) (record { outer = b.outer; inner = a } ∷ [])
     (some_end (backward d.inner rest) (record { outer = d.outer; inner = b.inner })) (back_first h b.inner (d ∷ rest) l)
 
-pub reversed_tube : (h : HalfArc) (b : Bay) (rest : List Bay) → IsTube h (b ∷ rest) → IsTube (turned h) (backward h.from (b ∷ rest))
+pub reversed_tube : (h : HalfArc) (b : Bay) (rest : List Bay) → IsTube h (b ∷ rest)
+    → IsTube (turned h) (backward h.from (b ∷ rest))
 reversed_tube h b rest t =
     let c = t.circle in
     let f = t.facing in

@@ -1,5 +1,6 @@
 -- A triangle of points by the three sides that a program computes.
-use Rattle.std.proofs.Common.{◌≡◌, ℤ, pos, ◌+ℤ◌, ◌*ℤ◌, ◌-ℤ◌, ◌<ℤ◌, ◌≤ℤ◌, [], ◌∷◌, refl, arith, ap, ◌∙◌, sym}
+use Rattle.std.proofs.Common.{◌≡◌, ℤ, pos, ◌+ℤ◌, ◌*ℤ◌, ◌-ℤ◌, ◌<ℤ◌, ◌≤ℤ◌, [], ◌∷◌, refl, arith, ap}
+use Rattle.std.proofs.Common.{◌∙◌, sym}
 use Rattle.std.proofs.lemmas.Int.{ints}
 use Rattle.plane.specs.declared.kinds.Point.{Point}
 use Rattle.plane.specs.Forms.Vectors.{Vector, Place, point, side}
@@ -25,7 +26,8 @@ pub record IsLeftOfAll (p q m : Point) (z : Vector) : Type 0 where
 zero_least : (a : ℤ) → a ≡ pos 0 → pos 0 ≤ℤ a
 zero_least a e = omega (arith, ints, e)
 
-pub triangle_sides : (p q m : Point) (z : Vector) → Place z → pos 0 <ℤ side (line p q) (point m) → InTriangle z (point p) (point q) (point m) → IsLeftOfAll p q m z
+pub triangle_sides : (p q m : Point) (z : Vector) → Place z → pos 0 <ℤ side (line p q) (point m)
+    → InTriangle z (point p) (point q) (point m) → IsLeftOfAll p q m z
 triangle_sides p q m z hz d t =
     let e = side-turned p q m in
     let f = side-turned q m p in
@@ -35,7 +37,8 @@ triangle_sides p q m z hz d t =
       third = triangle_least (line m p) z p q m hz t (zero_least _ (side-high (line m p))) (omega (arith, ints, d, e, f)) (zero_least _ (side-low (line m p)));
     }
 
-pub sides_triangle : (p q m : Point) (z : Vector) → Place z → pos 0 <ℤ side (line p q) (point m) → IsLeftOfAll p q m z → InTriangle z (point p) (point q) (point m)
+pub sides_triangle : (p q m : Point) (z : Vector) → Place z → pos 0 <ℤ side (line p q) (point m)
+    → IsLeftOfAll p q m z → InTriangle z (point p) (point q) (point m)
 sides_triangle p q m z hz d s =
     let a = s.second in
     let b = s.third in
@@ -56,7 +59,8 @@ triangle_swapped z p q r t = record {
   is = record { x = moved z.x (t.i *ℤ p.n) (t.j *ℤ q.n) (t.k *ℤ r.n) (t.i *ℤ p.x) (t.j *ℤ q.x) (t.k *ℤ r.x) t.is.x; y = moved z.y (t.i *ℤ p.n) (t.j *ℤ q.n) (t.k *ℤ r.n) (t.i *ℤ p.y) (t.j *ℤ q.y) (t.k *ℤ r.y) t.is.y };
 }
   where
-    moved : (x a b c d e f : ℤ) → x *ℤ ((a +ℤ b) +ℤ c) ≡ ((d +ℤ e) +ℤ f) *ℤ z.n → x *ℤ ((a +ℤ c) +ℤ b) ≡ ((d +ℤ f) +ℤ e) *ℤ z.n
+    moved : (x a b c d e f : ℤ) → x *ℤ ((a +ℤ b) +ℤ c) ≡ ((d +ℤ e) +ℤ f) *ℤ z.n
+        → x *ℤ ((a +ℤ c) +ℤ b) ≡ ((d +ℤ f) +ℤ e) *ℤ z.n
     moved x a b c d e f h =
         let k : (a +ℤ c) +ℤ b ≡ (a +ℤ b) +ℤ c = omega (arith, ints) in
         let l : (d +ℤ f) +ℤ e ≡ (d +ℤ e) +ℤ f = omega (arith, ints) in

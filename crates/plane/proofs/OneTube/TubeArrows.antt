@@ -1,5 +1,6 @@
 -- At each corner of a tube one bound starts and one arrives.
-use Rattle.std.proofs.Common.{◌≡◌, ℕ, ◌⊎◌, inl, inr, List, [], ◌∷◌, map, ℤ, ◌-ℤ◌, ◌<ℤ◌, ◌≤ℤ◌, refl, arith, ap, sym, ◌∙◌, subst}
+use Rattle.std.proofs.Common.{◌≡◌, ℕ, ◌⊎◌, inl, inr, List, [], ◌∷◌, map, ℤ, ◌-ℤ◌, ◌<ℤ◌, ◌≤ℤ◌, refl}
+use Rattle.std.proofs.Common.{arith, ap, sym, ◌∙◌, subst}
 use Rattle.std.proofs.lemmas.Int.{ints}
 use Rattle.plane.specs.declared.kinds.Point.{Point}
 use Rattle.plane.specs.Lists.{Has, Once}
@@ -20,7 +21,8 @@ clash h p q e l = let x = ap (λ (v : Point). A h v) e in omega (arith, ints, x,
 clash_back : (h : HalfArc) (p q : Point) → p ≡ q → A h q <ℤ A h p → ⊥
 clash_back h p q e l = let x = ap (λ (v : Point). A h v) e in omega (arith, ints, x, l)
 
-low_after : (h : HalfArc) (p u : Point) (ks : List Bay) (e : Edge) → AreBays h p ks → Has e (fence p u ks) → A h p ≤ℤ A h e.low
+low_after : (h : HalfArc) (p u : Point) (ks : List Bay) (e : Edge) → AreBays h p ks
+    → Has e (fence p u ks) → A h p ≤ℤ A h e.low
 low_after h p u [] e are (inl m) = subst (λ (f : Edge). A h p ≤ℤ A h f.low) (sym m) (omega (arith, ints))
 low_after h p u [] e are (inr m) = absurd m
 low_after h p u (k ∷ ks) e are (inl m) = subst (λ (f : Edge). A h p ≤ℤ A h f.low) (sym m) (omega (arith, ints))
@@ -30,7 +32,8 @@ low_after h p u (k ∷ ks) e are (inr (inr m)) = let up = are.0.up in let on = a
 abbrev IsHigh : HalfArc → Point → Point → Edge → Type 0
 IsHigh h p u e = (e.high ≡ u) ⊎ (A h p <ℤ A h e.high)
 
-high_after : (h : HalfArc) (p u : Point) (ks : List Bay) (e : Edge) → AreBays h p ks → Has e (fence p u ks) → IsHigh h p u e
+high_after : (h : HalfArc) (p u : Point) (ks : List Bay) (e : Edge) → AreBays h p ks
+    → Has e (fence p u ks) → IsHigh h p u e
 high_after h p u [] e are (inl m) = inl (ap (λ (f : Edge). f.high) m)
 high_after h p u [] e are (inr m) = absurd m
 high_after h p u (k ∷ ks) e are (inl m) = let up = are.0.up in let on = are.0.on in inr (subst (λ (f : Edge). A h p <ℤ A h f.high) (sym m) (omega (arith, ints, up, on)))
@@ -42,7 +45,8 @@ high_after h p u (k ∷ ks) e are (inr (inr m)) = later (high_after h k.inner k.
     later (inr l) = let up = are.0.up in let on = are.0.on in inr (omega (arith, ints, up, on, l))
 
 -- ---- one bound starts at each corner
-pub starts_one : (h : HalfArc) (p u : Point) (ks : List Bay) (e f : Edge) → AreBays h p ks → Has e (fence p u ks) → Has f (fence p u ks) → e.low ≡ f.low → e ≡ f
+pub starts_one : (h : HalfArc) (p u : Point) (ks : List Bay) (e f : Edge) → AreBays h p ks
+    → Has e (fence p u ks) → Has f (fence p u ks) → e.low ≡ f.low → e ≡ f
 starts_one h p u [] e f are (inl m) (inl n) q = m ∙ sym n
 starts_one h p u [] e f are (inl m) (inr n) q = absurd n
 starts_one h p u [] e f are (inr m) n q = absurd m
@@ -66,7 +70,9 @@ starts_one h p u (k ∷ ks) e f are (inr (inr m)) (inr (inr n)) q = starts_one h
 
 -- ---- and one arrives
 -- the high end of a later bound is neither u nor the next inner corner
-not_first : (h : HalfArc) (p u : Point) (k : Bay) (ks : List Bay) (e : Edge) → A h u ≤ℤ A h p → AreBays h p (k ∷ ks) → Has e (fence k.inner k.outer ks) → (e.high ≡ k.inner → ⊥) × (e.high ≡ u → ⊥)
+not_first : (h : HalfArc) (p u : Point) (k : Bay) (ks : List Bay) (e : Edge) → A h u ≤ℤ A h p
+    → AreBays h p (k ∷ ks) → Has e (fence k.inner k.outer ks)
+    → (e.high ≡ k.inner → ⊥) × (e.high ≡ u → ⊥)
 not_first h p u k ks e l are m =
     let up = are.0.up in let on = are.0.on in
     elim (high_after h k.inner k.outer ks e are.1 m) [
@@ -74,7 +80,8 @@ not_first h p u k ks e l are m =
       | inr x ↦ (λ y. clash_back h e.high k.inner y x, λ y. clash_back h e.high u y (omega (arith, ints, l, up, on, x)))
     ]
 
-pub arrives_one : (h : HalfArc) (p u : Point) (ks : List Bay) (e f : Edge) → A h u ≤ℤ A h p → AreBays h p ks → Has e (fence p u ks) → Has f (fence p u ks) → e.high ≡ f.high → e ≡ f
+pub arrives_one : (h : HalfArc) (p u : Point) (ks : List Bay) (e f : Edge) → A h u ≤ℤ A h p
+    → AreBays h p ks → Has e (fence p u ks) → Has f (fence p u ks) → e.high ≡ f.high → e ≡ f
 arrives_one h p u [] e f l are (inl m) (inl n) q = m ∙ sym n
 arrives_one h p u [] e f l are (inl m) (inr n) q = absurd n
 arrives_one h p u [] e f l are (inr m) n q = absurd m
@@ -109,7 +116,8 @@ direction_way E (over e) = refl
 direction_way E (under e) = refl
 
 -- of a list without repeated edges each half-edge is told by its edge
-pub once_half : (hs : List Half) (f g : Half) → Once (map edge_of hs) → Has f hs → Has g hs → edge_of f ≡ edge_of g → f ≡ g
+pub once_half : (hs : List Half) (f g : Half) → Once (map edge_of hs) → Has f hs → Has g hs
+    → edge_of f ≡ edge_of g → f ≡ g
 once_half [] f g o m n q = absurd m
 once_half (x ∷ hs) f g o (inl m) (inl n) q = m ∙ sym n
 once_half (x ∷ hs) f g o (inl m) (inr n) q = absurd (o.0 (in_map hs n (sym (ap edge_of m) ∙ q)))

@@ -1,28 +1,34 @@
 -- A segment that meets no bound of a tube keeps in the tube: a triangle is left through a bound, which it is not, or through a diagonal,
 -- and behind the diagonal stands the next triangle.
-use Rattle.std.proofs.Common.{◌≡◌, ◌⊎◌, inl, inr, List, [], ◌∷◌, ℤ, pos, ◌+ℤ◌, ◌*ℤ◌, ◌-ℤ◌, ◌<ℤ◌, ◌≤ℤ◌, refl, arith, ap, sym, ◌∙◌, subst}
+use Rattle.std.proofs.Common.{◌≡◌, ◌⊎◌, inl, inr, List, [], ◌∷◌, ℤ, pos, ◌+ℤ◌, ◌*ℤ◌, ◌-ℤ◌, ◌<ℤ◌}
+use Rattle.std.proofs.Common.{◌≤ℤ◌, refl, arith, ap, sym, ◌∙◌, subst}
 use Rattle.std.proofs.lemmas.Int.{ints, by_lt_z}
 use Rattle.plane.specs.declared.kinds.Point.{Point}
 use Rattle.plane.specs.Lists.{Each, Has}
 use Rattle.plane.specs.Forms.Vectors.{Vector, Place, Between, mix, point, Edge, side}
 use Rattle.plane.specs.Tubes.Bays.{Bay}
-use Rattle.plane.specs.Tubes.Windings.{arrow, Tile, round, InTile, InSomeTile, IsLeftTile, strips, tiles, fence, bounds}
+use Rattle.plane.specs.Tubes.Windings.{arrow, Tile, round, InTile, InSomeTile, IsLeftTile, strips}
+use Rattle.plane.specs.Tubes.Windings.{tiles, fence, bounds}
 use Rattle.plane.specs.CurveRuns.Extended.{IsOnWay}
 use Rattle.plane.proofs.Algebra.Laws.{product_nonnegative, product_positive}
 use Rattle.plane.proofs.Algebra.Ring.{at, num, plus, minus, times, vars, ring}
 use Rattle.plane.proofs.Linear.Vectors.{side-mix}
 use Rattle.plane.proofs.Linear.Signs.{between_back}
-use Rattle.plane.proofs.Windings.OneTriangle.{side_a, side_b, side_c, area, sides_sum, sides_x, sides_y, area_next, IsWithin, within_triangle, triangle_within}
+use Rattle.plane.proofs.Windings.OneTriangle.{side_a, side_b, side_c, area, sides_sum, sides_x}
+use Rattle.plane.proofs.Windings.OneTriangle.{sides_y, area_next, IsWithin, within_triangle}
+use Rattle.plane.proofs.Windings.OneTriangle.{triangle_within}
 use Rattle.plane.proofs.Windings.Ways.{way_mix, way_start, way_end, way_place}
 
 -- ---- a segment cut by the lines of some edges
 abbrev Good : List Edge → Vector → Type 0
 Good fs z = Each (λ f. pos 0 ≤ℤ side f z) fs
 
-mix_least : (s a t b : ℤ) → pos 0 ≤ℤ s → pos 0 ≤ℤ a → pos 0 ≤ℤ t → pos 0 ≤ℤ b → pos 0 ≤ℤ ((s *ℤ a) +ℤ (t *ℤ b))
+mix_least : (s a t b : ℤ) → pos 0 ≤ℤ s → pos 0 ≤ℤ a → pos 0 ≤ℤ t → pos 0 ≤ℤ b
+    → pos 0 ≤ℤ ((s *ℤ a) +ℤ (t *ℤ b))
 mix_least s a t b hs ha ht hb = let u = product_nonnegative s a hs ha in let v = product_nonnegative t b ht hb in omega (arith, ints, u, v)
 
-good_mix : (fs : List Edge) (s : ℤ) (y : Vector) (t : ℤ) (z : Vector) → pos 0 ≤ℤ s → pos 0 ≤ℤ t → Good fs y → Good fs z → Good fs (mix s y t z)
+good_mix : (fs : List Edge) (s : ℤ) (y : Vector) (t : ℤ) (z : Vector) → pos 0 ≤ℤ s → pos 0 ≤ℤ t
+    → Good fs y → Good fs z → Good fs (mix s y t z)
 good_mix [] s y t z hs ht a b = tt
 good_mix (f ∷ fs) s y t z hs ht a b = (subst (λ (v : ℤ). pos 0 ≤ℤ v) (sym (side-mix f s y t z)) (mix_least s (side f y) t (side f z) hs a.0 ht b.0), good_mix fs s y t z hs ht a.1 b.1)
 
@@ -40,11 +46,13 @@ zero_mix : (a b : ℤ) → ((pos 0 -ℤ b) *ℤ a) +ℤ (a *ℤ b) ≡ pos 0
 zero_mix a b = ring (plus (times (minus (num (pos 0)) (at 1)) (at 0)) (times (at 0) (at 1))) (num (pos 0)) (vars (a ∷ b ∷ [])) refl
 
 -- where the far end of a mix is not below 0, nor is the mix
-far_below : (s a t b v : ℤ) → pos 0 ≤ℤ s → pos 0 ≤ℤ a → pos 0 ≤ℤ t → v ≡ (s *ℤ a) +ℤ (t *ℤ b) → v <ℤ pos 0 → b <ℤ pos 0
+far_below : (s a t b v : ℤ) → pos 0 ≤ℤ s → pos 0 ≤ℤ a → pos 0 ≤ℤ t → v ≡ (s *ℤ a) +ℤ (t *ℤ b)
+    → v <ℤ pos 0 → b <ℤ pos 0
 far_below s a t b v hs ha ht e l = by_lt_z b (pos 0) (λ k. k) (λ (k : pos 0 ≤ℤ b). let u = mix_least s a t b hs ha ht k in absurd (omega (arith, ints, u, e, l)))
 
 -- the cut at one more edge
-cut_more : (f : Edge) (fs : List Edge) (z q y : Vector) → Good (f ∷ fs) z → IsOnWay z q y → Good fs y → side f y <ℤ pos 0 → IsExit (f ∷ fs) z q
+cut_more : (f : Edge) (fs : List Edge) (z q y : Vector) → Good (f ∷ fs) z → IsOnWay z q y
+    → Good fs y → side f y <ℤ pos 0 → IsExit (f ∷ fs) z q
 cut_more f fs z q y g on gy l =
     let a = side f z in
     let b = side f y in
@@ -88,7 +96,8 @@ rotated_within : (t : Tile) (z : Vector) → IsWithin t z → IsWithin (rotated 
 rotated_within t z w = (w.1, w.2, w.0)
 
 -- a place of the triangle on the line of its first side is on that side
-on_side_a : (t : Tile) (z : Vector) → Place z → IsLeftTile t → IsWithin t z → side_a t z ≡ pos 0 → Between z (point t.a) (point t.b)
+on_side_a : (t : Tile) (z : Vector) → Place z → IsLeftTile t → IsWithin t z → side_a t z ≡ pos 0
+    → Between z (point t.a) (point t.b)
 on_side_a t z Z left w e =
     let s = sides_sum t z in
     let p = product_positive z.n (area t) Z left in
@@ -104,14 +113,16 @@ on_side_a t z Z left w e =
       is = record { x = one z.x z.n (area t) ((b *ℤ pos 1) +ℤ (c *ℤ pos 1)) b t.a.x c t.b.x (side_a t z) t.c.x n (sides_x t z) e; y = one z.y z.n (area t) ((b *ℤ pos 1) +ℤ (c *ℤ pos 1)) b t.a.y c t.b.y (side_a t z) t.c.y n (sides_y t z) e };
     }
   where
-    one : (x n k m b p c q a r : ℤ) → m ≡ n *ℤ k → x *ℤ k ≡ ((b *ℤ p) +ℤ (c *ℤ q)) +ℤ (a *ℤ r) → a ≡ pos 0 → x *ℤ m ≡ ((b *ℤ p) +ℤ (c *ℤ q)) *ℤ n
+    one : (x n k m b p c q a r : ℤ) → m ≡ n *ℤ k → x *ℤ k ≡ ((b *ℤ p) +ℤ (c *ℤ q)) +ℤ (a *ℤ r)
+        → a ≡ pos 0 → x *ℤ m ≡ ((b *ℤ p) +ℤ (c *ℤ q)) *ℤ n
     one x n k m b p c q a r e f z =
         let zero : a *ℤ r ≡ pos 0 = ap (λ (v : ℤ). v *ℤ r) z ∙ omega (arith, ints) in
         let g : x *ℤ k ≡ (b *ℤ p) +ℤ (c *ℤ q) = omega (arith, ints, f, zero) in
         ap (λ (v : ℤ). x *ℤ v) e ∙ ring (times (at 0) (times (at 1) (at 2))) (times (times (at 0) (at 2)) (at 1)) (vars (x ∷ n ∷ k ∷ [])) refl ∙ ap (λ (v : ℤ). v *ℤ n) g
 
 -- and back
-pub side_a_within : (t : Tile) (z : Vector) → Place z → IsLeftTile t → Between z (point t.a) (point t.b) → IsWithin t z
+pub side_a_within : (t : Tile) (z : Vector) → Place z → IsLeftTile t
+    → Between z (point t.a) (point t.b) → IsWithin t z
 side_a_within t z Z left h =
     let some = h.some in
     triangle_within t z Z left (record {
@@ -134,16 +145,20 @@ side_a_within t z Z left h =
     two : (s p t q r : ℤ) → (s *ℤ p) +ℤ (t *ℤ q) ≡ ((s *ℤ p) +ℤ (t *ℤ q)) +ℤ (pos 0 *ℤ r)
     two s p t q r = ring (plus (times (at 0) (at 1)) (times (at 2) (at 3))) (plus (plus (times (at 0) (at 1)) (times (at 2) (at 3))) (times (num (pos 0)) (at 4))) (vars (s ∷ p ∷ t ∷ q ∷ r ∷ [])) refl
 
-pub on_side_b : (t : Tile) (z : Vector) → Place z → IsLeftTile t → IsWithin t z → side_b t z ≡ pos 0 → Between z (point t.b) (point t.c)
+pub on_side_b : (t : Tile) (z : Vector) → Place z → IsLeftTile t → IsWithin t z → side_b t z ≡ pos 0
+    → Between z (point t.b) (point t.c)
 on_side_b t z Z left w e = on_side_a (rotated t) z Z (rotated_left t left) (rotated_within t z w) e
 
-pub on_side_c : (t : Tile) (z : Vector) → Place z → IsLeftTile t → IsWithin t z → side_c t z ≡ pos 0 → Between z (point t.c) (point t.a)
+pub on_side_c : (t : Tile) (z : Vector) → Place z → IsLeftTile t → IsWithin t z → side_c t z ≡ pos 0
+    → Between z (point t.c) (point t.a)
 on_side_c t z Z left w e = on_side_b (rotated t) z Z (rotated_left t left) (rotated_within t z w) e
 
-pub side_b_within : (t : Tile) (z : Vector) → Place z → IsLeftTile t → Between z (point t.b) (point t.c) → IsWithin t z
+pub side_b_within : (t : Tile) (z : Vector) → Place z → IsLeftTile t
+    → Between z (point t.b) (point t.c) → IsWithin t z
 side_b_within t z Z left h = let w = side_a_within (rotated t) z Z (rotated_left t left) h in (w.2, w.0, w.1)
 
-pub side_c_within : (t : Tile) (z : Vector) → Place z → IsLeftTile t → Between z (point t.c) (point t.a) → IsWithin t z
+pub side_c_within : (t : Tile) (z : Vector) → Place z → IsLeftTile t
+    → Between z (point t.c) (point t.a) → IsWithin t z
 side_c_within t z Z left h = let w = side_b_within (rotated t) z Z (rotated_left t left) h in (w.2, w.0, w.1)
 
 -- ---- one triangle: where the way leaves it
@@ -155,7 +170,8 @@ module _ (p q : Vector) (P : Place p) (Q : Place q) where
     between : Between at (point a) (point b)
     beyond : side e q <ℤ pos 0
 
-  leave : {R : Type 0} (t : Tile) → IsLeftTile t → (z : Vector) → IsOnWay p q z → IsWithin t z → (IsWithin t q → R)
+  leave : {R : Type 0} (t : Tile) → IsLeftTile t → (z : Vector) → IsOnWay p q z → IsWithin t z
+      → (IsWithin t q → R)
       → (Leaves t.a t.b (arrow t.a t.b) → R) → (Leaves t.b t.c (arrow t.b t.c) → R) → (Leaves t.c t.a (arrow t.c t.a) → R) → R
   leave {R = R} t left z on w stays a b c = elim (exit (round t) z q (w.0, (w.1, (w.2, tt)))) [
     | inl g ↦ stays (g.0, g.1.0, g.1.1.0)
@@ -164,7 +180,8 @@ module _ (p q : Vector) (P : Place p) (Q : Place q) where
         by_edge x.at way (way_place p q x.at P Q way) (x.good.0, x.good.1.0, x.good.1.1.0) x.edge x.has x.zero x.beyond
   ]
     where
-      by_edge : (y : Vector) → IsOnWay p q y → Place y → IsWithin t y → (e : Edge) → Has e (round t) → side e y ≡ pos 0 → side e q <ℤ pos 0 → R
+      by_edge : (y : Vector) → IsOnWay p q y → Place y → IsWithin t y → (e : Edge) → Has e (round t)
+          → side e y ≡ pos 0 → side e q <ℤ pos 0 → R
       by_edge y way Y within e (inl m) zero l =
           a (record { at = y; on = way; between = on_side_a t y Y left within (subst (λ (f : Edge). side f y ≡ pos 0) m zero); beyond = subst (λ (f : Edge). side f q <ℤ pos 0) m l })
       by_edge y way Y within e (inr (inl m)) zero l =
@@ -201,10 +218,13 @@ module _ (p q : Vector) (P : Place p) (Q : Place q) where
       abbrev Two : Vector → Type 0
       Two z = IsWithin two z ⊎ Rest z
 
-      from_rest : (z : Vector) → IsOnWay p q z → Rest z → (Leaves k.inner k.outer (arrow k.outer k.inner) → Two q ⊎ Leaves k.outer v (arrow k.outer v)) → Two q ⊎ Leaves k.outer v (arrow k.outer v)
+      from_rest : (z : Vector) → IsOnWay p q z → Rest z
+          → (Leaves k.inner k.outer (arrow k.outer k.inner) → Two q ⊎ Leaves k.outer v (arrow k.outer v))
+          → Two q ⊎ Leaves k.outer v (arrow k.outer v)
       from_rest z on h f = elim (far z on h) [ inl r ↦ inl (inr r) | inr x ↦ f x ]
 
-      in_two : (z : Vector) → IsOnWay p q z → IsWithin two z → Two q ⊎ Leaves k.outer v (arrow k.outer v)
+      in_two : (z : Vector) → IsOnWay p q z → IsWithin two z
+          → Two q ⊎ Leaves k.outer v (arrow k.outer v)
       in_two z on w = leave two two_left z on w (λ h. inl (inl h)) (λ x. absurd (miss_inner x.at x.on x.between))
           (λ x. from_rest x.at x.on (enter x.at x.between) (λ y. absurd (both_sides k.inner k.outer x.beyond y.beyond)))
           (λ x. inr x)
@@ -217,7 +237,9 @@ module _ (p q : Vector) (P : Place p) (Q : Place q) where
         abbrev One : Vector → Type 0
         One z = IsWithin one z ⊎ Two z
 
-        from_two : (z : Vector) → IsOnWay p q z → Two z → (Leaves k.outer v (arrow k.outer v) → One q ⊎ Leaves u v (arrow u v)) → One q ⊎ Leaves u v (arrow u v)
+        from_two : (z : Vector) → IsOnWay p q z → Two z
+            → (Leaves k.outer v (arrow k.outer v) → One q ⊎ Leaves u v (arrow u v))
+            → One q ⊎ Leaves u v (arrow u v)
         from_two z on h f = elim (any_two z on h) [ inl r ↦ inl (inr r) | inr x ↦ f x ]
 
         in_one : (z : Vector) → IsOnWay p q z → IsWithin one z → One q ⊎ Leaves u v (arrow u v)
@@ -234,7 +256,8 @@ module _ (p q : Vector) (P : Place p) (Q : Place q) where
   Behind v u ks z = InSomeTile (strips v u ks) z ⊎ Between z (point v) (point u)
 
   -- by the two triangles of the first bay
-  first_bay : (v u : Point) (k : Bay) (ks : List Bay) (z : Vector) → Place z → Each (λ t. IsLeftTile t) (strips v u (k ∷ ks)) → Behind v u (k ∷ ks) z
+  first_bay : (v u : Point) (k : Bay) (ks : List Bay) (z : Vector) → Place z
+      → Each (λ t. IsLeftTile t) (strips v u (k ∷ ks)) → Behind v u (k ∷ ks) z
       → IsWithin (record { a = u; b = v; c = k.outer }) z ⊎ (IsWithin (record { a = v; b = k.inner; c = k.outer }) z ⊎ Behind k.inner k.outer ks z)
   first_bay v u k ks z Z left (inl (t, inl e, i)) = inl (triangle_within (record { a = u; b = v; c = k.outer }) z Z left.0 (subst (λ (t : Tile). InTile t z) e i))
   first_bay v u k ks z Z left (inl (t, inr (inl e), i)) = inr (inl (triangle_within (record { a = v; b = k.inner; c = k.outer }) z Z left.1.0 (subst (λ (t : Tile). InTile t z) e i)))
@@ -248,13 +271,15 @@ module _ (p q : Vector) (P : Place p) (Q : Place q) where
       let t : Tile = record { a = v; b = k.inner; c = k.outer } in
       (t, inr (inl refl), within_triangle t z Z left (side_b_within t z Z left b))
 
-  all_bays : (v u : Point) (k : Bay) (ks : List Bay) (z : Vector) → Place z → Each (λ t. IsLeftTile t) (strips v u (k ∷ ks))
+  all_bays : (v u : Point) (k : Bay) (ks : List Bay) (z : Vector) → Place z
+      → Each (λ t. IsLeftTile t) (strips v u (k ∷ ks))
       → IsWithin (record { a = u; b = v; c = k.outer }) z ⊎ (IsWithin (record { a = v; b = k.inner; c = k.outer }) z ⊎ Behind k.inner k.outer ks z) → Behind v u (k ∷ ks) z
   all_bays v u k ks z Z left (inl w) = inl (record { a = u; b = v; c = k.outer }, inl refl, within_triangle (record { a = u; b = v; c = k.outer }) z Z left.0 w)
   all_bays v u k ks z Z left (inr (inl w)) = inl (record { a = v; b = k.inner; c = k.outer }, inr (inl refl), within_triangle (record { a = v; b = k.inner; c = k.outer }) z Z left.1.0 w)
   all_bays v u k ks z Z left (inr (inr h)) = inl (last_in v u k ks z Z left.1.0 h)
 
-  behind : (v u : Point) (ks : List Bay) → Each (λ t. IsLeftTile t) (strips v u ks) → Misses (fence v u ks) → (z : Vector) → IsOnWay p q z → Behind v u ks z
+  behind : (v u : Point) (ks : List Bay) → Each (λ t. IsLeftTile t) (strips v u ks)
+      → Misses (fence v u ks) → (z : Vector) → IsOnWay p q z → Behind v u ks z
       → Behind v u ks q ⊎ Leaves v u (arrow u v)
   behind v u [] left miss z on (inl s) = absurd s.1
   behind v u [] left miss z on (inr b) = absurd (miss z on (arrow v u) (inl refl) b)
@@ -267,7 +292,8 @@ module _ (p q : Vector) (P : Place p) (Q : Place q) where
       ]
 
   -- ---- the whole tube: the first triangle, and what stands behind its diagonal
-  pub kept_in : (a : Point) (ks : List Bay) → Each (λ t. IsLeftTile t) (tiles a ks) → Misses (bounds a ks) → InSomeTile (tiles a ks) p → InSomeTile (tiles a ks) q
+  pub kept_in : (a : Point) (ks : List Bay) → Each (λ t. IsLeftTile t) (tiles a ks)
+      → Misses (bounds a ks) → InSomeTile (tiles a ks) p → InSomeTile (tiles a ks) q
   kept_in a [] left miss s = absurd s.1
   kept_in a (k ∷ ks) left miss s =
       let far = behind k.inner k.outer ks left.1 (λ y w e m b. miss y w e (inr (inr m)) b) in

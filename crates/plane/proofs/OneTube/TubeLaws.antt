@@ -1,5 +1,6 @@
 -- Of a tube: a segment that hits its half arc has a place in it, and keeps its side where it does not hit.
-use Rattle.std.proofs.Common.{◌≡◌, ℤ, pos, ◌+ℤ◌, ◌*ℤ◌, ◌<ℤ◌, ◌≤ℤ◌, List, [], ◌∷◌, refl, arith, ap, ◌∙◌, subst, sym}
+use Rattle.std.proofs.Common.{◌≡◌, ℤ, pos, ◌+ℤ◌, ◌*ℤ◌, ◌<ℤ◌, ◌≤ℤ◌, List, [], ◌∷◌, refl, arith, ap}
+use Rattle.std.proofs.Common.{◌∙◌, subst, sym}
 use Rattle.std.proofs.lemmas.Int.{ints}
 use Rattle.plane.specs.Forms.Vectors.{Vector, Place, Between, mix}
 use Rattle.plane.specs.Forms.Arcs.{HalfArc, power, bow, seen, SameSign}
@@ -20,7 +21,8 @@ use Rattle.plane.proofs.OneTube.Chains.{outside_high}
 use Rattle.plane.proofs.OneTube.TubeStrips.{tube_cap, tube_strip, in_tube_over}
 
 -- ---- a mix of two places of a segment is a place of it
-between_mix : (p q u v : Vector) (s t : ℤ) → Place p → Place q → Place u → Place v → Between u p q → Between v p q → pos 0 ≤ℤ s → pos 0 ≤ℤ t → pos 0 <ℤ (s +ℤ t) → Between (mix s u t v) p q
+between_mix : (p q u v : Vector) (s t : ℤ) → Place p → Place q → Place u → Place v → Between u p q
+    → Between v p q → pos 0 ≤ℤ s → pos 0 ≤ℤ t → pos 0 <ℤ (s +ℤ t) → Between (mix s u t v) p q
 between_mix p q u v s t hp hq hu hv bu bv hs ht some = record {
   s = i;
   t = j;
@@ -54,12 +56,14 @@ between_mix p q u v s t hp hq hu hv bu bv hs ht some = record {
     sum_least : (a b : ℤ) → pos 0 ≤ℤ a → pos 0 ≤ℤ b → pos 0 ≤ℤ (a +ℤ b)
     sum_least a b h k = omega (arith, ints, h, k)
 
-    weight : (a b c d : ℤ) → pos 0 ≤ℤ a → pos 0 <ℤ b → pos 0 <ℤ c → pos 0 ≤ℤ d → pos 0 ≤ℤ (a *ℤ ((b *ℤ c) *ℤ d))
+    weight : (a b c d : ℤ) → pos 0 ≤ℤ a → pos 0 <ℤ b → pos 0 <ℤ c → pos 0 ≤ℤ d
+        → pos 0 ≤ℤ (a *ℤ ((b *ℤ c) *ℤ d))
     weight a b c d ha hb hc hd =
         let bc = product_positive b c hb hc in
         product_nonnegative a ((b *ℤ c) *ℤ d) ha (product_nonnegative (b *ℤ c) d (omega (arith, ints, bc)) hd)
 
-    heavy : (a b c d : ℤ) → pos 0 ≤ℤ a → pos 0 <ℤ b → pos 0 <ℤ c → pos 0 <ℤ d → a ≤ℤ (a *ℤ ((b *ℤ c) *ℤ d))
+    heavy : (a b c d : ℤ) → pos 0 ≤ℤ a → pos 0 <ℤ b → pos 0 <ℤ c → pos 0 <ℤ d
+        → a ≤ℤ (a *ℤ ((b *ℤ c) *ℤ d))
     heavy a b c d ha hb hc hd = weight_at_most a ((b *ℤ c) *ℤ d) ha (product_positive (b *ℤ c) d (product_positive b c hb hc) hd)
 
     total : pos 0 <ℤ (i +ℤ j)
@@ -75,7 +79,8 @@ between_mix p q u v s t hp hq hu hv bu bv hs ht some = record {
         positive_sum x y z e a b c = omega (arith, ints, e, a, b, c)
 
     -- one entry: u m = x(mu) n where u is that place
-    entry : (s t m n un vn us ut vs vt x y ux vx : ℤ) → ux *ℤ m ≡ ((us *ℤ x) +ℤ (ut *ℤ y)) *ℤ un → vx *ℤ n ≡ ((vs *ℤ x) +ℤ (vt *ℤ y)) *ℤ vn
+    entry : (s t m n un vn us ut vs vt x y ux vx : ℤ) → ux *ℤ m ≡ ((us *ℤ x) +ℤ (ut *ℤ y)) *ℤ un
+        → vx *ℤ n ≡ ((vs *ℤ x) +ℤ (vt *ℤ y)) *ℤ vn
         → (((s *ℤ ((n *ℤ un) *ℤ us)) +ℤ (t *ℤ ((m *ℤ vn) *ℤ vs))) *ℤ x) +ℤ (((s *ℤ ((n *ℤ un) *ℤ ut)) +ℤ (t *ℤ ((m *ℤ vn) *ℤ vt))) *ℤ y) ≡ (m *ℤ n) *ℤ ((s *ℤ ux) +ℤ (t *ℤ vx))
     entry s t m n un vn us ut vs vt x y ux vx e f =
         let S = at 0 in let T = at 1 in let M = at 2 in let N = at 3 in let UN = at 4 in let VN = at 5 in let US = at 6 in let UT = at 7 in let VS = at 8 in let VT = at 9 in let X = at 10 in let Y = at 11 in
@@ -110,7 +115,8 @@ between_mix p q u v s t hp hq hu hv bu bv hs ht some = record {
         ∙ ap (λ (w : ℤ). w *ℤ n) (sym e)
 
 -- ---- a segment that hits
-pub tube_covers : (h : HalfArc) (bs : List Bay) (p q : Vector) → IsTube h bs → Place p → Place q → HitsArc h p q → MeetsTube h bs p q
+pub tube_covers : (h : HalfArc) (bs : List Bay) (p q : Vector) → IsTube h bs → Place p → Place q
+    → HitsArc h p q → MeetsTube h bs p q
 tube_covers h [] p q t hp hq k = absurd t.some
 tube_covers h (b ∷ rest) p q t hp hq k =
     let hc = tube_cap h (b ∷ rest) t in
@@ -124,13 +130,15 @@ tube_covers h (b ∷ rest) p q t hp hq k =
     }
 
 -- ---- a segment that does not hit
-pub tube_keeps_sign : (h : HalfArc) (bs : List Bay) (p q : Vector) → IsTube h bs → Place p → Place q → InTube h.from bs p → InTube h.from bs q → (HitsArc h p q → ⊥) → SameSign h p q
+pub tube_keeps_sign : (h : HalfArc) (bs : List Bay) (p q : Vector) → IsTube h bs → Place p → Place q
+    → InTube h.from bs p → InTube h.from bs q → (HitsArc h p q → ⊥) → SameSign h p q
 tube_keeps_sign h [] p q t hp hq ip iq miss = absurd t.some
 tube_keeps_sign h (b ∷ rest) p q t hp hq ip iq miss =
     sign_kept h p q (tube_cap h (b ∷ rest) t) hp hq (in_tube_over h b rest p t hp ip) (in_tube_over h b rest q t hq iq) miss
 
 -- ---- the region between the chains
-pub tube_region : (h : HalfArc) (bs : List Bay) (z : Vector) → IsTube h bs → Place z → InTube h.from bs z → IsRegion h bs z
+pub tube_region : (h : HalfArc) (bs : List Bay) (z : Vector) → IsTube h bs → Place z
+    → InTube h.from bs z → IsRegion h bs z
 tube_region h [] z t hz k = absurd t.some
 tube_region h (b ∷ rest) z t hz k =
     let p = seen_point h h.from in
@@ -142,7 +150,8 @@ tube_region h (b ∷ rest) z t hz k =
       under = strip_under (cap h) (seen h z) p p (seen_bays h (b ∷ rest)) hz s f;
     }
 
-pub region_tube : (h : HalfArc) (bs : List Bay) (z : Vector) → IsTube h bs → Place z → IsRegion h bs z → InTube h.from bs z
+pub region_tube : (h : HalfArc) (bs : List Bay) (z : Vector) → IsTube h bs → Place z
+    → IsRegion h bs z → InTube h.from bs z
 region_tube h [] z t hz r = absurd t.some
 region_tube h (b ∷ rest) z t hz r =
     let l = r.slab.low in
@@ -151,10 +160,12 @@ region_tube h (b ∷ rest) z t hz r =
     (strip_all (cap h) (seen h z) (seen_point h h.from) (record { outer = seen_point h b.outer; inner = seen_point h b.inner }) (seen_bays h rest) hz (tube_strip h b rest t) (omega (arith, ints, e, l)) r.slab.high r.over r.under)
 
 -- in the tube, what is not inside is not under the chord's line, and what is outside is over it
-pub tube_away : (h : HalfArc) (bs : List Bay) (z : Vector) → IsTube h bs → Place z → InTube h.from bs z → pos 0 ≤ℤ power h z → pos 0 ≤ℤ bow h z
+pub tube_away : (h : HalfArc) (bs : List Bay) (z : Vector) → IsTube h bs → Place z
+    → InTube h.from bs z → pos 0 ≤ℤ power h z → pos 0 ≤ℤ bow h z
 tube_away h [] z t hz k l = absurd t.some
 tube_away h (b ∷ rest) z t hz k l = over_away h z (tube_cap h (b ∷ rest) t) (in_tube_over h b rest z t hz k) l
 
-pub tube_high : (h : HalfArc) (bs : List Bay) (z : Vector) → IsTube h bs → Place z → InTube h.from bs z → pos 0 <ℤ power h z → pos 0 <ℤ bow h z
+pub tube_high : (h : HalfArc) (bs : List Bay) (z : Vector) → IsTube h bs → Place z
+    → InTube h.from bs z → pos 0 <ℤ power h z → pos 0 <ℤ bow h z
 tube_high h [] z t hz k l = absurd t.some
 tube_high h (b ∷ rest) z t hz k l = outside_high h z (tube_cap h (b ∷ rest) t) (in_tube_over h b rest z t hz k) l

@@ -1,5 +1,6 @@
 -- A tube in the direction in which its triangles turn left: its bays, its places, its end.
-use Rattle.std.proofs.Common.{◌≡◌, Bool, true, false, cond, List, [], ◌∷◌, ◌++◌, ℤ, pos, negsuc, zero, suc, ◌*ℤ◌, ◌<ℤ◌, ◌↔◌, refl, arith, ap, sym, ◌∙◌, subst}
+use Rattle.std.proofs.Common.{◌≡◌, Bool, true, false, cond, List, [], ◌∷◌, ◌++◌, ℤ, pos, negsuc}
+use Rattle.std.proofs.Common.{zero, suc, ◌*ℤ◌, ◌<ℤ◌, ◌↔◌, refl, arith, ap, sym, ◌∙◌, subst}
 use Rattle.std.proofs.lemmas.Int.{ints}
 use Rattle.plane.specs.declared.kinds.Point.{Point}
 use Rattle.plane.specs.Lists.{Each}
@@ -12,7 +13,8 @@ use Rattle.plane.specs.Tubes.Facing.{tip}
 use Rattle.plane.specs.CurveRuns.TubedRuns.{backward, first_bay, later_bays}
 use Rattle.plane.proofs.ParityLemmas.Wedges.{not_both, is_true}
 use Rattle.plane.proofs.OneTube.ArcTubes.{tiles_in_tube, tube_in_tiles, tiles_left}
-use Rattle.plane.proofs.OneTube.BackwardBays.{last_inner, last_inner_tip, last_backward, backward_tube, tube_backward, backward_left}
+use Rattle.plane.proofs.OneTube.BackwardBays.{last_inner, last_inner_tip, last_backward}
+use Rattle.plane.proofs.OneTube.BackwardBays.{backward_tube, tube_backward, backward_left}
 
 -- the start and the bays, from either end
 abbrev pub start : Bool → Point → Point → Point
@@ -22,11 +24,13 @@ abbrev pub bays_from : Bool → Point → List Bay → List Bay
 bays_from left a bs = cond left (backward a bs) bs
 
 -- a list with a last element is its first bay and the later ones
-split : (ks : List Bay) (k : Bay) → first_bay (ks ++ k ∷ []) ∷ later_bays (ks ++ k ∷ []) ≡ ks ++ k ∷ []
+split : (ks : List Bay) (k : Bay)
+    → first_bay (ks ++ k ∷ []) ∷ later_bays (ks ++ k ∷ []) ≡ ks ++ k ∷ []
 split [] k = refl
 split (d ∷ ks) k = refl
 
-pub split_bays : (left : Bool) (a : Point) (b : Bay) (bs : List Bay) → first_bay (bays_from left a (b ∷ bs)) ∷ later_bays (bays_from left a (b ∷ bs)) ≡ bays_from left a (b ∷ bs)
+pub split_bays : (left : Bool) (a : Point) (b : Bay) (bs : List Bay)
+    → first_bay (bays_from left a (b ∷ bs)) ∷ later_bays (bays_from left a (b ∷ bs)) ≡ bays_from left a (b ∷ bs)
 split_bays false a b bs = refl
 split_bays true a b bs = split (backward b.inner bs) (record { outer = b.outer; inner = a })
 
@@ -40,7 +44,8 @@ turned_tip true a e b bs q =
     ∙ last_backward e a (b ∷ bs) q
 
 -- the triangles hold the places of the tube
-pub turned_places : (left : Bool) (a e : Point) (b : Bay) (bs : List Bay) (z : Vector) → last_inner a (b ∷ bs) ≡ e
+pub turned_places : (left : Bool) (a e : Point) (b : Bay) (bs : List Bay) (z : Vector)
+    → last_inner a (b ∷ bs) ≡ e
     → InSomeTile (tiles (start left a e) (first_bay (bays_from left a (b ∷ bs)) ∷ later_bays (bays_from left a (b ∷ bs)))) z ↔ InTube a (b ∷ bs) z
 turned_places false a e b bs z q = ((λ k. tiles_in_tube a b bs z k), (λ k. tube_in_tiles a b bs z k))
 turned_places true a e b bs z q =
@@ -56,7 +61,8 @@ below (pos zero) l e = absurd (omega (arith, ints, l))
 below (pos (suc n)) l e = absurd (not_both e)
 below (negsuc n) l e = omega (arith, ints)
 
-pub turned_left : (h : HalfArc) (b : Bay) (bs : List Bay) (left : Bool) → is_positive (bend h) ≡ left → IsTube h (b ∷ bs) → last_inner h.from (b ∷ bs) ≡ h.to
+pub turned_left : (h : HalfArc) (b : Bay) (bs : List Bay) (left : Bool)
+    → is_positive (bend h) ≡ left → IsTube h (b ∷ bs) → last_inner h.from (b ∷ bs) ≡ h.to
     → Each (λ t. IsLeftTile t) (tiles (start left h.from h.to) (first_bay (bays_from left h.from (b ∷ bs)) ∷ later_bays (bays_from left h.from (b ∷ bs))))
 turned_left h b bs false e t q = tiles_left h b bs (below (bend h) t.circle e) t
 turned_left h b bs true e t q =

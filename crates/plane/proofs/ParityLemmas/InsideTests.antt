@@ -1,6 +1,7 @@
 -- The test of one edge in the words of "inside": the place is strictly below it and between the x of its ends.
 -- A triangle is worked as an example.
-use Rattle.std.proofs.Common.{◌≡◌, ◌↔◌, true, false, pos, ◌-ℤ◌, ◌*ℤ◌, ◌<ℤ◌, ◌≤ℤ◌, List, [], ◌∷◌, refl, arith, ap, ◌∙◌}
+use Rattle.std.proofs.Common.{◌≡◌, ◌↔◌, true, false, pos, ◌-ℤ◌, ◌*ℤ◌, ◌<ℤ◌, ◌≤ℤ◌, List, [], ◌∷◌}
+use Rattle.std.proofs.Common.{refl, arith, ap, ◌∙◌}
 use Rattle.std.proofs.lemmas.Int.{ints}
 use Rattle.plane.specs.Forms.Vectors.{Vector, Edge, side}
 use Rattle.plane.specs.Faces.Parity.{flip, both, parity, is_right, is_under, crosses_vertical}

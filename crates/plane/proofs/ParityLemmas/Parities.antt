@@ -1,12 +1,14 @@
 -- Where each point is the end of an even number of edges, the counts along the vertical and along the sweep line have one
 -- parity.
 -- Each end in the wedge between the two lines counts as often as its point has edges.
-use Rattle.std.proofs.Common.{◌≡◌, ℕ, suc, ◌+◌, Bool, true, false, ℤ, pos, ◌-ℤ◌, ◌<ℤ◌, inl, inr, List, [], ◌∷◌, ◌++◌, refl, arith, ap, sym, ◌∙◌, subst}
+use Rattle.std.proofs.Common.{◌≡◌, ℕ, suc, ◌+◌, Bool, true, false, ℤ, pos, ◌-ℤ◌, ◌<ℤ◌, inl, inr}
+use Rattle.std.proofs.Common.{List, [], ◌∷◌, ◌++◌, refl, arith, ap, sym, ◌∙◌, subst}
 use Rattle.std.proofs.lemmas.Int.{ints}
 use Rattle.plane.specs.declared.kinds.Point.{Point}
 use Rattle.plane.specs.Forms.Vectors.{Vector, Place, Edge, rise, Before, On}
 use Rattle.plane.specs.Lists.{Has}
-use Rattle.plane.specs.Faces.Parity.{flip, both, differ, parity, crosses_vertical, ends_of, same_whole, same_point, EvenEnds, either}
+use Rattle.plane.specs.Faces.Parity.{flip, both, differ, parity, crosses_vertical, ends_of}
+use Rattle.plane.specs.Faces.Parity.{same_whole, same_point, EvenEnds, either}
 use Rattle.plane.proofs.ParityLemmas.ParityWords.{crosses_sweep, in_wedge, one_if, tally, Even, Odd}
 use Rattle.plane.specs.Faces.Cells.{is_positive}
 use Rattle.plane.proofs.ListLemmas.Points.{point_eq}
@@ -35,7 +37,8 @@ differ_equal true false h = h ∙ refl
 differ_equal false true h = sym h
 differ_equal false false h = refl
 
-pub differ_four : (a b c d : Bool) → differ (differ a b) (differ c d) ≡ differ (differ a c) (differ b d)
+pub differ_four : (a b c d : Bool)
+    → differ (differ a b) (differ c d) ≡ differ (differ a c) (differ b d)
 differ_four true true true true = refl
 differ_four true true true false = refl
 differ_four true true false true = refl
@@ -58,19 +61,23 @@ both_differ true b c = refl
 both_differ false b c = refl
 
 -- ---- parities of lists
-pub parity_map : {X : Type 0} (p q : X → Bool) (xs : List X) → ((x : X) → Has x xs → p x ≡ q x) → parity p xs ≡ parity q xs
+pub parity_map : {X : Type 0} (p q : X → Bool) (xs : List X) → ((x : X) → Has x xs → p x ≡ q x)
+    → parity p xs ≡ parity q xs
 parity_map p q [] h = refl
 parity_map p q (x ∷ xs) h = ap (λ b. differ b (parity p xs)) (h x (inl refl)) ∙ ap (λ b. differ (q x) b) (parity_map p q xs (λ y k. h y (inr k)))
 
-pub parity_none : {X : Type 0} (p : X → Bool) (xs : List X) → ((x : X) → Has x xs → p x ≡ false) → parity p xs ≡ false
+pub parity_none : {X : Type 0} (p : X → Bool) (xs : List X) → ((x : X) → Has x xs → p x ≡ false)
+    → parity p xs ≡ false
 parity_none p [] h = refl
 parity_none p (x ∷ xs) h = ap (λ b. differ b (parity p xs)) (h x (inl refl)) ∙ parity_none p xs (λ y k. h y (inr k))
 
-pub parity_differ : {X : Type 0} (p q : X → Bool) (xs : List X) → parity (λ x. differ (p x) (q x)) xs ≡ differ (parity p xs) (parity q xs)
+pub parity_differ : {X : Type 0} (p q : X → Bool) (xs : List X)
+    → parity (λ x. differ (p x) (q x)) xs ≡ differ (parity p xs) (parity q xs)
 parity_differ p q [] = refl
 parity_differ p q (x ∷ xs) = ap (λ b. differ (differ (p x) (q x)) b) (parity_differ p q xs) ∙ differ_four (p x) (q x) (parity p xs) (parity q xs)
 
-pub parity_both : {X : Type 0} (c : Bool) (p : X → Bool) (xs : List X) → parity (λ x. both c (p x)) xs ≡ both c (parity p xs)
+pub parity_both : {X : Type 0} (c : Bool) (p : X → Bool) (xs : List X)
+    → parity (λ x. both c (p x)) xs ≡ both c (parity p xs)
 parity_both true p xs = refl
 parity_both false p xs = parity_none (λ x. false) xs (λ x k. refl)
 
@@ -80,7 +87,8 @@ differ_assoc true true false = refl
 differ_assoc true false c = refl
 differ_assoc false b c = refl
 
-pub parity_append : {X : Type 0} (p : X → Bool) (xs ys : List X) → parity p (xs ++ ys) ≡ differ (parity p xs) (parity p ys)
+pub parity_append : {X : Type 0} (p : X → Bool) (xs ys : List X)
+    → parity p (xs ++ ys) ≡ differ (parity p xs) (parity p ys)
 parity_append p [] ys = refl
 parity_append p (x ∷ xs) ys = ap (λ b. differ (p x) b) (parity_append p xs ys) ∙ differ_assoc (p x) (parity p xs) (parity p ys)
 
@@ -114,7 +122,8 @@ odd_parity p xs h = by_parity (parity p xs) (tally p xs) (counted p xs) h
     by_parity true n c h = refl
     by_parity false n c h = absurd (not_even_odd n c h)
 
-pub even_parity : {X : Type 0} (p : X → Bool) (xs : List X) → Even (tally p xs) → parity p xs ≡ false
+pub even_parity : {X : Type 0} (p : X → Bool) (xs : List X) → Even (tally p xs)
+    → parity p xs ≡ false
 even_parity p xs h = by_parity (parity p xs) (tally p xs) (counted p xs) h
   where
     by_parity : (b : Bool) (n : ℕ) → Counted b n → Even n → b ≡ false
@@ -156,14 +165,16 @@ abbrev among_points : List Point → Point → Bool
 among_points [] x = false
 among_points (p ∷ ps) x = either (same_point p x) (among_points ps x)
 
-pub split_either : (f s t : Bool) → both f (either s t) ≡ differ (both (both f (flip t)) s) (both f t)
+pub split_either : (f s t : Bool)
+    → both f (either s t) ≡ differ (both (both f (flip t)) s) (both f t)
 split_either true true true = refl
 split_either true true false = refl
 split_either true false true = refl
 split_either true false false = refl
 split_either false s t = refl
 
-covered : (xs : List Point) → ((p : Point) → parity (same_point p) xs ≡ false) → (f : Point → Bool) (ps : List Point) → parity (λ x. both (f x) (among_points ps x)) xs ≡ false
+covered : (xs : List Point) → ((p : Point) → parity (same_point p) xs ≡ false)
+    → (f : Point → Bool) (ps : List Point) → parity (λ x. both (f x) (among_points ps x)) xs ≡ false
 covered xs even f [] = parity_none (λ x. both (f x) false) xs (λ x k. both_false (f x))
 covered xs even f (p ∷ ps) =
     let g : Point → Bool = λ x. both (both (f x) (flip (among_points ps x))) (same_point p x) in
@@ -190,13 +201,15 @@ pub both_right : (b : Bool) → both b true ≡ b
 both_right true = refl
 both_right false = refl
 
-pub even_any : (xs : List Point) → ((p : Point) → parity (same_point p) xs ≡ false) → (f : Point → Bool) → parity f xs ≡ false
+pub even_any : (xs : List Point) → ((p : Point) → parity (same_point p) xs ≡ false)
+    → (f : Point → Bool) → parity f xs ≡ false
 even_any xs even f =
     parity_map f (λ x. both (f x) (among_points xs x)) xs (λ x k. sym (ap (λ b. both (f x) b) (is_among xs x k) ∙ both_right (f x)))
     ∙ covered xs even f xs
 
 -- ---- the two counts
-pub parity_ends : (f : Point → Bool) (es : List Edge) → parity f (ends_of es) ≡ parity (λ e. differ (f e.low) (f e.high)) es
+pub parity_ends : (f : Point → Bool) (es : List Edge)
+    → parity f (ends_of es) ≡ parity (λ e. differ (f e.low) (f e.high)) es
 parity_ends f [] = refl
 parity_ends f (e ∷ es) = differ_assoc (f e.low) (f e.high) (parity f (ends_of es)) ∙ ap (λ b. differ (differ (f e.low) (f e.high)) b) (parity_ends f es)
 
@@ -206,7 +219,9 @@ pub record Plain (w : ℤ) (z : Vector) (e : Edge) : Type 0 where
   pub up : pos 0 <ℤ rise w e
   pub off : On w e z → ⊥
 
-pub crossings_agree : (w : ℤ) (z : Vector) (es : List Edge) → Place z → ((e : Edge) → Has e es → Plain w z e) → EvenEnds es → parity (crosses_vertical z) es ≡ parity (crosses_sweep w z) es
+pub crossings_agree : (w : ℤ) (z : Vector) (es : List Edge) → Place z
+    → ((e : Edge) → Has e es → Plain w z e) → EvenEnds es
+    → parity (crosses_vertical z) es ≡ parity (crosses_sweep w z) es
 crossings_agree w z es hz plain even = differ_equal (parity (crosses_vertical z) es) (parity (crosses_sweep w z) es)
     (sym (parity_differ (crosses_vertical z) (crosses_sweep w z) es)
     ∙ parity_map (λ e. differ (crosses_vertical z e) (crosses_sweep w z e)) (λ e. differ (in_wedge w z e.low) (in_wedge w z e.high)) es

@@ -1,5 +1,6 @@
 -- Counts along the vertical and along the sweep line: the words of the lemmas on parity.
-use Rattle.std.specs.Prelude.{◌≡◌, ℕ, zero, suc, ◌+◌, Bool, true, false, List, [], ◌∷◌, ℤ, ◌*ℤ◌, ◌-ℤ◌}
+use Rattle.std.specs.Prelude.{◌≡◌, ℕ, zero, suc, ◌+◌, Bool, true, false, List, [], ◌∷◌, ℤ, ◌*ℤ◌}
+use Rattle.std.specs.Prelude.{◌-ℤ◌}
 use Rattle.plane.specs.declared.kinds.Point.{Point}
 use Rattle.plane.specs.Faces.Cells.{is_positive}
 use Rattle.plane.specs.Forms.Vectors.{Vector, point, Edge, sweep}

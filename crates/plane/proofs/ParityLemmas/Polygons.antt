@@ -1,6 +1,7 @@
 -- The edges with one label on exactly one side have even degrees.
 -- A place is inside over them exactly where its cell has that label.
-use Rattle.std.proofs.Common.{◌≡◌, ℕ, zero, suc, ◌<◌, ◌≤◌, Bool, true, false, ◌⊎◌, ℤ, inl, inr, List, [], ◌∷◌, ◌++◌, length, refl, arith, ap, sym, ◌∙◌, subst}
+use Rattle.std.proofs.Common.{◌≡◌, ℕ, zero, suc, ◌<◌, ◌≤◌, Bool, true, false, ◌⊎◌, ℤ, inl, inr}
+use Rattle.std.proofs.Common.{List, [], ◌∷◌, ◌++◌, length, refl, arith, ap, sym, ◌∙◌, subst}
 use Rattle.plane.specs.declared.kinds.Point.{Point}
 use Rattle.plane.specs.Forms.Vectors.{Vector, Place, Edge, Before}
 use Rattle.plane.specs.Lists.{Each, Has}
@@ -8,7 +9,9 @@ use Rattle.plane.specs.Runs.Steps.{Step, before, after, onto, AtSome, WeighedRun
 use Rattle.plane.specs.Faces.Labels.{Labels, Match, MatchesAt, label_at}
 use Rattle.plane.specs.Faces.Replays.{Replay, IsOffEdges, replay}
 use Rattle.plane.specs.Faces.Cells.{Sector, IsSector, sector, label_of}
-use Rattle.plane.specs.Faces.Parity.{flip, both, differ, either, parity, crosses_vertical, same_point, ends_of, EvenEnds, same_number, chosen, parity_over, one_side}
+use Rattle.plane.specs.Faces.Parity.{flip, both, differ, either, parity, crosses_vertical}
+use Rattle.plane.specs.Faces.Parity.{same_point, ends_of, EvenEnds, same_number, chosen}
+use Rattle.plane.specs.Faces.Parity.{parity_over, one_side}
 use Rattle.plane.proofs.ParityLemmas.ParityWords.{numbers_below}
 use Rattle.plane.proofs.ListLemmas.Lists.{each_has, each_from}
 use Rattle.plane.proofs.Runs.Moments.{moment}
@@ -16,7 +19,8 @@ use Rattle.plane.proofs.LabelLemmas.MatchedLists.{live_match}
 use Rattle.plane.proofs.Strips.Columns.{cell_is}
 use Rattle.plane.proofs.Runs.Numbered.{nth, has_nth, index_of, IsCut, cut_at, swept_run}
 use Rattle.plane.proofs.Runs.Lawful.{swept_lawful}
-use Rattle.plane.proofs.ParityLemmas.Parities.{both_false, differ_false, differ_self, parity_append, parity_none, same_is}
+use Rattle.plane.proofs.ParityLemmas.Parities.{both_false, differ_false, differ_self, parity_append}
+use Rattle.plane.proofs.ParityLemmas.Parities.{parity_none, same_is}
 use Rattle.plane.proofs.ParityLemmas.ByNumber.{by_test, number_is, numbers_map}
 use Rattle.plane.proofs.ParityLemmas.OverCells.{degree, degree_step, vertical_over}
 
@@ -45,7 +49,8 @@ pass_over true false false = refl
 pass_over false y z = refl
 
 -- ---- labels along a list
-pub match_parity : (a : Labels) (f l : ℕ) (xs : List ℕ) (r : ℕ) → Match a l xs r → differ (same_number f l) (parity (one_side a f) xs) ≡ same_number f r
+pub match_parity : (a : Labels) (f l : ℕ) (xs : List ℕ) (r : ℕ) → Match a l xs r
+    → differ (same_number f l) (parity (one_side a f) xs) ≡ same_number f r
 match_parity a f l [] r h = differ_false (same_number f l) ∙ ap (same_number f) h
 match_parity a f l (e ∷ xs) r h =
     ap (λ n. differ (same_number f n) (differ (one_side a f e) (parity (one_side a f) xs))) h.0
@@ -53,13 +58,15 @@ match_parity a f l (e ∷ xs) r h =
     ∙ match_parity a f (a.above e) xs r h.1
 
 -- the edges over a cell
-pub match_over : (a : Labels) (f l i : ℕ) (xs : List ℕ) (r : ℕ) → Match a l xs r → i ≤ length xs → differ (same_number f (label_at a l i xs)) (parity_over (one_side a f) i xs) ≡ same_number f r
+pub match_over : (a : Labels) (f l i : ℕ) (xs : List ℕ) (r : ℕ) → Match a l xs r → i ≤ length xs
+    → differ (same_number f (label_at a l i xs)) (parity_over (one_side a f) i xs) ≡ same_number f r
 match_over a f l zero xs r h k = match_parity a f l xs r h
 match_over a f l (suc i) [] r h k = absurd (omega (arith, k))
 match_over a f l (suc i) (x ∷ xs) r h k = match_over a f (a.above x) i xs r h.1 (omega (arith, k))
 
 -- as many edges with f on one side end at a step as start there, by parity
-pub labels_step : (w : ℤ) (m : ℕ) (E : ℕ → Edge) (a : Labels) (f : ℕ) (done todo : List Step) (s : Step) → WeighedRun w m E (onto done (s ∷ todo)) → Each (MatchesAt a) (s ∷ done)
+pub labels_step : (w : ℤ) (m : ℕ) (E : ℕ → Edge) (a : Labels) (f : ℕ) (done todo : List Step) (s : Step)
+    → WeighedRun w m E (onto done (s ∷ todo)) → Each (MatchesAt a) (s ∷ done)
     → parity (one_side a f) s.starting ≡ parity (one_side a f) s.ending
 labels_step w m E a f done todo s all k =
     let u = moment w m E done (s ∷ todo) all in
@@ -74,7 +81,8 @@ labels_step w m E a f done todo s all k =
     ∙ parity_append c s.below (s.ending ++ s.above) ∙ ap (λ b. differ (parity c s.below) b) (parity_append c s.ending s.above)))
 
 -- an edge with different labels on its sides has f on one side exactly where it has f on some side
-pub one_side_is : (a : Labels) (f e : ℕ) → (a.below e ≡ a.above e → ⊥) → one_side a f e ≡ either (same_number f (a.below e)) (same_number f (a.above e))
+pub one_side_is : (a : Labels) (f e : ℕ) → (a.below e ≡ a.above e → ⊥)
+    → one_side a f e ≡ either (same_number f (a.below e)) (same_number f (a.above e))
 one_side_is a f e n = by_test (same_number f (a.below e))
     (λ h. by_test (same_number f (a.above e))
     (λ k. absurd (n (sym (number_is f (a.below e) h) ∙ number_is f (a.above e) k)))
@@ -82,7 +90,8 @@ one_side_is a f e n = by_test (same_number f (a.below e))
     (λ h. ap (λ b. differ b (same_number f (a.above e))) h ∙ sym (ap (λ b. either b (same_number f (a.above e))) h))
 
 -- the step at a point, or none
-step_at : (p : Point) (steps : List Step) → ((s : Step) × Has s steps × (p ≡ s.at)) ⊎ ((s : Step) → Has s steps → same_point p s.at ≡ false)
+step_at : (p : Point) (steps : List Step)
+    → ((s : Step) × Has s steps × (p ≡ s.at)) ⊎ ((s : Step) → Has s steps → same_point p s.at ≡ false)
 step_at p [] = inr (λ s k. absurd k)
 step_at p (t ∷ steps) = by_test (same_point p t.at)
     (λ h. inl (t, inl refl, same_is p t.at h))
@@ -96,17 +105,20 @@ module _ (w : ℤ) (m : ℕ) (E : ℕ → Edge) (steps : List Step) (a : Labels)
   r = replay w m E steps
 
   -- the labels match at all steps that are done
-  done_match : (k : ℕ) (done todo : List Step) → k ≤ length steps → IsCut steps k done todo → Each (MatchesAt a) done
+  done_match : (k : ℕ) (done todo : List Step) → k ≤ length steps → IsCut steps k done todo
+      → Each (MatchesAt a) done
   done_match k done todo h q = each_from (λ t. MatchesAt a t) done (λ t i.
       let j = q.early t i in let b = j.1 in
       subst (λ (u : Step). MatchesAt a u) j.2 (each_has (λ t. MatchesAt a t) steps (nth steps j.0) matches (has_nth steps j.0 (omega (arith, b, h)))))
 
-  numbered_step : (f k : ℕ) → k < length steps → parity (same_point (nth steps k).at) (ends_of (chosen (one_side a f) m E)) ≡ false
+  numbered_step : (f k : ℕ) → k < length steps
+      → parity (same_point (nth steps k).at) (ends_of (chosen (one_side a f) m E)) ≡ false
   numbered_step f k h =
       let q = cut_at steps k (omega (arith, h)) in
       at q.0 q.1 q.2
     where
-      at : (done todo : List Step) → IsCut steps k done todo → parity (same_point (nth steps k).at) (ends_of (chosen (one_side a f) m E)) ≡ false
+      at : (done todo : List Step) → IsCut steps k done todo
+          → parity (same_point (nth steps k).at) (ends_of (chosen (one_side a f) m E)) ≡ false
       at done [] q = let size = q.size in absurd (omega (arith, size, h))
       at done (s ∷ todo) q =
           let here : s ≡ nth steps k = q.rest 0 (omega arith) ∙ ap (nth steps) (omega arith) in
@@ -133,7 +145,8 @@ module _ (w : ℤ) (m : ℕ) (E : ℕ → Edge) (steps : List Step) (a : Labels)
   ]
 
   -- the edges over a cell with f on one side are odd in number exactly where the cell has the label f
-  pub face_over : (f : ℕ) (d : Sector) → (f ≡ 0 → ⊥) → IsSector r d → parity_over (one_side a f) d.index (r.list d.strip) ≡ same_number f (label_of a r d)
+  pub face_over : (f : ℕ) (d : Sector) → (f ≡ 0 → ⊥) → IsSector r d
+      → parity_over (one_side a f) d.index (r.list d.strip) ≡ same_number f (label_of a r d)
   face_over f d n h =
       let q = cut_at steps d.strip h.strip in
       let c = one_side a f in
@@ -144,7 +157,8 @@ module _ (w : ℤ) (m : ℕ) (E : ℕ → Edge) (steps : List Step) (a : Labels)
       (match_over a f 0 d.index (r.list d.strip) 0 all h.index ∙ border ∙ sym (differ_self (same_number f (label_of a r d))))
 
   -- a place off all edges is inside over the edges with f on one side exactly where its cell has the label f
-  pub polygon_inside : (f : ℕ) (z : Vector) → (f ≡ 0 → ⊥) → ((e : ℕ) → e < m → Before (E e).low (E e).high) → Place z → IsOffEdges r z
+  pub polygon_inside : (f : ℕ) (z : Vector) → (f ≡ 0 → ⊥)
+      → ((e : ℕ) → e < m → Before (E e).low (E e).high) → Place z → IsOffEdges r z
       → parity (crosses_vertical z) (chosen (one_side a f) m E) ≡ same_number f (label_of a r (sector r z))
   polygon_inside f z n edges P off =
       vertical_over w m E steps swept (one_side a f) z edges P off (face_even f)

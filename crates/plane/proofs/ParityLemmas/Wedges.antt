@@ -1,7 +1,8 @@
 -- For an edge that does not hold the place z, the counts along the vertical and along the sweep line differ as its ends lie in
 -- the wedge between them.
 -- Nine cases, by where the two ends lie.
-use Rattle.std.proofs.Common.{◌≡◌, zero, suc, Bool, true, false, ℤ, pos, negsuc, ◌+ℤ◌, ◌*ℤ◌, ◌-ℤ◌, ◌<ℤ◌, ◌≤ℤ◌, inl, inr, [], ◌∷◌, refl, arith, sym, subst}
+use Rattle.std.proofs.Common.{◌≡◌, zero, suc, Bool, true, false, ℤ, pos, negsuc, ◌+ℤ◌, ◌*ℤ◌, ◌-ℤ◌}
+use Rattle.std.proofs.Common.{◌<ℤ◌, ◌≤ℤ◌, inl, inr, [], ◌∷◌, refl, arith, sym, subst}
 use Rattle.std.proofs.lemmas.Int.{ints, by_lt_z}
 use Rattle.plane.specs.declared.kinds.Point.{Point}
 use Rattle.plane.specs.Forms.Vectors.{Vector, Place, point, Edge, side, sweep, rise, Before, On}
@@ -109,7 +110,8 @@ turned : (a b : ℤ) → a *ℤ (pos 0 -ℤ b) ≡ pos 0 -ℤ (a *ℤ b)
 turned a b = ring (times (at 0) (minus (num (pos 0)) (at 1))) (minus (num (pos 0)) (times (at 0) (at 1))) (vars (a ∷ b ∷ [])) refl
 
 -- s p + t q = d n in signs, for s above 0 and t at least 0
-above_zero : (s t p q d n : ℤ) → pos 0 <ℤ s → pos 0 ≤ℤ t → pos 0 <ℤ n → pos 0 <ℤ p → pos 0 ≤ℤ q → (s *ℤ p) +ℤ (t *ℤ q) ≡ d *ℤ n → pos 0 <ℤ d
+above_zero : (s t p q d n : ℤ) → pos 0 <ℤ s → pos 0 ≤ℤ t → pos 0 <ℤ n → pos 0 <ℤ p → pos 0 ≤ℤ q
+    → (s *ℤ p) +ℤ (t *ℤ q) ≡ d *ℤ n → pos 0 <ℤ d
 above_zero s t p q d n hs ht hn hp hq e =
     let a = product_positive s p hs hp in
     let b = product_nonnegative t q ht hq in
@@ -118,7 +120,8 @@ above_zero s t p q d n hs ht hn hp hq e =
     let f = negated d n in
     absurd (omega (arith, ints, a, b, c, e, f)))
 
-least_zero : (s t p q d n : ℤ) → pos 0 ≤ℤ s → pos 0 ≤ℤ t → pos 0 <ℤ n → pos 0 ≤ℤ p → pos 0 ≤ℤ q → (s *ℤ p) +ℤ (t *ℤ q) ≡ d *ℤ n → pos 0 ≤ℤ d
+least_zero : (s t p q d n : ℤ) → pos 0 ≤ℤ s → pos 0 ≤ℤ t → pos 0 <ℤ n → pos 0 ≤ℤ p → pos 0 ≤ℤ q
+    → (s *ℤ p) +ℤ (t *ℤ q) ≡ d *ℤ n → pos 0 ≤ℤ d
 least_zero s t p q d n hs ht hn hp hq e =
     let a = product_nonnegative s p hs hp in
     let b = product_nonnegative t q ht hq in
@@ -127,13 +130,15 @@ least_zero s t p q d n hs ht hn hp hq e =
     let f = negated d n in
     absurd (omega (arith, ints, a, b, c, e, f))) (λ l. l)
 
-most_zero : (s t p q d n : ℤ) → pos 0 ≤ℤ s → pos 0 ≤ℤ t → pos 0 <ℤ n → p ≤ℤ pos 0 → q ≤ℤ pos 0 → (s *ℤ p) +ℤ (t *ℤ q) ≡ d *ℤ n → d ≤ℤ pos 0
+most_zero : (s t p q d n : ℤ) → pos 0 ≤ℤ s → pos 0 ≤ℤ t → pos 0 <ℤ n → p ≤ℤ pos 0 → q ≤ℤ pos 0
+    → (s *ℤ p) +ℤ (t *ℤ q) ≡ d *ℤ n → d ≤ℤ pos 0
 most_zero s t p q d n hs ht hn hp hq e =
     let f = turned s p in let g = turned t q in let h = negated d n in
     let x = least_zero s t (pos 0 -ℤ p) (pos 0 -ℤ q) (pos 0 -ℤ d) n hs ht hn (omega (arith, ints, hp)) (omega (arith, ints, hq)) (omega (arith, ints, e, f, g, h)) in
     omega (arith, ints, x)
 
-below_zero : (s t p q d n : ℤ) → pos 0 <ℤ s → pos 0 ≤ℤ t → pos 0 <ℤ n → p <ℤ pos 0 → q ≤ℤ pos 0 → (s *ℤ p) +ℤ (t *ℤ q) ≡ d *ℤ n → d <ℤ pos 0
+below_zero : (s t p q d n : ℤ) → pos 0 <ℤ s → pos 0 ≤ℤ t → pos 0 <ℤ n → p <ℤ pos 0 → q ≤ℤ pos 0
+    → (s *ℤ p) +ℤ (t *ℤ q) ≡ d *ℤ n → d <ℤ pos 0
 below_zero s t p q d n hs ht hn hp hq e =
     let f = turned s p in let g = turned t q in let h = negated d n in
     let x = above_zero s t (pos 0 -ℤ p) (pos 0 -ℤ q) (pos 0 -ℤ d) n hs ht hn (omega (arith, ints, hp)) (omega (arith, ints, hq)) (omega (arith, ints, e, f, g, h)) in
@@ -144,7 +149,8 @@ low_left p q (inl l) = omega (arith, ints, l)
 low_left p q (inr k) = let e = k.0 in omega (arith, ints, e)
 
 -- all cases
-pub wedge_law : (w : ℤ) (z : Vector) (e : Edge) → Place z → Before e.low e.high → pos 0 <ℤ rise w e → (On w e z → ⊥)
+pub wedge_law : (w : ℤ) (z : Vector) (e : Edge) → Place z → Before e.low e.high → pos 0 <ℤ rise w e
+    → (On w e z → ⊥)
     → differ (crosses_vertical z e) (crosses_sweep w z e) ≡ differ (in_wedge w z e.low) (in_wedge w z e.high)
 unfolding is_right is_after is_under
 wedge_law w z e hz before up off =

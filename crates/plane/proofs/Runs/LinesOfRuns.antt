@@ -1,5 +1,6 @@
 -- A live edge of a run whose line goes through a point between two events goes through the point, and no other edge does.
-use Rattle.std.proofs.Common.{◌≡◌, ℕ, ◌<◌, pos, inl, inr, List, [], ◌∷◌, refl, arith, ap, sym, ◌∙◌, subst}
+use Rattle.std.proofs.Common.{◌≡◌, ℕ, ◌<◌, pos, inl, inr, List, [], ◌∷◌, refl, arith, ap, sym, ◌∙◌}
+use Rattle.std.proofs.Common.{subst}
 use Rattle.std.proofs.lemmas.Int.{ints}
 use Rattle.plane.specs.declared.kinds.Point.{Point}
 use Rattle.plane.specs.Runs.Positions.{turn_at}
@@ -41,7 +42,8 @@ module _ (m : ℕ) (E : ℕ → Edge) (done todo : List Step) (v : Point) (run :
     | inr a ↦ (let (s, i, q) = a in never s.at (subst (λ (x : Point). Before x s.at) q (each_has (λ x. Before v x.at) todo s after i)))
   ]
 
-  pub one_line : (e f : ℕ) → e < m → f < m → (e ≡ f → ⊥) → OnStraight (E e) (point v) → OnStraight (E f) (point v) → ⊥
+  pub one_line : (e f : ℕ) → e < m → f < m → (e ≡ f → ⊥) → OnStraight (E e) (point v)
+      → OnStraight (E f) (point v) → ⊥
   one_line e f l k n a b =
       let c = run_is_fine m E (onto done todo) run e f l k n (point v) (place_point v) a b in
       let same = one_point v c.at c.is in

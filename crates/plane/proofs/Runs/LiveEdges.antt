@@ -1,13 +1,18 @@
 -- Which edges are live, by the steps that are done.
 -- Two neighbours of a live list were in order at some event before, and are so at some event after.
-use Rattle.std.proofs.Common.{◌≡◌, ℕ, ◌<◌, pos, ◌<ℤ◌, ◌≤ℤ◌, inl, inr, List, [], ◌∷◌, ◌++◌, refl, arith, ap, sym, ◌∙◌, subst}
+use Rattle.std.proofs.Common.{◌≡◌, ℕ, ◌<◌, pos, ◌<ℤ◌, ◌≤ℤ◌, inl, inr, List, [], ◌∷◌, ◌++◌, refl}
+use Rattle.std.proofs.Common.{arith, ap, sym, ◌∙◌, subst}
 use Rattle.std.proofs.lemmas.Int.{ints}
 use Rattle.plane.specs.declared.kinds.Point.{Point}
 use Rattle.plane.specs.Forms.Vectors.{point, Edge, side}
 use Rattle.plane.specs.Lists.{Each, First, Neighbours, Joint, Has}
-use Rattle.plane.specs.Runs.Steps.{Step, before, after, Turns, GoodStep, IsReplay, AtSome, live, Replayed}
+use Rattle.plane.specs.Runs.Steps.{Step, before, after, Turns, GoodStep, IsReplay, AtSome, live}
+use Rattle.plane.specs.Runs.Steps.{Replayed}
 use Rattle.plane.proofs.Runs.MomentWords.{Began, Ends}
-use Rattle.plane.proofs.ListLemmas.Lists.{each_from, has_front, has_back, has_three, first_map, first_append, first_from, last_from, neighbours_map, neighbours_append, neighbours_front, neighbours_back, joint_from}
+use Rattle.plane.proofs.ListLemmas.Lists.{each_from, has_front, has_back, has_three, first_map}
+use Rattle.plane.proofs.ListLemmas.Lists.{first_append, first_from, last_from, neighbours_map}
+use Rattle.plane.proofs.ListLemmas.Lists.{neighbours_append, neighbours_front, neighbours_back}
+use Rattle.plane.proofs.ListLemmas.Lists.{joint_from}
 use Rattle.plane.proofs.Linear.Vectors.{side-low, side-high}
 
 -- ---- which edges are live
@@ -30,7 +35,8 @@ at_more : (p : Point) (s : Step) (steps : List Step) → AtSome p steps → AtSo
 at_more p s steps (t, h, e) = (t, inr h, e)
 
 -- a live edge is one of the edges, and its low end is the point of a step that is done
-pub live_started : (m : ℕ) (E : ℕ → Edge) (done : List Step) (e : ℕ) → Replayed m E done → Has e (live done) → (e < m) × AtSome (E e).low done
+pub live_started : (m : ℕ) (E : ℕ → Edge) (done : List Step) (e : ℕ) → Replayed m E done
+    → Has e (live done) → (e < m) × AtSome (E e).low done
 live_started m E [] e h k = absurd k
 live_started m E (s ∷ done) e h k =
     let old : Has e (before s) → (e < m) × AtSome (E e).low (s ∷ done) =
@@ -44,7 +50,8 @@ live_started m E (s ∷ done) e h k =
     ]
 
 -- the high end of a live edge is the point of a step that is to do
-pub live_ends : (m : ℕ) (E : ℕ → Edge) (now : List ℕ) (todo : List Step) (e : ℕ) → IsReplay m E now todo → Has e now → AtSome (E e).high todo
+pub live_ends : (m : ℕ) (E : ℕ → Edge) (now : List ℕ) (todo : List Step) (e : ℕ)
+    → IsReplay m E now todo → Has e now → AtSome (E e).high todo
 live_ends m E now [] e h k = absurd (subst (λ xs. Has e xs) h k)
 live_ends m E now (s ∷ todo) e h k = elim (has_three e s.below s.ending s.above (subst (λ xs. Has e xs) h.0 k)) [
   | inl b ↦ at_more (E e).high s todo (live_ends m E (after s) todo e h.2 (has_below s e b))
@@ -55,7 +62,8 @@ live_ends m E now (s ∷ todo) e h k = elim (has_three e s.below s.ending s.abov
 ]
 
 -- an edge whose low end is done and whose high end is not is live
-pub is_live : (m : ℕ) (E : ℕ → Edge) (done : List Step) (e : ℕ) → e < m → Replayed m E done → AtSome (E e).low done → (AtSome (E e).high done → ⊥) → Has e (live done)
+pub is_live : (m : ℕ) (E : ℕ → Edge) (done : List Step) (e : ℕ) → e < m → Replayed m E done
+    → AtSome (E e).low done → (AtSome (E e).high done → ⊥) → Has e (live done)
 is_live m E [] e l h (s, k, q) n = absurd k
 is_live m E (s ∷ done) e l h (t, inl k, q) n = has_starting s e (h.1.starting_all e l (q ∙ ap (λ (u : Step). u.at) k))
 is_live m E (s ∷ done) e l h (t, inr k, q) n =
@@ -69,20 +77,25 @@ is_live m E (s ∷ done) e l h (t, inr k, q) n =
     ]
 
 -- ---- how neighbours begin
-pub side_through_low : (E : ℕ → Edge) (e : ℕ) (p : Point) → (E e).low ≡ p → side (E e) (point p) ≡ pos 0
+pub side_through_low : (E : ℕ → Edge) (e : ℕ) (p : Point) → (E e).low ≡ p
+    → side (E e) (point p) ≡ pos 0
 side_through_low E e p h = subst (λ q. side (E e) (point q) ≡ pos 0) h (side-low (E e))
 
-pub side_through_high : (E : ℕ → Edge) (e : ℕ) (p : Point) → (E e).high ≡ p → side (E e) (point p) ≡ pos 0
+pub side_through_high : (E : ℕ → Edge) (e : ℕ) (p : Point) → (E e).high ≡ p
+    → side (E e) (point p) ≡ pos 0
 side_through_high E e p h = subst (λ q. side (E e) (point q) ≡ pos 0) h (side-high (E e))
 
-began_more : (E : ℕ → Edge) (s : Step) (done : List Step) (a b : ℕ) → Began E done a b → Began E (s ∷ done) a b
+began_more : (E : ℕ → Edge) (s : Step) (done : List Step) (a b : ℕ) → Began E done a b
+    → Began E (s ∷ done) a b
 began_more E s done a b h = record { step = h.step; passed = inr h.passed; lower = h.lower; upper = h.upper; apart = h.apart }
 
-began_here : (E : ℕ → Edge) (s : Step) (done : List Step) (a b : ℕ) → pos 0 ≤ℤ side (E a) (point s.at) → side (E b) (point s.at) ≤ℤ pos 0
+began_here : (E : ℕ → Edge) (s : Step) (done : List Step) (a b : ℕ)
+    → pos 0 ≤ℤ side (E a) (point s.at) → side (E b) (point s.at) ≤ℤ pos 0
     → side (E b) (point s.at) <ℤ side (E a) (point s.at) → Began E (s ∷ done) a b
 began_here E s done a b l u d = record { step = s; passed = inl refl; lower = l; upper = u; apart = inl d }
 
-began_together : (m : ℕ) (E : ℕ → Edge) (s : Step) (done : List Step) (a b : ℕ) → GoodStep m E s → Has a s.starting → Has b s.starting → Turns E a b → Began E (s ∷ done) a b
+began_together : (m : ℕ) (E : ℕ → Edge) (s : Step) (done : List Step) (a b : ℕ) → GoodStep m E s
+    → Has a s.starting → Has b s.starting → Turns E a b → Began E (s ∷ done) a b
 began_together m E s done a b g ha hb t =
     let ea = (g.starting_only a ha).1 in
     let eb = (g.starting_only b hb).1 in
@@ -90,7 +103,8 @@ began_together m E s done a b g ha hb t =
     let zb = side_through_low E b s.at eb in
     record { step = s; passed = inl refl; lower = omega (arith, ints, za); upper = omega (arith, ints, zb); apart = inr (ea, eb, t) }
 
-pub begins : (m : ℕ) (E : ℕ → Edge) (done : List Step) → Replayed m E done → Neighbours (Began E done) (live done)
+pub begins : (m : ℕ) (E : ℕ → Edge) (done : List Step) → Replayed m E done
+    → Neighbours (Began E done) (live done)
 begins m E [] h = tt
 begins m E (s ∷ done) h =
     let g = h.1 in
@@ -117,14 +131,17 @@ begins m E (s ∷ done) h =
     neighbours_append R s.below (s.starting ++ s.above) below lower (neighbours_append R s.starting s.above starting upper above)
 
 -- ---- how neighbours end
-ends_more : (E : ℕ → Edge) (s : Step) (todo : List Step) (a b : ℕ) → Ends E todo a b → Ends E (s ∷ todo) a b
+ends_more : (E : ℕ → Edge) (s : Step) (todo : List Step) (a b : ℕ) → Ends E todo a b
+    → Ends E (s ∷ todo) a b
 ends_more E s todo a b h = record { step = h.step; comes = inr h.comes; lower = h.lower; upper = h.upper; apart = h.apart }
 
-ends_here : (E : ℕ → Edge) (s : Step) (todo : List Step) (a b : ℕ) → pos 0 ≤ℤ side (E a) (point s.at) → side (E b) (point s.at) ≤ℤ pos 0
+ends_here : (E : ℕ → Edge) (s : Step) (todo : List Step) (a b : ℕ)
+    → pos 0 ≤ℤ side (E a) (point s.at) → side (E b) (point s.at) ≤ℤ pos 0
     → side (E b) (point s.at) <ℤ side (E a) (point s.at) → Ends E (s ∷ todo) a b
 ends_here E s todo a b l u d = record { step = s; comes = inl refl; lower = l; upper = u; apart = inl d }
 
-ends_together : (m : ℕ) (E : ℕ → Edge) (s : Step) (todo : List Step) (a b : ℕ) → GoodStep m E s → Has a s.ending → Has b s.ending → Ends E (s ∷ todo) a b
+ends_together : (m : ℕ) (E : ℕ → Edge) (s : Step) (todo : List Step) (a b : ℕ) → GoodStep m E s
+    → Has a s.ending → Has b s.ending → Ends E (s ∷ todo) a b
 ends_together m E s todo a b g ha hb =
     let ea = (g.ending_only a ha).1 in
     let eb = (g.ending_only b hb).1 in
@@ -132,11 +149,13 @@ ends_together m E s todo a b g ha hb =
     let zb = side_through_high E b s.at eb in
     record { step = s; comes = inl refl; lower = omega (arith, ints, za); upper = omega (arith, ints, zb); apart = inr (ea, eb) }
 
-all_neighbours : (R : ℕ → ℕ → Type 0) (xs : List ℕ) → ((a b : ℕ) → Has a xs → Has b xs → R a b) → Neighbours R xs
+all_neighbours : (R : ℕ → ℕ → Type 0) (xs : List ℕ) → ((a b : ℕ) → Has a xs → Has b xs → R a b)
+    → Neighbours R xs
 all_neighbours R [] f = tt
 all_neighbours R (x ∷ xs) f = (first_from (R x) xs (each_from (R x) xs (λ y k. f x y (inl refl) (inr k))), all_neighbours R xs (λ a b k l. f a b (inr k) (inr l)))
 
-pub ends : (m : ℕ) (E : ℕ → Edge) (now : List ℕ) (todo : List Step) → IsReplay m E now todo → Neighbours (Ends E todo) now
+pub ends : (m : ℕ) (E : ℕ → Edge) (now : List ℕ) (todo : List Step) → IsReplay m E now todo
+    → Neighbours (Ends E todo) now
 ends m E now [] h = subst (λ xs. Neighbours (Ends E []) xs) (sym h) tt
 ends m E now (s ∷ todo) h =
     let g = h.1 in

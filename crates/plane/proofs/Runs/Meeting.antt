@@ -1,9 +1,11 @@
 -- In a run, an event on an edge is an end of it, and edges meet only in common ends.
 -- No two edges are the same, and no live list repeats an edge.
-use Rattle.std.proofs.Common.{◌≡◌, ℕ, ◌<◌, ℤ, pos, ◌*ℤ◌, ◌-ℤ◌, ◌<ℤ◌, ◌≤ℤ◌, ◌⊎◌, inl, inr, List, [], ◌∷◌, refl, arith, ap, sym, ◌∙◌, subst}
+use Rattle.std.proofs.Common.{◌≡◌, ℕ, ◌<◌, ℤ, pos, ◌*ℤ◌, ◌-ℤ◌, ◌<ℤ◌, ◌≤ℤ◌, ◌⊎◌, inl, inr, List, []}
+use Rattle.std.proofs.Common.{◌∷◌, refl, arith, ap, sym, ◌∙◌, subst}
 use Rattle.std.proofs.lemmas.Int.{ints, by_lt_z}
 use Rattle.plane.specs.declared.kinds.Point.{Point}
-use Rattle.plane.specs.Forms.Vectors.{Vector, Place, point, Same, Edge, side, sweep, rise, lift, On, mix, foot}
+use Rattle.plane.specs.Forms.Vectors.{Vector, Place, point, Same, Edge, side, sweep, rise, lift, On}
+use Rattle.plane.specs.Forms.Vectors.{mix, foot}
 use Rattle.plane.specs.Lists.{Neighbours, Has, Once}
 use Rattle.plane.specs.Runs.Steps.{Step, after, AtSome, onto, live, WeighedRun, IsAt}
 use Rattle.plane.proofs.Runs.MomentWords.{Moment, Over}
@@ -15,11 +17,13 @@ use Rattle.plane.proofs.Linear.Vectors.{rise-is, side-mix, sweep-mix, side-low, 
 use Rattle.plane.proofs.Linear.Signs.{by_sign, foot-side, foot-sweep, foot-n, foot_place}
 use Rattle.plane.proofs.Runs.LiveEdges.{is_live, side_through_low, side_through_high}
 use Rattle.plane.proofs.Runs.Moments.{moment, scaled, locate}
-use Rattle.plane.proofs.Runs.Order.{live_rises, untouched_rises, untouched_order, event_sides, higher_side, lower_side, level_side}
+use Rattle.plane.proofs.Runs.Order.{live_rises, untouched_rises, untouched_order, event_sides}
+use Rattle.plane.proofs.Runs.Order.{higher_side, lower_side, level_side}
 use Rattle.plane.proofs.Runs.Places.{one_through, raised, inner_order}
 
 -- ---- an event on an edge is an end of it
-pub event_is_end : (w : ℤ) (m : ℕ) (E : ℕ → Edge) (done todo : List Step) (s : Step) (e : ℕ) → WeighedRun w m E (onto done (s ∷ todo)) → e < m → On w (E e) (point s.at) → IsEnd (E e) s.at
+pub event_is_end : (w : ℤ) (m : ℕ) (E : ℕ → Edge) (done todo : List Step) (s : Step) (e : ℕ)
+    → WeighedRun w m E (onto done (s ∷ todo)) → e < m → On w (E e) (point s.at) → IsEnd (E e) s.at
 event_is_end w m E done todo s e all l on =
     let h = moment w m E done (s ∷ todo) all in
     let i = moment w m E (s ∷ done) todo all in
@@ -48,12 +52,14 @@ event_is_end w m E done todo s e all l on =
       | inr k ↦ elim (split_at (E e).low s todo k) [ inl q ↦ inl q | inr later ↦ absurd (not_later later) ]
     ]
   where
-    split_at : (p : Point) (s : Step) (todo : List Step) → AtSome p (s ∷ todo) → (p ≡ s.at) ⊎ AtSome p todo
+    split_at : (p : Point) (s : Step) (todo : List Step) → AtSome p (s ∷ todo)
+        → (p ≡ s.at) ⊎ AtSome p todo
     split_at p s todo (t, inl k, q) = inl (q ∙ ap (λ (u : Step). u.at) k)
     split_at p s todo (t, inr k, q) = inr (t, k, q)
 
 -- ---- places of an edge at a moment
-pub low_done : (w : ℤ) (m : ℕ) (E : ℕ → Edge) (done todo : List Step) (z : Vector) (e : ℕ) → Moment w m E done todo → IsAt w done todo z → e < m → On w (E e) z → AtSome (E e).low done
+pub low_done : (w : ℤ) (m : ℕ) (E : ℕ → Edge) (done todo : List Step) (z : Vector) (e : ℕ)
+    → Moment w m E done todo → IsAt w done todo z → e < m → On w (E e) z → AtSome (E e).low done
 low_done w m E done todo z e h i l on = elim (h.ends e l).0 [
   | inl k ↦ k
   | inr later ↦ absurd (no later)
@@ -66,7 +72,8 @@ low_done w m E done todo z e h i l on = elim (h.ends e l).0 [
         omega (arith, ints, x, y)
 
 -- an edge with a place on the sweep line of a step, but not through its point, lies below or above the step
-pub untouched : (w : ℤ) (m : ℕ) (E : ℕ → Edge) (done todo : List Step) (s : Step) (z : Vector) (e : ℕ) → WeighedRun w m E (onto done (s ∷ todo)) → IsAt w (s ∷ done) todo z → Place z → e < m
+pub untouched : (w : ℤ) (m : ℕ) (E : ℕ → Edge) (done todo : List Step) (s : Step) (z : Vector) (e : ℕ)
+    → WeighedRun w m E (onto done (s ∷ todo)) → IsAt w (s ∷ done) todo z → Place z → e < m
     → sweep w z ≡ sweep w (point s.at) *ℤ z.n → On w (E e) z → (side (E e) (point s.at) ≡ pos 0 → ⊥) → Has e s.below ⊎ Has e s.above
 untouched w m E done todo s z e all i hz l h on off =
     let u = moment w m E done (s ∷ todo) all in
@@ -87,12 +94,14 @@ untouched w m E done todo s z e all i hz l h on off =
       ]
     ]
   where
-    earlier : (p : Point) (s : Step) (done : List Step) → (p ≡ s.at → ⊥) → AtSome p (s ∷ done) → AtSome p done
+    earlier : (p : Point) (s : Step) (done : List Step) → (p ≡ s.at → ⊥) → AtSome p (s ∷ done)
+        → AtSome p done
     earlier p s done n (t, inl k, q) = absurd (n (q ∙ ap (λ (u : Step). u.at) k))
     earlier p s done n (t, inr k, q) = (t, k, q)
 
 -- z is the place of a point on its sweep line that it does not lie above or below
-pub same_place : (w : ℤ) (z : Vector) (v : Point) → sweep w z ≡ sweep w (point v) *ℤ z.n → lift z (point v) ≡ pos 0 → Same z (point v)
+pub same_place : (w : ℤ) (z : Vector) (v : Point) → sweep w z ≡ sweep w (point v) *ℤ z.n
+    → lift z (point v) ≡ pos 0 → Same z (point v)
 unfolding sweep lift
 same_place w z v h level =
     let a : (pos 1 *ℤ z.x) ≡ z.n *ℤ v.x = omega (arith, ints, level) in
@@ -112,14 +121,16 @@ pub unscaled : (a b n : ℤ) → pos 0 <ℤ n → (a *ℤ n) ≤ℤ (b *ℤ n) �
 unscaled a b n h k = by_lt_z b a (λ (l : b <ℤ a). let x = scaled b a n h l in absurd (omega (arith, ints, x, k))) (λ l. l)
 
 -- ---- two edges with a common place have a common end there
-pub on_point : (w : ℤ) (e : Edge) (z : Vector) (v : Point) → Place z → sweep w z ≡ sweep w (point v) *ℤ z.n → lift z (point v) ≡ pos 0 → On w e z → On w e (point v)
+pub on_point : (w : ℤ) (e : Edge) (z : Vector) (v : Point) → Place z
+    → sweep w z ≡ sweep w (point v) *ℤ z.n → lift z (point v) ≡ pos 0 → On w e z → On w e (point v)
 on_point w e z v hz h level on =
     let line = on.line in let low = on.low in let high = on.high in
     let a = unscaled (sweep w (point e.low)) (sweep w (point v)) z.n hz (omega (arith, ints, low, h)) in
     let b = unscaled (sweep w (point v)) (sweep w (point e.high)) z.n hz (omega (arith, ints, high, h)) in
     record { line = factor_zero z.n (side e (point v)) hz (sym (level_side w e z v h level) ∙ line); low = omega (arith, ints, a); high = omega (arith, ints, b) }
 
-meet_at : (w : ℤ) (m : ℕ) (E : ℕ → Edge) (done todo : List Step) (z : Vector) (a b : ℕ) → WeighedRun w m E (onto done todo) → IsAt w done todo z → a < m → b < m → (a ≡ b → ⊥)
+meet_at : (w : ℤ) (m : ℕ) (E : ℕ → Edge) (done todo : List Step) (z : Vector) (a b : ℕ)
+    → WeighedRun w m E (onto done todo) → IsAt w done todo z → a < m → b < m → (a ≡ b → ⊥)
     → Place z → On w (E a) z → On w (E b) z → CommonEnd (E a) (E b) z
 meet_at w m E [] todo z a b all i la lb differ hz oa ob = absurd (nothing (low_done w m E [] todo z a (moment w m E [] todo all) i la oa))
   where
@@ -168,19 +179,22 @@ meet_at w m E (s ∷ done) todo z a b all i la lb differ hz oa ob =
     ] in
     absurd (differ (one_through E z a b s.above o.1 (is a la oa) (is b lb ob) oa.line ob.line))))
   where
-    at_most_last : (w : ℤ) (z : Vector) (s : Step) (done : List Step) (t : Step) → Place z → (sweep w (point s.at) *ℤ z.n) <ℤ sweep w z
+    at_most_last : (w : ℤ) (z : Vector) (s : Step) (done : List Step) (t : Step) → Place z
+        → (sweep w (point s.at) *ℤ z.n) <ℤ sweep w z
         → ((t : Step) → Has t done → sweep w (point t.at) <ℤ sweep w (point s.at)) → Has t (s ∷ done) → (sweep w (point t.at) *ℤ z.n) <ℤ sweep w z
     at_most_last w z s done t hz l f (inl q) = subst (λ (u : Step). (sweep w (point u.at) *ℤ z.n) <ℤ sweep w z) (sym q) l
     at_most_last w z s done t hz l f (inr k) = let x = scaled (sweep w (point t.at)) (sweep w (point s.at)) z.n hz (f t k) in omega (arith, ints, x, l)
 
-pub meet_in_ends : (w : ℤ) (m : ℕ) (E : ℕ → Edge) (steps : List Step) (z : Vector) (a b : ℕ) → WeighedRun w m E steps → a < m → b < m → (a ≡ b → ⊥)
+pub meet_in_ends : (w : ℤ) (m : ℕ) (E : ℕ → Edge) (steps : List Step) (z : Vector) (a b : ℕ)
+    → WeighedRun w m E steps → a < m → b < m → (a ≡ b → ⊥)
     → Place z → On w (E a) z → On w (E b) z → CommonEnd (E a) (E b) z
 meet_in_ends w m E steps z a b all la lb differ hz oa ob =
     let (done, todo, same, i) = locate w z [] steps hz all.rising tt in
     meet_at w m E done todo z a b (subst (λ ss. WeighedRun w m E ss) same all) i la lb differ hz oa ob
 
 -- ---- two edges have at most one common end
-pub same_sweep : (w : ℤ) (z : Vector) (v : Point) → Same z (point v) → sweep w z ≡ sweep w (point v) *ℤ z.n
+pub same_sweep : (w : ℤ) (z : Vector) (v : Point) → Same z (point v)
+    → sweep w z ≡ sweep w (point v) *ℤ z.n
 unfolding sweep
 same_sweep w z v same =
     let x = same.x in let y = same.y in
@@ -202,7 +216,8 @@ middle_on w e h =
     let a = side-low e in let b = side-high e in
     record { line = omega (arith, ints, l, a, b); low = omega (arith, ints, h, r, s); high = omega (arith, ints, h, r, s) }
 
-pub ends_differ : (w : ℤ) (m : ℕ) (E : ℕ → Edge) (steps : List Step) (a b : ℕ) → WeighedRun w m E steps → a < m → b < m → (a ≡ b → ⊥) → E a ≡ E b → ⊥
+pub ends_differ : (w : ℤ) (m : ℕ) (E : ℕ → Edge) (steps : List Step) (a b : ℕ)
+    → WeighedRun w m E steps → a < m → b < m → (a ≡ b → ⊥) → E a ≡ E b → ⊥
 ends_differ w m E steps a b all la lb differ same =
     let h = all.rises a la in
     let r = rise-is w (E a) in
@@ -217,7 +232,9 @@ ends_differ w m E steps a b all la lb differ same =
     ]
 
 -- ---- no live list repeats an edge
-once_from : (E : ℕ → Edge) (f : ℕ → Vector) (xs : List ℕ) → ((x : ℕ) → Has x xs → side (E x) (f x) ≡ pos 0) → ((x : ℕ) → Has x xs → Neighbours (Over E (f x)) xs) → Once xs
+once_from : (E : ℕ → Edge) (f : ℕ → Vector) (xs : List ℕ)
+    → ((x : ℕ) → Has x xs → side (E x) (f x) ≡ pos 0)
+    → ((x : ℕ) → Has x xs → Neighbours (Over E (f x)) xs) → Once xs
 once_from E f [] zero order = tt
 once_from E f (x ∷ xs) zero order =
     let z : side (E x) (f x) ≡ pos 0 = zero x (inl refl) in (
@@ -225,16 +242,22 @@ once_from E f (x ∷ xs) zero order =
       once_from E f xs (λ y k. zero y (inr k)) (λ y k. (order y (inr k)).1),
     )
 
-most : (w : ℤ) (s : Step) (done : List Step) (u : Step) → ((v : Step) → Has v done → sweep w (point v.at) <ℤ sweep w (point s.at)) → Has u (s ∷ done) → sweep w (point u.at) ≤ℤ sweep w (point s.at)
+most : (w : ℤ) (s : Step) (done : List Step) (u : Step)
+    → ((v : Step) → Has v done → sweep w (point v.at) <ℤ sweep w (point s.at)) → Has u (s ∷ done)
+    → sweep w (point u.at) ≤ℤ sweep w (point s.at)
 most w s done u f (inl q) = subst (λ (v : Step). sweep w (point v.at) ≤ℤ sweep w (point s.at)) (sym q) (omega (arith, ints))
 most w s done u f (inr k) = let l = f u k in omega (arith, ints, l)
 
-least : (w : ℤ) (t : Step) (todo : List Step) (u : Step) → ((v : Step) → Has v todo → sweep w (point t.at) <ℤ sweep w (point v.at)) → Has u (t ∷ todo) → sweep w (point t.at) ≤ℤ sweep w (point u.at)
+least : (w : ℤ) (t : Step) (todo : List Step) (u : Step)
+    → ((v : Step) → Has v todo → sweep w (point t.at) <ℤ sweep w (point v.at)) → Has u (t ∷ todo)
+    → sweep w (point t.at) ≤ℤ sweep w (point u.at)
 least w t todo u f (inl q) = subst (λ (v : Step). sweep w (point t.at) ≤ℤ sweep w (point v.at)) (sym q) (omega (arith, ints))
 least w t todo u f (inr k) = let l = f u k in omega (arith, ints, l)
 
 -- a foot of an edge is on the sweep line that it was taken for
-foot_after : (w : ℤ) (e : Edge) (z : Vector) (v : Point) → pos 0 <ℤ rise w e → (sweep w (point v) *ℤ z.n) <ℤ sweep w z → (sweep w (point v) *ℤ (foot w e z).n) <ℤ sweep w (foot w e z)
+foot_after : (w : ℤ) (e : Edge) (z : Vector) (v : Point) → pos 0 <ℤ rise w e
+    → (sweep w (point v) *ℤ z.n) <ℤ sweep w z
+    → (sweep w (point v) *ℤ (foot w e z).n) <ℤ sweep w (foot w e z)
 foot_after w e z v h l = rw (foot-sweep w e z, foot-n w e z) (weighted (rise w e) (sweep w (point v)) z.n (sweep w z) h l)
   where
     weighted : (r a n b : ℤ) → pos 0 <ℤ r → (a *ℤ n) <ℤ b → (a *ℤ (r *ℤ n)) <ℤ (r *ℤ b)
@@ -243,7 +266,9 @@ foot_after w e z v h l = rw (foot-sweep w e z, foot-n w e z) (weighted (rise w e
         let e = ring (times (at 0) (minus (at 3) (times (at 1) (at 2)))) (minus (times (at 0) (at 3)) (times (at 1) (times (at 0) (at 2)))) (vars (r ∷ a ∷ n ∷ b ∷ [])) refl in
         omega (arith, ints, p, e)
 
-foot_before : (w : ℤ) (e : Edge) (z : Vector) (v : Point) → pos 0 <ℤ rise w e → sweep w z <ℤ (sweep w (point v) *ℤ z.n) → sweep w (foot w e z) <ℤ (sweep w (point v) *ℤ (foot w e z).n)
+foot_before : (w : ℤ) (e : Edge) (z : Vector) (v : Point) → pos 0 <ℤ rise w e
+    → sweep w z <ℤ (sweep w (point v) *ℤ z.n)
+    → sweep w (foot w e z) <ℤ (sweep w (point v) *ℤ (foot w e z).n)
 foot_before w e z v h l = rw (foot-sweep w e z, foot-n w e z) (weighted (rise w e) (sweep w (point v)) z.n (sweep w z) h l)
   where
     weighted : (r a n b : ℤ) → pos 0 <ℤ r → b <ℤ (a *ℤ n) → (r *ℤ b) <ℤ (a *ℤ (r *ℤ n))
@@ -252,7 +277,8 @@ foot_before w e z v h l = rw (foot-sweep w e z, foot-n w e z) (weighted (rise w 
         let e = ring (times (at 0) (minus (times (at 1) (at 2)) (at 3))) (minus (times (at 1) (times (at 0) (at 2))) (times (at 0) (at 3))) (vars (r ∷ a ∷ n ∷ b ∷ [])) refl in
         omega (arith, ints, p, e)
 
-pub live_once : (w : ℤ) (m : ℕ) (E : ℕ → Edge) (done todo : List Step) → WeighedRun w m E (onto done todo) → Once (live done)
+pub live_once : (w : ℤ) (m : ℕ) (E : ℕ → Edge) (done todo : List Step)
+    → WeighedRun w m E (onto done todo) → Once (live done)
 live_once w m E [] todo all = tt
 live_once w m E (s ∷ done) [] all =
     let h = moment w m E (s ∷ done) [] all in

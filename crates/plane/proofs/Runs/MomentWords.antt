@@ -9,7 +9,8 @@ pub record Moment (w : ℤ) (m : ℕ) (E : ℕ → Edge) (done todo : List Step)
   pub done_good : Replayed m E done
   pub todo_good : IsReplay m E (live done) todo
   pub cut : (s t : Step) → Has s done → Has t todo → sweep w (point s.at) <ℤ sweep w (point t.at)
-  pub ends : (e : ℕ) → e < m → (AtSome (E e).low done ⊎ AtSome (E e).low todo) × (AtSome (E e).high done ⊎ AtSome (E e).high todo)
+  pub ends : (e : ℕ) → e < m
+      → (AtSome (E e).low done ⊎ AtSome (E e).low todo) × (AtSome (E e).high done ⊎ AtSome (E e).high todo)
   pub rises : (e : ℕ) → e < m → pos 0 <ℤ rise w (E e)
 
 -- a came to lie below b at some step that is done: a is not under its point and b not over it, and not both go through it,

@@ -1,6 +1,7 @@
 -- The laws of a complete run with no weight in sight: how its edges meet, what its events are, which edges are live, and how a
 -- point divides a live list. Each takes a weight of the run, and of the point that it speaks of.
-use Rattle.std.proofs.Common.{◌≡◌, ℕ, ◌<◌, ◌⊎◌, ℤ, pos, ◌*ℤ◌, ◌<ℤ◌, ◌≤ℤ◌, List, [], ◌∷◌, length, inl, inr, refl, arith, ap, sym, subst}
+use Rattle.std.proofs.Common.{◌≡◌, ℕ, ◌<◌, ◌⊎◌, ℤ, pos, ◌*ℤ◌, ◌<ℤ◌, ◌≤ℤ◌, List, [], ◌∷◌, length}
+use Rattle.std.proofs.Common.{inl, inr, refl, arith, ap, sym, subst}
 use Rattle.std.proofs.lemmas.Int.{ints}
 use Rattle.plane.specs.declared.kinds.Point.{Point}
 use Rattle.plane.specs.Runs.Positions.{turn_at}
@@ -36,7 +37,8 @@ module _ (m : ℕ) (E : ℕ → Edge) (steps : List Step) (run : Run m E steps) 
   pub run_differ : (a b : ℕ) → a < m → b < m → (a ≡ b → ⊥) → E a ≡ E b → ⊥
   run_differ a b la lb n = let u = run_weight m E steps [] run in ends_differ u.weight m E steps a b u.swept la lb n
 
-pub curves_apart : (d : Plan) (E : ℕ → Edge) (steps : List Step) → IsRunOf d E steps → (i j : ℕ) → i < length d.curves → j < length d.curves → (i ≡ j → ⊥) → curves.Apart (curve d i) (curve d j)
+pub curves_apart : (d : Plan) (E : ℕ → Edge) (steps : List Step) → IsRunOf d E steps → (i j : ℕ)
+    → i < length d.curves → j < length d.curves → (i ≡ j → ⊥) → curves.Apart (curve d i) (curve d j)
 curves_apart d E steps on i j li lj n =
     let edges = on.edges in
     (straights_apart_is (curve d i) (curve d j) (edges.straight i li) (edges.straight j lj)).1 (λ z Z a b.
@@ -45,7 +47,8 @@ curves_apart d E steps on i j li lj n =
 
 -- ---- events
 -- a list of steps cut at one of them
-split_at : (s : Step) (done steps : List Step) → Has s steps → (d : List Step) × (t : List Step) × (onto done steps ≡ onto d (s ∷ t))
+split_at : (s : Step) (done steps : List Step) → Has s steps
+    → (d : List Step) × (t : List Step) × (onto done steps ≡ onto d (s ∷ t))
 split_at s done [] h = absurd h
 split_at s done (x ∷ steps) (inl e) = (done, steps, ap (λ (y : Step). onto done (y ∷ steps)) (sym e))
 split_at s done (x ∷ steps) (inr h) = split_at s (x ∷ done) steps h
@@ -81,13 +84,15 @@ module _ (m : ℕ) (E : ℕ → Edge) (done todo : List Step) (run : Run m E (on
   heavy : (w : ℤ) × WeighedRun w m E (onto done todo)
   heavy = let u = run_weight m E (onto done todo) [] run in (u.weight, u.swept)
 
-  pub run_live : (e : ℕ) → e < m → AtSome (E e).low done → AtSome (E e).high todo → Has e (live done)
+  pub run_live : (e : ℕ) → e < m → AtSome (E e).low done → AtSome (E e).high todo
+      → Has e (live done)
   run_live e l low high =
       let (w, all) = heavy in
       let i = moment w m E done todo all in
       is_live m E done e l i.done_good low (not_done w m E done todo (E e).high i high)
 
-  pub run_started : (e : ℕ) → Has e (live done) → (e < m) × (AtSome (E e).low done × AtSome (E e).high todo)
+  pub run_started : (e : ℕ) → Has e (live done)
+      → (e < m) × (AtSome (E e).low done × AtSome (E e).high todo)
   run_started e k =
       let (w, all) = heavy in
       let i = moment w m E done todo all in
@@ -98,7 +103,8 @@ module _ (m : ℕ) (E : ℕ → Edge) (done todo : List Step) (run : Run m E (on
   run_once = let (w, all) = heavy in live_once w m E done todo all
 
   -- a point on no edge, after the events that are done and before those to come, divides the live list
-  pub point_divides : (v : Point) → Each (λ s. Before s.at v) done → Each (λ s. Before v s.at) todo → ((e : ℕ) → e < m → OnStraight (E e) (point v) → ⊥) → Divides E (point v) (live done)
+  pub point_divides : (v : Point) → Each (λ s. Before s.at v) done → Each (λ s. Before v s.at) todo
+      → ((e : ℕ) → e < m → OnStraight (E e) (point v) → ⊥) → Divides E (point v) (live done)
   point_divides v before after off =
       let u = run_weight m E (onto done todo) (v ∷ []) run in
       let w = u.weight in

@@ -1,6 +1,7 @@
 -- A run has a weight, which may be a weight of further points too.
 -- The laws on runs choose it, for the events and for the points that they speak of.
-use Rattle.std.proofs.Common.{ℕ, zero, suc, ◌<◌, List, [], ◌∷◌, ◌++◌, ℤ, pos, ◌<ℤ◌, refl, arith, ap, inl, inr}
+use Rattle.std.proofs.Common.{ℕ, zero, suc, ◌<◌, List, [], ◌∷◌, ◌++◌, ℤ, pos, ◌<ℤ◌, refl, arith, ap}
+use Rattle.std.proofs.Common.{inl, inr}
 use Rattle.plane.specs.declared.kinds.Point.{Point}
 use Rattle.plane.specs.Lists.{Each, Has}
 use Rattle.plane.specs.Forms.Vectors.{Edge}
@@ -27,7 +28,8 @@ abbrev pub events_of : List Step → List Point
 events_of [] = []
 events_of (s ∷ steps) = s.at ∷ events_of steps
 
-pub events_each : (steps : List Step) (more : List Point) → Each (λ s. Has s.at (events_of steps ++ more)) steps
+pub events_each : (steps : List Step) (more : List Point)
+    → Each (λ s. Has s.at (events_of steps ++ more)) steps
 events_each [] more = tt
 events_each (s ∷ steps) more = (inl refl, each_map (λ t. Has t.at (events_of steps ++ more)) (λ t. Has t.at (events_of (s ∷ steps) ++ more)) steps (λ t h. inr h) (events_each steps more))
 
@@ -41,7 +43,8 @@ pub record RunWeight (m : ℕ) (E : ℕ → Edge) (steps : List Step) (more : Li
   pub known : (p : Point) → Has p more → Has p points
   pub swept : WeighedRun weight m E steps
 
-pub run_weight : (m : ℕ) (E : ℕ → Edge) (steps : List Step) (more : List Point) → Run m E steps → RunWeight m E steps more
+pub run_weight : (m : ℕ) (E : ℕ → Edge) (steps : List Step) (more : List Point) → Run m E steps
+    → RunWeight m E steps more
 run_weight m E steps more run =
     let pts = events_of steps ++ more in
     let w = some_weight pts in

@@ -25,10 +25,13 @@ pub record IsRun (r : Replay) : Type 0 where
   pub first : r.list 0 ≡ []
   pub before : (k : ℕ) → k < r.steps → r.list k ≡ before (r.step k)
   pub after : (k : ℕ) → k < r.steps → r.list (suc k) ≡ after (r.step k)
-  pub ending : (k : ℕ) → k < r.steps → (e : ℕ) → Has e (r.step k).ending → (r.edge e).high ≡ (r.step k).at
-  pub starting : (k : ℕ) → k < r.steps → (e : ℕ) → Has e (r.step k).starting → (r.edge e).low ≡ (r.step k).at
+  pub ending : (k : ℕ) → k < r.steps → (e : ℕ) → Has e (r.step k).ending
+      → (r.edge e).high ≡ (r.step k).at
+  pub starting : (k : ℕ) → k < r.steps → (e : ℕ) → Has e (r.step k).starting
+      → (r.edge e).low ≡ (r.step k).at
   -- each event is an end of an edge
-  pub met : (k : ℕ) → k < r.steps → (e : ℕ) × (e < r.edges) × (((r.edge e).low ≡ (r.step k).at) ⊎ ((r.edge e).high ≡ (r.step k).at))
+  pub met : (k : ℕ) → k < r.steps
+      → (e : ℕ) × (e < r.edges) × (((r.edge e).low ≡ (r.step k).at) ⊎ ((r.edge e).high ≡ (r.step k).at))
   -- each edge's ends are events
   pub begins : (e : ℕ) → e < r.edges → (j : ℕ) × (j < r.steps) × ((r.step j).at ≡ (r.edge e).low)
   pub ends : (e : ℕ) → e < r.edges → (j : ℕ) × (j < r.steps) × ((r.step j).at ≡ (r.edge e).high)
@@ -40,15 +43,22 @@ pub record IsRun (r : Replay) : Type 0 where
 pub record IsLawful (r : Replay) : Type 0 where
   -- which edges are live
   pub live : (k e : ℕ) → k ≤ r.steps → Has e (r.list k) → e < r.edges
-  pub begun : (k e : ℕ) → k ≤ r.steps → Has e (r.list k) → (j : ℕ) × (j < k) × ((r.step j).at ≡ (r.edge e).low)
-  pub open_still : (k e : ℕ) → k ≤ r.steps → Has e (r.list k) → (j : ℕ) × (k ≤ j) × (j < r.steps) × ((r.step j).at ≡ (r.edge e).high)
-  pub alive : (k e i j : ℕ) → e < r.edges → i < k → (r.step i).at ≡ (r.edge e).low → k ≤ j → j < r.steps → (r.step j).at ≡ (r.edge e).high → Has e (r.list k)
+  pub begun : (k e : ℕ) → k ≤ r.steps → Has e (r.list k)
+      → (j : ℕ) × (j < k) × ((r.step j).at ≡ (r.edge e).low)
+  pub open_still : (k e : ℕ) → k ≤ r.steps → Has e (r.list k)
+      → (j : ℕ) × (k ≤ j) × (j < r.steps) × ((r.step j).at ≡ (r.edge e).high)
+  pub alive : (k e i j : ℕ) → e < r.edges → i < k → (r.step i).at ≡ (r.edge e).low → k ≤ j
+      → j < r.steps → (r.step j).at ≡ (r.edge e).high → Has e (r.list k)
   -- neighbours of a live list are in strict order
-  pub ordered : (k : ℕ) (z : Vector) → k ≤ r.steps → Place z → IsBetweenEvents r k z → IsOrdered r z (r.list k)
+  pub ordered : (k : ℕ) (z : Vector) → k ≤ r.steps → Place z → IsBetweenEvents r k z
+      → IsOrdered r z (r.list k)
   pub ordered_below : (k : ℕ) → k < r.steps → IsOrdered r (point (r.step k).at) (r.step k).below
   pub ordered_above : (k : ℕ) → k < r.steps → IsOrdered r (point (r.step k).at) (r.step k).above
   -- at an event the edges below it are strictly below, those above strictly above
-  pub under : (k : ℕ) → k < r.steps → (e : ℕ) → Has e (r.step k).below → pos 0 <ℤ side (r.edge e) (point (r.step k).at)
-  pub over : (k : ℕ) → k < r.steps → (e : ℕ) → Has e (r.step k).above → side (r.edge e) (point (r.step k).at) <ℤ pos 0
+  pub under : (k : ℕ) → k < r.steps → (e : ℕ) → Has e (r.step k).below
+      → pos 0 <ℤ side (r.edge e) (point (r.step k).at)
+  pub over : (k : ℕ) → k < r.steps → (e : ℕ) → Has e (r.step k).above
+      → side (r.edge e) (point (r.step k).at) <ℤ pos 0
   -- a place off the edges divides the live list of its strip
-  pub divided : (k : ℕ) (z : Vector) → Place z → IsOffEdges r z → IsStrip r k z → Divides r.edge z (r.list k)
+  pub divided : (k : ℕ) (z : Vector) → Place z → IsOffEdges r z → IsStrip r k z
+      → Divides r.edge z (r.list k)

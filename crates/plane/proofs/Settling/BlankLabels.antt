@@ -1,6 +1,7 @@
 -- A run is settled exactly where its cells pair: half-edges on both sides of a cell face one tube, or none. Then labels that tell the
 -- tubes and nothing else meet a certificate's rules.
-use Rattle.std.proofs.Common.{◌≡◌, ℕ, zero, suc, ◌<◌, ◌≤◌, List, [], length, ℤ, refl, arith, ap, sym, ◌∙◌, subst}
+use Rattle.std.proofs.Common.{◌≡◌, ℕ, zero, suc, ◌<◌, ◌≤◌, List, [], length, ℤ, refl, arith, ap}
+use Rattle.std.proofs.Common.{sym, ◌∙◌, subst}
 use Rattle.plane.specs.Lists.{Has}
 use Rattle.plane.specs.Forms.Vectors.{Edge}
 use Rattle.plane.specs.Rule.Plans.{Plan, curve, IsHalfArc}
@@ -32,7 +33,8 @@ use Rattle.plane.proofs.Settling.RunFaces.{mark_is, tube_arc, arc_part, has_half
 use Rattle.plane.proofs.Settling.LabelsSettle.{labels_settle}
 
 -- two numbers are equal where each is the other as far as it is above 0
-both_ways : (a b : ℕ) → ((i : ℕ) → a ≡ suc i → b ≡ suc i) → ((i : ℕ) → b ≡ suc i → a ≡ suc i) → a ≡ b
+both_ways : (a b : ℕ) → ((i : ℕ) → a ≡ suc i → b ≡ suc i) → ((i : ℕ) → b ≡ suc i → a ≡ suc i)
+    → a ≡ b
 both_ways zero zero f g = refl
 both_ways (suc a) b f g = sym (f a refl)
 both_ways zero (suc b) f g = g b refl
@@ -57,12 +59,14 @@ module _ (d : Plan) (bays : ℕ → List Bay) (m : ℕ) (E : ℕ → Edge) (step
       let q = faced_is d bays E h i e in
       subst (λ (j : ℕ). IsHalfArc d j) q.curve (tube_arc d bays m E steps is wide (edge_of h) k q.part)
 
-  faced_has : (h : Half) (i : ℕ) (k : edge_of h < m) (e : faced d bays E h ≡ suc i) → Has h (l.tube i).halves
+  faced_has : (h : Half) (i : ℕ) (k : edge_of h < m) (e : faced d bays E h ≡ suc i)
+      → Has h (l.tube i).halves
   faced_has h i k e =
       let q = faced_is d bays E h i e in
       subst (λ (g : Half). Has g (l.tube i).halves) (sym q.is) (has_half d bays m E steps is wide i (faced_arc h i k e) (edge_of h) k q.curve).0
 
-  has_faced : (h : Half) (i : ℕ) → IsHalfArc d i → Has h (l.tube i).halves → faced d bays E h ≡ suc i
+  has_faced : (h : Half) (i : ℕ) → IsHalfArc d i → Has h (l.tube i).halves
+      → faced d bays E h ≡ suc i
   has_faced h i a n =
       let c = half_curve d bays m E steps (half_within d bays E) is (faces d bays m E steps is) i a.there a.kind h n in
       let k = (edges.tubes i a).fits h n in
@@ -81,7 +85,8 @@ module _ (d : Plan) (bays : ℕ → List Bay) (m : ℕ) (E : ℕ → Edge) (step
       whole : IsWhole r
       whole = swept_whole w m E steps swept
 
-      across_faced : (g h : Half) → Across r g h → (i : ℕ) → faced d bays E g ≡ suc i → faced d bays E h ≡ suc i
+      across_faced : (g h : Half) → Across r g h → (i : ℕ) → faced d bays E g ≡ suc i
+          → faced d bays E h ≡ suc i
       across_faced g h a i e =
           let kg = beside_fits r whole.run whole.law g a.0 a.1 a.2 in
           let kh = beside_fits r whole.run whole.law h a.0 a.1 a.3 in
@@ -131,7 +136,8 @@ module _ (d : Plan) (bays : ℕ → List Bay) (m : ℕ) (E : ℕ → Edge) (step
     }
 
   -- S1
-  pub blank_are_labels : (v : ℤ) → IsSettledRun d bays m E → AreTubeLabels d bays (replay v m E steps) (blank_labels d bays E) (half_within d bays E) (λ i. 0) (λ i. 0)
+  pub blank_are_labels : (v : ℤ) → IsSettledRun d bays m E
+      → AreTubeLabels d bays (replay v m E steps) (blank_labels d bays E) (half_within d bays E) (λ i. 0) (λ i. 0)
   blank_are_labels v settles =
       let u = run_weight m E steps [] is.run in
       labels_to u.weight v d bays m E steps (blank_labels d bays E) (half_within d bays E) (λ i. 0) (λ i. 0) (labels u.weight u.swept (cells_paired settles u.weight))
@@ -144,7 +150,8 @@ module _ (d : Plan) (bays : ℕ → List Bay) (m : ℕ) (E : ℕ → Edge) (step
       labels_settle d bays m E steps is wide u.weight u.swept (blank_labels d bays E) (half_within d bays E) (λ i. 0) (λ i. 0) (labels u.weight u.swept pair)
 
   -- S3
-  pub settled_apart : IsSettledRun d bays m E → (i j : ℕ) → i < length d.curves → j < length d.curves → (i ≡ j → ⊥) → Apart (curve d i) (curve d j)
+  pub settled_apart : IsSettledRun d bays m E → (i j : ℕ) → i < length d.curves
+      → j < length d.curves → (i ≡ j → ⊥) → Apart (curve d i) (curve d j)
   settled_apart settles =
       let u = run_weight m E steps [] is.run in
       curves_apart u.weight d bays m E steps (blank_labels d bays E) (half_within d bays E) (λ i. 0) (λ i. 0) is (blank_are_labels u.weight settles)

@@ -1,5 +1,6 @@
 -- The edges of a drawing and its tubes, in the words of `EdgesAndTubes`: the ends of a half arc, and which half-edges are a tube's.
-use Rattle.std.proofs.Common.{◌≡◌, ℕ, ◌<◌, ◌⊎◌, inl, inr, List, [], ◌∷◌, length, ap, sym, ◌∙◌, subst}
+use Rattle.std.proofs.Common.{◌≡◌, ℕ, ◌<◌, ◌⊎◌, inl, inr, List, [], ◌∷◌, length, ap, sym, ◌∙◌}
+use Rattle.std.proofs.Common.{subst}
 use Rattle.plane.specs.declared.kinds.Point.{Point}
 use Rattle.plane.specs.declared.kinds.Curve.{Curve}
 use Rattle.plane.specs.Lists.{Has, Last}
@@ -29,7 +30,8 @@ pub tip_is : (b : Bay) (bs : List Bay) (e : Point) → Last (λ d. d.inner ≡ e
 tip_is b [] e h = h
 tip_is b (c ∷ bs) e h = tip_is c bs e h
 
-pub arc_ends : (m : ℕ) (E : ℕ → Edge) (c : Curve) (t : DrawnTube) → IsTubeOf m E c t → (p : Point) → (p ≡ t.arc.from) ⊎ (p ≡ tip t.bay t.bays) → IsEndOf c p
+pub arc_ends : (m : ℕ) (E : ℕ → Edge) (c : Curve) (t : DrawnTube) → IsTubeOf m E c t → (p : Point)
+    → (p ≡ t.arc.from) ⊎ (p ≡ tip t.bay t.bays) → IsEndOf c p
 arc_ends m E c t is p h =
     let e = tip_is t.bay t.bays t.arc.to is.tube.ends in
     one is.is (elim h [ inl x ↦ inl x | inr x ↦ inr (x ∙ e) ])
@@ -40,7 +42,8 @@ arc_ends m E c t is p h =
     one (inr e) (inl x) = inr (sym (x ∙ ap (λ (h : HalfArc). h.from) e))
     one (inr e) (inr x) = inl (sym (x ∙ ap (λ (h : HalfArc). h.to) e))
 
-pub ends_arc : (m : ℕ) (E : ℕ → Edge) (c : Curve) (t : DrawnTube) → IsTubeOf m E c t → (p : Point) → IsEndOf c p → (p ≡ t.arc.from) ⊎ (p ≡ tip t.bay t.bays)
+pub ends_arc : (m : ℕ) (E : ℕ → Edge) (c : Curve) (t : DrawnTube) → IsTubeOf m E c t → (p : Point)
+    → IsEndOf c p → (p ≡ t.arc.from) ⊎ (p ≡ tip t.bay t.bays)
 ends_arc m E c t is p h =
     let e = tip_is t.bay t.bays t.arc.to is.tube.ends in
     elim (one is.is h) [ inl x ↦ inl x | inr x ↦ inr (x ∙ sym e) ]
@@ -68,19 +71,23 @@ decide_half (under a) (over b) = inr (λ e. not_under (under a) b e tt)
 decide_half (over a) (under b) = inr (λ e. not_under (under b) a (sym e) tt)
 
 -- a tube's edge by its curve
-pub of_tube : (d : Plan) (l : EdgeList) → IsEdgeList d l → (i : ℕ) → IsHalfArc d i → (e : ℕ) → e < l.edges → l.owner e ≡ i → (h : Half) × Has h (l.tube i).halves × (edge_of h ≡ e)
+pub of_tube : (d : Plan) (l : EdgeList) → IsEdgeList d l → (i : ℕ) → IsHalfArc d i → (e : ℕ)
+    → e < l.edges → l.owner e ≡ i → (h : Half) × Has h (l.tube i).halves × (edge_of h ≡ e)
 of_tube d l is i h e f o =
     let m = is.tube_only e f (subst (λ (j : ℕ). IsHalfArc d j) (sym o) h) in
     (m.0, subst (λ (j : ℕ). Has m.0 (l.tube j).halves) o m.1, m.2)
 
 -- ---- a place between the ends of a half arc is on each straight with the same ends
-pub moved : (a b p q : Point) (z : Vector) → a ≡ p → b ≡ q → Between z (point a) (point b) → Between z (point p) (point q)
+pub moved : (a b p q : Point) (z : Vector) → a ≡ p → b ≡ q → Between z (point a) (point b)
+    → Between z (point p) (point q)
 moved a b p q z e f k = subst (λ (y : Point). Between z (point p) (point y)) f (subst (λ (x : Point). Between z (point x) (point b)) e k)
 
-pub between_arc : (c : Curve) (h : HalfArc) (z : Vector) → OneArc h (arc c) → Between z (point c.from) (point c.to) → Between z (point h.from) (point h.to)
+pub between_arc : (c : Curve) (h : HalfArc) (z : Vector) → OneArc h (arc c)
+    → Between z (point c.from) (point c.to) → Between z (point h.from) (point h.to)
 between_arc c h z (inl e) k = moved c.from c.to h.from h.to z (sym (ap (λ (x : HalfArc). x.from) e)) (sym (ap (λ (x : HalfArc). x.to) e)) k
 between_arc c h z (inr e) k = moved c.to c.from h.from h.to z (sym (ap (λ (x : HalfArc). x.from) e)) (sym (ap (λ (x : HalfArc). x.to) e)) (between_back z (point c.from) (point c.to) k)
 
-pub same_ends : (c d : Curve) (z : Vector) → HaveSameEnds c d → Between z (point d.from) (point d.to) → Between z (point c.from) (point c.to)
+pub same_ends : (c d : Curve) (z : Vector) → HaveSameEnds c d
+    → Between z (point d.from) (point d.to) → Between z (point c.from) (point c.to)
 same_ends c d z (inl h) k = moved d.from d.to c.from c.to z (sym h.0) (sym h.1) k
 same_ends c d z (inr h) k = between_back z (point c.to) (point c.from) (moved d.from d.to c.to c.from z (sym h.1) (sym h.0) k)

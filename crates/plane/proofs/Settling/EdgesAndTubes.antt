@@ -11,7 +11,9 @@ use Rattle.plane.specs.Faces.Halves.{Half, edge_of}
 use Rattle.plane.specs.Tubes.Bays.{Bay, IsTube, IsSome}
 use Rattle.plane.specs.Tubes.Windings.{Tile, tiles, bounds}
 use Rattle.plane.specs.Tubes.Facing.{way}
-use Rattle.plane.specs.CurveRuns.TubedRuns.{owned, half_within, third_is_left, first_edge, tube_start, tube_bays, tube_edges, first_bay, later_bays}
+use Rattle.plane.specs.CurveRuns.TubedRuns.{owned, half_within, third_is_left, first_edge}
+use Rattle.plane.specs.CurveRuns.TubedRuns.{tube_start, tube_bays, tube_edges, first_bay}
+use Rattle.plane.specs.CurveRuns.TubedRuns.{later_bays}
 
 -- A half arc from its other end.
 abbrev pub turned : HalfArc → HalfArc
@@ -50,11 +52,14 @@ pub record EdgeList : Type 0 where
 -- They are the edges of the drawing: all half arcs have tubes, and each edge belongs to one straight or one tube.
 pub record IsEdgeList (d : Plan) (l : EdgeList) : Type 0 where
   pub owned : (e : ℕ) → e < l.edges → l.owner e < length d.curves
-  pub straights : (i : ℕ) → IsStraight d i → (l.straight i < l.edges) × IsEdgeOf (l.edge (l.straight i)) (curve d i) × (l.owner (l.straight i) ≡ i)
+  pub straights : (i : ℕ) → IsStraight d i
+      → (l.straight i < l.edges) × IsEdgeOf (l.edge (l.straight i)) (curve d i) × (l.owner (l.straight i) ≡ i)
   pub straight_only : (e : ℕ) → e < l.edges → IsStraight d (l.owner e) → e ≡ l.straight (l.owner e)
   pub tubes : (i : ℕ) → IsHalfArc d i → IsTubeOf l.edges l.edge (curve d i) (l.tube i)
-  pub tube_owner : (i : ℕ) → IsHalfArc d i → (h : Half) → Has h (l.tube i).halves → l.owner (edge_of h) ≡ i
-  pub tube_only : (e : ℕ) → e < l.edges → IsHalfArc d (l.owner e) → (h : Half) × Has h (l.tube (l.owner e)).halves × (edge_of h ≡ e)
+  pub tube_owner : (i : ℕ) → IsHalfArc d i → (h : Half) → Has h (l.tube i).halves
+      → l.owner (edge_of h) ≡ i
+  pub tube_only : (e : ℕ) → e < l.edges → IsHalfArc d (l.owner e)
+      → (h : Half) × Has h (l.tube (l.owner e)).halves × (edge_of h ≡ e)
 
 -- The edge list, with each tube from that end of its half arc from which the third point is on the right.
 abbrev pub level : Plan → (ℕ → List Bay) → ℕ → (ℕ → Edge) → EdgeList

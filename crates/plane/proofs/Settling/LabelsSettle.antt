@@ -1,6 +1,7 @@
 -- A certificate's labels settle a run: an end of an edge in a tube is a corner of it, and an inner corner that were not over the chord
 -- would put a place of a straight with the same ends into the tube.
-use Rattle.std.proofs.Common.{◌≡◌, ℕ, ◌<◌, List, [], ◌∷◌, length, ℤ, pos, ◌<ℤ◌, ◌≤ℤ◌, ◌⊎◌, inl, inr, sym, ◌∙◌, subst}
+use Rattle.std.proofs.Common.{◌≡◌, ℕ, ◌<◌, List, [], ◌∷◌, length, ℤ, pos, ◌<ℤ◌, ◌≤ℤ◌, ◌⊎◌, inl, inr}
+use Rattle.std.proofs.Common.{sym, ◌∙◌, subst}
 use Rattle.std.proofs.lemmas.Int.{by_lt_z}
 use Rattle.plane.specs.declared.kinds.Point.{Point}
 use Rattle.plane.specs.declared.kinds.CurveKind.{CurveKind}
@@ -60,7 +61,9 @@ module _ (d : Plan) (bays : ℕ → List Bay) (m : ℕ) (E : ℕ → Edge) (step
   all : AreTubes r lab T (MeetsArc d)
   all = are_tubes w d bays m E steps lab within inside outside swept is L
 
-  enter : (e : ℕ) → e < m → (p : Point) → IsEnd (E e) p → (i : ℕ) → i < length d.curves → (curve d i).kind ≡ kind.HalfArc → (t : Tile) → Has t (tiles (curve d i).from (bays i)) → InTile t (point p) → IsCornerOf t p
+  enter : (e : ℕ) → e < m → (p : Point) → IsEnd (E e) p → (i : ℕ) → i < length d.curves
+      → (curve d i).kind ≡ kind.HalfArc → (t : Tile) → Has t (tiles (curve d i).from (bays i))
+      → InTile t (point p) → IsCornerOf t p
   enter e k p x i there bent t n within_t =
       let h : IsHalfArc d i = record { there = there; kind = bent } in
       let c = tube_of w d bays m E steps lab within inside outside swept is L i there bent in
@@ -78,7 +81,9 @@ module _ (d : Plan) (bays : ℕ → List Bay) (m : ℕ) (E : ℕ → Edge) (step
       (corner_arrow d bays m E steps is wide i h p
       (half_corner d bays m E steps is wide i h p (half_within d bays E (edge_of g.0)) f.0 (subst (λ (y : ℕ). IsEnd (E y) p) (sym f.1) at_p)))
 
-  chord : (i j : ℕ) → i < length d.curves → j < length d.curves → (curve d i).kind ≡ kind.Straight → (curve d j).kind ≡ kind.HalfArc → HaveSameEnds (curve d i) (curve d j) → (b : Bay) → Has b (bays j)
+  chord : (i j : ℕ) → i < length d.curves → j < length d.curves → (curve d i).kind ≡ kind.Straight
+      → (curve d j).kind ≡ kind.HalfArc → HaveSameEnds (curve d i) (curve d j) → (b : Bay)
+      → Has b (bays j)
       → IsEndOf (curve d j) b.inner ⊎ (pos 0 <ℤ bow (arc (curve d j)) (point b.inner))
   chord i j li lj ki kj same b has =
       elim (each_has (λ b. (power (arc (curve d j)) (point b.inner) <ℤ pos 0) ⊎ (b.inner ≡ (curve d j).to)) (bays j) b (is.tube j lj kj).inside has) [
@@ -86,7 +91,8 @@ module _ (d : Plan) (bays : ℕ → List Bay) (m : ℕ) (E : ℕ → Edge) (step
         | inl under ↦ by_lt_z (pos 0) (bow (arc (curve d j)) (point b.inner)) (λ k. inr k) (λ (k : bow (arc (curve d j)) (point b.inner) ≤ℤ pos 0). absurd (low under k))
       ]
     where
-      low : power (arc (curve d j)) (point b.inner) <ℤ pos 0 → bow (arc (curve d j)) (point b.inner) ≤ℤ pos 0 → ⊥
+      low : power (arc (curve d j)) (point b.inner) <ℤ pos 0
+          → bow (arc (curve d j)) (point b.inner) ≤ℤ pos 0 → ⊥
       low under k =
           let (z, p) = low_corner_place (arc (curve d j)) (bays j) b (is.tube j lj kj) has under k in
           let x = straight_edge d bays m E steps is i li ki in

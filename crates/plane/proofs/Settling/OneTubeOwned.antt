@@ -1,5 +1,6 @@
 -- The tube of one half arc of a drawing settles its own edges.
-use Rattle.std.proofs.Common.{◌≡◌, ◌⊎◌, ℕ, ◌+◌, ◌<◌, List, length, get_or, refl, arith, ap, sym, ◌∙◌, subst}
+use Rattle.std.proofs.Common.{◌≡◌, ◌⊎◌, ℕ, ◌+◌, ◌<◌, List, length, get_or, refl, arith, ap, sym}
+use Rattle.std.proofs.Common.{◌∙◌, subst}
 use Rattle.plane.specs.declared.kinds.Point.{Point}
 use Rattle.plane.specs.declared.kinds.CurveKind.{CurveKind}
 use Rattle.plane.specs.declared.kinds.CurveKind.TheVariants as kind
@@ -10,7 +11,8 @@ use Rattle.plane.specs.Rule.Plans.{Plan, curve}
 use Rattle.plane.specs.Forms.Meets.{IsEnd, Disjoint, Touch}
 use Rattle.plane.specs.Tubes.Bays.{Bay, IsTube}
 use Rattle.plane.specs.Tubes.Windings.{Tile, InTile, tiles, IsCornerOf}
-use Rattle.plane.specs.CurveRuns.TubedRuns.{Owned, edges_of, edge_list, no_edge, owned, Connects, first_edge}
+use Rattle.plane.specs.CurveRuns.TubedRuns.{Owned, edges_of, edge_list, no_edge, owned, Connects}
+use Rattle.plane.specs.CurveRuns.TubedRuns.{first_edge}
 use Rattle.plane.proofs.TubedRuns.EdgeNumbers.{from_at, group_at, group_of}
 use Rattle.plane.proofs.TubedRuns.OwnedEdges.{no_curve}
 use Rattle.plane.proofs.TubedRuns.ArcEdges.{edge_curve}
@@ -25,7 +27,8 @@ module _ (d : Plan) (bays : ℕ → List Bay) where
     pub number : e ≡ first_edge bays 0 d.curves i + place
     pub is : owned d bays e ≡ get_or (edges_of i kind.HalfArc (curve d i) (bays i)) place no_edge
 
-  place_of : (i e : ℕ) → (curve d i).kind ≡ kind.HalfArc → e < length (edge_list bays 0 d.curves) → (owned d bays e).curve ≡ i → IsPlaceOf i e
+  place_of : (i e : ℕ) → (curve d i).kind ≡ kind.HalfArc → e < length (edge_list bays 0 d.curves)
+      → (owned d bays e).curve ≡ i → IsPlaceOf i e
   place_of i e bent l o =
       let g = group_of bays no_curve 0 d.curves e l in
       let n : g.curve ≡ g.index = (let a = g.number in omega (arith, a)) in
@@ -39,7 +42,9 @@ module _ (d : Plan) (bays : ℕ → List Bay) where
       (subst (λ (y : ℕ). owned d bays e ≡ get_or (edges_of i (curve d y).kind (curve d y) (bays i)) g.place no_edge) j
       (subst (λ (y : ℕ). owned d bays e ≡ get_or (edges_of y (curve d g.index).kind (curve d g.index) (bays y)) g.place no_edge) c q))
     where
-      at_kind : (kd : CurveKind) (k : ℕ) → (curve d i).kind ≡ kind.HalfArc → (curve d i).kind ≡ kd → k < length (edges_of i kd (curve d i) (bays i)) → e ≡ first_edge bays 0 d.curves i + k → owned d bays e ≡ get_or (edges_of i kd (curve d i) (bays i)) k no_edge → IsPlaceOf i e
+      at_kind : (kd : CurveKind) (k : ℕ) → (curve d i).kind ≡ kind.HalfArc → (curve d i).kind ≡ kd
+          → k < length (edges_of i kd (curve d i) (bays i)) → e ≡ first_edge bays 0 d.curves i + k
+          → owned d bays e ≡ get_or (edges_of i kd (curve d i) (bays i)) k no_edge → IsPlaceOf i e
       at_kind kd k b c fits at is = record {
         place = k;
         fits = subst (λ (y : CurveKind). k < length (edges_of i y (curve d i) (bays i))) (sym c ∙ b) fits;
@@ -47,7 +52,9 @@ module _ (d : Plan) (bays : ℕ → List Bay) where
         is = subst (λ (y : CurveKind). owned d bays e ≡ get_or (edges_of i y (curve d i) (bays i)) k no_edge) (sym c ∙ b) is;
       }
 
-  pub own_edges_meet : (i e f : ℕ) (a b : Edge) → (curve d i).kind ≡ kind.HalfArc → IsTube (arc (curve d i)) (bays i) → e < length (edge_list bays 0 d.curves) → f < length (edge_list bays 0 d.curves)
+  pub own_edges_meet : (i e f : ℕ) (a b : Edge) → (curve d i).kind ≡ kind.HalfArc
+      → IsTube (arc (curve d i)) (bays i) → e < length (edge_list bays 0 d.curves)
+      → f < length (edge_list bays 0 d.curves)
       → (owned d bays e).curve ≡ i → (owned d bays f).curve ≡ i → (e ≡ f → ⊥) → Connects a (owned d bays e).from (owned d bays e).to → Connects b (owned d bays f).from (owned d bays f).to → Disjoint a b ⊎ Touch a b
   own_edges_meet i e f a b bent t le lf oe of other ka kb =
       let x = place_of i e bent le oe in
@@ -57,7 +64,9 @@ module _ (d : Plan) (bays : ℕ → List Bay) where
       edges_meet i (curve d i) (bays i) x.place y.place a b t x.fits y.fits (λ q. other (omega (arith, q, nx, ny)))
       (subst (λ (o : Owned). Connects a o.from o.to) x.is ka) (subst (λ (o : Owned). Connects b o.from o.to) y.is kb)
 
-  pub own_edges_enter : (i e : ℕ) (a : Edge) (p : Point) (t : Tile) → (curve d i).kind ≡ kind.HalfArc → IsTube (arc (curve d i)) (bays i) → e < length (edge_list bays 0 d.curves)
+  pub own_edges_enter : (i e : ℕ) (a : Edge) (p : Point) (t : Tile)
+      → (curve d i).kind ≡ kind.HalfArc → IsTube (arc (curve d i)) (bays i)
+      → e < length (edge_list bays 0 d.curves)
       → (owned d bays e).curve ≡ i → Connects a (owned d bays e).from (owned d bays e).to → IsEnd a p → Has t (tiles (curve d i).from (bays i)) → InTile t (point p) → IsCornerOf t p
   own_edges_enter i e a p t bent is l o k end has there =
       let x = place_of i e bent l o in

@@ -1,5 +1,6 @@
 -- A settled run: what face numbers say of its tubes, and the labels that they give.
-use Rattle.std.proofs.Common.{◌≡◌, ℕ, suc, ◌+◌, ◌<◌, ◌≤◌, Bool, true, false, List, [], ◌∷◌, ◌++◌, map, length, ℤ, ◌⊎◌, inl, inr, refl, arith, ap, sym, ◌∙◌, subst}
+use Rattle.std.proofs.Common.{◌≡◌, ℕ, suc, ◌+◌, ◌<◌, ◌≤◌, Bool, true, false, List, [], ◌∷◌, ◌++◌}
+use Rattle.std.proofs.Common.{map, length, ℤ, ◌⊎◌, inl, inr, refl, arith, ap, sym, ◌∙◌, subst}
 use Rattle.plane.specs.declared.kinds.CurveKind.TheVariants as kind
 use Rattle.plane.specs.Lists.{Has}
 use Rattle.plane.specs.Forms.Vectors.{Edge}
@@ -10,11 +11,14 @@ use Rattle.plane.specs.Faces.Halves.{Half, under, over, edge_of, twin, mark}
 use Rattle.plane.specs.Faces.Classes.{IsFaces, numbers}
 use Rattle.plane.specs.Tubes.Bays.{Bay}
 use Rattle.plane.specs.Tubes.Bays as one
-use Rattle.plane.specs.CurveRuns.TubedRuns.{Part, whole, inner, outer, Owned, owned, IsOfTube, IsTubedRun, third_is_left, half_within, first_edge, tube_edges, onward_edges, backward_edges, tube_label}
+use Rattle.plane.specs.CurveRuns.TubedRuns.{Part, whole, inner, outer, Owned, owned, IsOfTube}
+use Rattle.plane.specs.CurveRuns.TubedRuns.{IsTubedRun, third_is_left, half_within, first_edge}
+use Rattle.plane.specs.CurveRuns.TubedRuns.{tube_edges, onward_edges, backward_edges, tube_label}
 use Rattle.plane.specs.CurveRuns.TubedRuns as tubed
 use Rattle.plane.proofs.Settling.EdgesAndTubes.{EdgeList, IsEdgeList, level}
 use Rattle.plane.proofs.Settling.EdgesSettled.{inner_halves, outer_halves, IsSettled, AreTubeFaces}
-use Rattle.plane.specs.CurveRuns.Levels.{AreWide, IsSettledRun, AreFacesOfTubes, AreCertificateNumbers, beside_inner, beside_outer}
+use Rattle.plane.specs.CurveRuns.Levels.{AreWide, IsSettledRun, AreFacesOfTubes}
+use Rattle.plane.specs.CurveRuns.Levels.{AreCertificateNumbers, beside_inner, beside_outer}
 use Rattle.plane.proofs.Covers.CurvePlaces.{no_kind}
 use Rattle.plane.proofs.FaceLemmas.FaceNumbers.{faces_matched}
 use Rattle.plane.proofs.Windings.Whole.{IsWhole, swept_whole}
@@ -40,14 +44,16 @@ seconds [] = []
 seconds (x ∷ []) = x ∷ []
 seconds (x ∷ (y ∷ rest)) = y ∷ seconds rest
 
-inner_from : (within : ℕ → Half) (ns : List ℕ) (g : Half) → Has g (inner_halves (map within ns)) → (x : ℕ) × Has x (firsts ns) × (g ≡ within x)
+inner_from : (within : ℕ → Half) (ns : List ℕ) (g : Half) → Has g (inner_halves (map within ns))
+    → (x : ℕ) × Has x (firsts ns) × (g ≡ within x)
 unfolding firsts
 inner_from within [] g m = absurd m
 inner_from within (x ∷ []) g m = absurd m
 inner_from within (x ∷ (y ∷ rest)) g (inl e) = (x, inl refl, e)
 inner_from within (x ∷ (y ∷ rest)) g (inr m) = let r = inner_from within rest g m in (r.0, inr r.1, r.2)
 
-outer_from : (within : ℕ → Half) (ns : List ℕ) (g : Half) → Has g (outer_halves (map within ns)) → (x : ℕ) × Has x (seconds ns) × (g ≡ within x)
+outer_from : (within : ℕ → Half) (ns : List ℕ) (g : Half) → Has g (outer_halves (map within ns))
+    → (x : ℕ) × Has x (seconds ns) × (g ≡ within x)
 unfolding seconds
 outer_from within [] g m = absurd m
 outer_from within (x ∷ []) g (inl e) = (x, inl refl, e)
@@ -55,13 +61,15 @@ outer_from within (x ∷ []) g (inr m) = absurd m
 outer_from within (x ∷ (y ∷ rest)) g (inl e) = (y, inl refl, e)
 outer_from within (x ∷ (y ∷ rest)) g (inr m) = let r = outer_from within rest g m in (r.0, inr r.1, r.2)
 
-onward_firsts : (s n x : ℕ) (bs : List Bay) → Has x (firsts (onward_edges s n bs)) → IsAmong x s (length bs)
+onward_firsts : (s n x : ℕ) (bs : List Bay) → Has x (firsts (onward_edges s n bs))
+    → IsAmong x s (length bs)
 unfolding firsts
 onward_firsts s n x [] m = absurd m
 onward_firsts s n x (b ∷ bs) (inl e) = (omega (arith, e), omega (arith, e))
 onward_firsts s n x (b ∷ bs) (inr m) = let r = onward_firsts (suc s) (suc n) x bs m in let a = r.0 in let c = r.1 in (omega (arith, a), omega (arith, c))
 
-onward_seconds : (s n x : ℕ) (bs : List Bay) → Has x (seconds (onward_edges s n bs)) → IsAmong x n (suc (length bs))
+onward_seconds : (s n x : ℕ) (bs : List Bay) → Has x (seconds (onward_edges s n bs))
+    → IsAmong x n (suc (length bs))
 unfolding seconds
 onward_seconds s n x [] (inl e) = (omega (arith, e), omega (arith, e))
 onward_seconds s n x [] (inr m) = absurd m
@@ -72,7 +80,8 @@ join : (xs ys zs : List ℕ) → (xs ++ ys) ++ zs ≡ xs ++ (ys ++ zs)
 join [] ys zs = refl
 join (x ∷ xs) ys zs = ap (λ (v : List ℕ). x ∷ v) (join xs ys zs)
 
-backward_firsts : (s n x : ℕ) (bs : List Bay) (rest : List ℕ) → Has x (firsts (backward_edges s n bs ++ rest)) → IsAmong x s (length bs) ⊎ Has x (firsts rest)
+backward_firsts : (s n x : ℕ) (bs : List Bay) (rest : List ℕ)
+    → Has x (firsts (backward_edges s n bs ++ rest)) → IsAmong x s (length bs) ⊎ Has x (firsts rest)
 unfolding firsts
 backward_firsts s n x [] rest m = inr m
 backward_firsts s n x (b ∷ bs) rest m = elim (backward_firsts (suc s) (suc n) x bs (s ∷ n ∷ rest) (subst (λ (v : List ℕ). Has x (firsts v)) (join (backward_edges (suc s) (suc n) bs) (s ∷ n ∷ []) rest) m)) [
@@ -80,7 +89,9 @@ backward_firsts s n x (b ∷ bs) rest m = elim (backward_firsts (suc s) (suc n) 
   | inr r ↦ elim r [ inl e ↦ inl (omega (arith, e), omega (arith, e)) | inr k ↦ inr k ]
 ]
 
-backward_seconds : (s n x : ℕ) (bs : List Bay) (rest : List ℕ) → Has x (seconds (backward_edges s n bs ++ rest)) → IsAmong x n (length bs) ⊎ Has x (seconds rest)
+backward_seconds : (s n x : ℕ) (bs : List Bay) (rest : List ℕ)
+    → Has x (seconds (backward_edges s n bs ++ rest))
+    → IsAmong x n (length bs) ⊎ Has x (seconds rest)
 unfolding seconds
 backward_seconds s n x [] rest m = inr m
 backward_seconds s n x (b ∷ bs) rest m = elim (backward_seconds (suc s) (suc n) x bs (s ∷ n ∷ rest) (subst (λ (v : List ℕ). Has x (seconds v)) (join (backward_edges (suc s) (suc n) bs) (s ∷ n ∷ []) rest) m)) [
@@ -88,12 +99,14 @@ backward_seconds s n x (b ∷ bs) rest m = elim (backward_seconds (suc s) (suc n
   | inr r ↦ elim r [ inl e ↦ inl (omega (arith, e), omega (arith, e)) | inr k ↦ inr k ]
 ]
 
-tube_firsts : (left : Bool) (s x : ℕ) (bs : List Bay) → Has x (firsts (tube_edges left s bs)) → IsAmong x s (length bs)
+tube_firsts : (left : Bool) (s x : ℕ) (bs : List Bay) → Has x (firsts (tube_edges left s bs))
+    → IsAmong x s (length bs)
 unfolding firsts
 tube_firsts false s x bs m = onward_firsts s (s + length bs) x bs m
 tube_firsts true s x bs m = elim (backward_firsts s (suc (s + length bs)) x bs ((s + length bs) ∷ []) m) [ inl r ↦ r | inr v ↦ absurd v ]
 
-tube_seconds : (left : Bool) (s x : ℕ) (bs : List Bay) → Has x (seconds (tube_edges left s bs)) → IsAmong x (s + length bs) (suc (length bs))
+tube_seconds : (left : Bool) (s x : ℕ) (bs : List Bay) → Has x (seconds (tube_edges left s bs))
+    → IsAmong x (s + length bs) (suc (length bs))
 unfolding seconds
 tube_seconds false s x bs m = onward_seconds s (s + length bs) x bs m
 tube_seconds true s x bs m = elim (backward_seconds s (suc (s + length bs)) x bs ((s + length bs) ∷ []) m) [
@@ -155,11 +168,13 @@ module _ (d : Plan) (bays : ℕ → List Bay) (m : ℕ) (E : ℕ → Edge) (step
     | inr a ↦ a.part
   ]
 
-  pub has_half : (i : ℕ) (h : IsHalfArc d i) (e : ℕ) → e < m → (f e).curve ≡ i → Has (within e) (l.tube i).halves × (edge_of (within e) ≡ e)
+  pub has_half : (i : ℕ) (h : IsHalfArc d i) (e : ℕ) → e < m → (f e).curve ≡ i
+      → Has (within e) (l.tube i).halves × (edge_of (within e) ≡ e)
   has_half i h e k q = facing d bays m E steps within is (faces d bays m E steps is) i h.there h.kind e k q
 
   -- a half-edge of a tube is that of its edge
-  pub half_is : (i : ℕ) (h : IsHalfArc d i) (g : Half) → Has g (l.tube i).halves → g ≡ within (edge_of g)
+  pub half_is : (i : ℕ) (h : IsHalfArc d i) (g : Half) → Has g (l.tube i).halves
+      → g ≡ within (edge_of g)
   half_is i h g n =
       let y = half_from d bays m E steps within is (faces d bays m E steps is) i h.there h.kind (tube_edges (third_is_left (curve d i)) (first_edge bays 0 d.curves i) (bays i)) g n in
       let a = tube_among (third_is_left (curve d i)) (first_edge bays 0 d.curves i) y.0 (bays i) y.1 in
@@ -168,7 +183,8 @@ module _ (d : Plan) (bays : ℕ → List Bay) (m : ℕ) (E : ℕ → Edge) (step
       y.2 ∙ ap within (sym (ap edge_of y.2 ∙ (has_half i h y.0 k o).1))
 
   -- the chains by part
-  inner_has : (i : ℕ) (h : IsHalfArc d i) (e : ℕ) → e < m → (f e).curve ≡ i → (f e).part ≡ inner → Has (within e) (inner_halves (l.tube i).halves)
+  inner_has : (i : ℕ) (h : IsHalfArc d i) (e : ℕ) → e < m → (f e).curve ≡ i → (f e).part ≡ inner
+      → Has (within e) (inner_halves (l.tube i).halves)
   inner_has i h e k q p = elim (chains (within e) (l.tube i).halves (has_half i h e k q).0) [
     | inl n ↦ n
     | inr n ↦
@@ -180,10 +196,13 @@ module _ (d : Plan) (bays : ℕ → List Bay) (m : ℕ) (E : ℕ → Edge) (step
         absurd (not_inner (f e).part (ap (λ (x : ℕ). (f x).part) same ∙ o.1) p)
   ]
     where
-      below_outer : (i : ℕ) (h : IsHalfArc d i) (x : ℕ) → IsAmong x (first_edge bays 0 d.curves i + length (bays i)) (suc (length (bays i))) → x < m
+      below_outer : (i : ℕ) (h : IsHalfArc d i) (x : ℕ)
+          → IsAmong x (first_edge bays 0 d.curves i + length (bays i)) (suc (length (bays i)))
+          → x < m
       below_outer i h x a = below_m d bays m E steps is i h.there h.kind x (let p = a.0 in let q = a.1 in (omega (arith, p), omega (arith, q)))
 
-  outer_has : (i : ℕ) (h : IsHalfArc d i) (e : ℕ) → e < m → (f e).curve ≡ i → (f e).part ≡ outer → Has (within e) (outer_halves (l.tube i).halves)
+  outer_has : (i : ℕ) (h : IsHalfArc d i) (e : ℕ) → e < m → (f e).curve ≡ i → (f e).part ≡ outer
+      → Has (within e) (outer_halves (l.tube i).halves)
   outer_has i h e k q p = elim (chains (within e) (l.tube i).halves (has_half i h e k q).0) [
     | inr n ↦ n
     | inl n ↦
@@ -195,7 +214,8 @@ module _ (d : Plan) (bays : ℕ → List Bay) (m : ℕ) (E : ℕ → Edge) (step
         absurd (not_inner (f e).part p (ap (λ (x : ℕ). (f x).part) same ∙ o.1))
   ]
     where
-      below_inner : (i : ℕ) (h : IsHalfArc d i) (x : ℕ) → IsAmong x (first_edge bays 0 d.curves i) (length (bays i)) → x < m
+      below_inner : (i : ℕ) (h : IsHalfArc d i) (x : ℕ)
+          → IsAmong x (first_edge bays 0 d.curves i) (length (bays i)) → x < m
       below_inner i h x a = below_m d bays m E steps is i h.there h.kind x (let p = a.0 in let q = a.1 in (omega (arith, p), omega (arith, q)))
 
   -- ---- the faces of a settled run
@@ -250,13 +270,15 @@ module _ (d : Plan) (bays : ℕ → List Bay) (m : ℕ) (E : ℕ → Edge) (step
             absurd (not_twin (within e) (n.2 ∙ ap within (edge_twin (within e) ∙ within_edge e k o)))
       ]
 
-      straight_most : (h : Half) → edge_of h < m → (f (edge_of h)).part ≡ whole → face h ≤ length d.points
+      straight_most : (h : Half) → edge_of h < m → (f (edge_of h)).part ≡ whole
+          → face h ≤ length d.points
       straight_most h k p = elim (named.rest h k) [
         | inl n ↦ n
         | inr (x, j, o, q) ↦ absurd (subst IsOfTube p (run_faces.own x h j k o (sym q)).0)
       ]
 
-      inner_first : (e : ℕ) → e < m → (p : (f e).part ≡ inner) → face (twin (within e)) ≡ inside (f e).curve
+      inner_first : (e : ℕ) → e < m → (p : (f e).part ≡ inner)
+          → face (twin (within e)) ≡ inside (f e).curve
       inner_first e k p =
           let h = tube_arc e k (subst IsOfTube (sym p) tt) in
           let i = (f e).curve in
@@ -270,7 +292,8 @@ module _ (d : Plan) (bays : ℕ → List Bay) (m : ℕ) (E : ℕ → Edge) (step
           has_some [] v = absurd v
           has_some (b ∷ bs) v = omega arith
 
-      outer_first : (e : ℕ) → e < m → (p : (f e).part ≡ outer) → face (twin (within e)) ≡ outside (f e).curve
+      outer_first : (e : ℕ) → e < m → (p : (f e).part ≡ outer)
+          → face (twin (within e)) ≡ outside (f e).curve
       outer_first e k p =
           let h = tube_arc e k (subst IsOfTube (sym p) tt) in
           let i = (f e).curve in

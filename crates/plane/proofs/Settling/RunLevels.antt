@@ -1,6 +1,8 @@
 -- A run over the edge list of a drawing whose half arcs have tubes gives the edges of the drawing, with each tube from that end of its half
 -- arc from which the third point is on the right.
-use Rattle.std.proofs.Common.{◌≡◌, ℕ, zero, suc, ◌<◌, Bool, true, false, cond, List, [], ◌∷◌, ◌++◌, length, ℤ, pos, negsuc, ◌*ℤ◌, ◌<ℤ◌, ◌≤ℤ◌, ◌⊎◌, inl, inr, refl, arith, ap, sym, ◌∙◌, subst}
+use Rattle.std.proofs.Common.{◌≡◌, ℕ, zero, suc, ◌<◌, Bool, true, false, cond, List, [], ◌∷◌, ◌++◌}
+use Rattle.std.proofs.Common.{length, ℤ, pos, negsuc, ◌*ℤ◌, ◌<ℤ◌, ◌≤ℤ◌, ◌⊎◌, inl, inr, refl, arith}
+use Rattle.std.proofs.Common.{ap, sym, ◌∙◌, subst}
 use Rattle.std.proofs.lemmas.Int.{ints, by_lt_z}
 use Rattle.plane.specs.declared.kinds.Point.{Point}
 use Rattle.plane.specs.declared.kinds.Curve.{Curve}
@@ -14,7 +16,8 @@ use Rattle.plane.specs.Rule.Plans.{Plan, curve, IsStraight}
 use Rattle.plane.specs.Faces.Cells.{is_positive}
 use Rattle.plane.specs.Runs.Steps.{Step}
 use Rattle.plane.specs.Tubes.Bays.{Bay, IsSome, IsTube}
-use Rattle.plane.specs.CurveRuns.TubedRuns.{edges_of, owned, IsTubedRun, third_is_left, half_within, first_edge, first_bay, later_bays, backward}
+use Rattle.plane.specs.CurveRuns.TubedRuns.{edges_of, owned, IsTubedRun, third_is_left, half_within}
+use Rattle.plane.specs.CurveRuns.TubedRuns.{first_edge, first_bay, later_bays, backward}
 use Rattle.plane.proofs.Settling.EdgesAndTubes.{turned, EdgeList, IsEdgeList, level}
 use Rattle.plane.specs.CurveRuns.Levels.{AreWide}
 use Rattle.plane.proofs.TubedRuns.EdgeNumbers.{group_of}
@@ -29,7 +32,8 @@ use Rattle.plane.proofs.TubedRuns.TubedEdges.{its_bounds, half_fits, half_once, 
 abbrev pub right_arc : Bool → Curve → HalfArc
 right_arc left c = record { from = cond left c.to c.from; to = cond left c.from c.to; third = c.third }
 
-right_is : (left : Bool) (c : Curve) → (right_arc left c ≡ arc c) ⊎ (right_arc left c ≡ turned (arc c))
+right_is : (left : Bool) (c : Curve)
+    → (right_arc left c ≡ arc c) ⊎ (right_arc left c ≡ turned (arc c))
 right_is false c = inl refl
 right_is true c = inr refl
 
@@ -64,7 +68,8 @@ positive (negsuc n) e = absurd (no_false e)
     no_false : false ≡ true → ⊥
     no_false e = subst Two e tt
 
-right_bend : (left : Bool) (c : Curve) → is_positive (bend (arc c)) ≡ left → pos 0 <ℤ (bend (arc c) *ℤ bend (arc c)) → bend (right_arc left c) <ℤ pos 0
+right_bend : (left : Bool) (c : Curve) → is_positive (bend (arc c)) ≡ left
+    → pos 0 <ℤ (bend (arc c) *ℤ bend (arc c)) → bend (right_arc left c) <ℤ pos 0
 right_bend true c e square = let p = positive (bend (arc c)) e in let f = bend-turned (arc c) in omega (arith, ints, p, f)
 right_bend false c e square =
     let p = not_positive (bend (arc c)) e in
@@ -76,7 +81,8 @@ right_bend false c e square =
 abbrev pub right_bays : Bool → Curve → List Bay → List Bay
 right_bays left c bs = cond left (backward c.from bs) bs
 
-pub right_tube : (left : Bool) (c : Curve) (bs : List Bay) → IsTube (arc c) bs → IsTube (right_arc left c) (first_bay (right_bays left c bs) ∷ later_bays (right_bays left c bs))
+pub right_tube : (left : Bool) (c : Curve) (bs : List Bay) → IsTube (arc c) bs
+    → IsTube (right_arc left c) (first_bay (right_bays left c bs) ∷ later_bays (right_bays left c bs))
 right_tube left c [] t = absurd t.some
 right_tube false c (b ∷ bs) t = t
 right_tube true c (b ∷ bs) t = subst (λ (ks : List Bay). IsTube (turned (arc c)) ks) (sym (split_bays true c.from b bs)) (reversed_tube (arc c) b bs t)
@@ -93,7 +99,8 @@ back_some a b bs = some (backward b.inner bs) (record { outer = b.outer; inner =
     some [] k = tt
     some (x ∷ xs) k = tt
 
-right_wide : (left : Bool) (c : Curve) (bs : List Bay) → IsSome (later_bays bs) → IsSome (later_bays (right_bays left c bs))
+right_wide : (left : Bool) (c : Curve) (bs : List Bay) → IsSome (later_bays bs)
+    → IsSome (later_bays (right_bays left c bs))
 right_wide false c bs s = s
 right_wide true c [] s = absurd s
 right_wide true c (b ∷ []) s = absurd s
@@ -109,7 +116,8 @@ module _ (d : Plan) (bays : ℕ → List Bay) (m : ℕ) (E : ℕ → Edge) (step
     | inr a ↦ subst (λ (n : ℕ). n < length d.curves) (sym a.number) a.fits
   ]
 
-  straight_place : (e : ℕ) → e < m → IsStraight d (owned d bays e).curve → e ≡ first_edge bays 0 d.curves (owned d bays e).curve
+  straight_place : (e : ℕ) → e < m → IsStraight d (owned d bays e).curve
+      → e ≡ first_edge bays 0 d.curves (owned d bays e).curve
   straight_place e f s =
       let g = group_of bays no_curve 0 d.curves e (let a = is.count in omega (arith, a, f)) in
       let n : g.curve ≡ g.index = (let a = g.number in omega (arith, a)) in

@@ -1,9 +1,11 @@
 -- In a settled drawing the half-edges beside the cells of a tube are exactly those that face the tube from within.
-use Rattle.std.proofs.Common.{◌≡◌, ℕ, ◌<◌, inl, inr, List, [], ◌∷◌, map, ℤ, pos, ◌+ℤ◌, ◌*ℤ◌, ◌-ℤ◌, ◌<ℤ◌, ◌≤ℤ◌, refl, arith, ap, sym, ◌∙◌, subst}
+use Rattle.std.proofs.Common.{◌≡◌, ℕ, ◌<◌, inl, inr, List, [], ◌∷◌, map, ℤ, pos, ◌+ℤ◌, ◌*ℤ◌, ◌-ℤ◌}
+use Rattle.std.proofs.Common.{◌<ℤ◌, ◌≤ℤ◌, refl, arith, ap, sym, ◌∙◌, subst}
 use Rattle.std.proofs.lemmas.Int.{ints}
 use Rattle.plane.specs.declared.kinds.Point.{Point}
 use Rattle.plane.specs.Lists.{Has, Once}
-use Rattle.plane.specs.Forms.Vectors.{Vector, Place, Same, Between, mix, point, Edge, side, On, HitsEdge}
+use Rattle.plane.specs.Forms.Vectors.{Vector, Place, Same, Between, mix, point, Edge, side, On}
+use Rattle.plane.specs.Forms.Vectors.{HitsEdge}
 use Rattle.plane.specs.Forms.Meets.{IsEnd}
 use Rattle.plane.specs.Rule.Plans.{Plan, IsHalfArc}
 use Rattle.plane.specs.Runs.Steps.{Step, WeighedRun}
@@ -30,16 +32,19 @@ use Rattle.plane.proofs.Windings.Whole.{IsWhole, swept_whole}
 use Rattle.plane.proofs.Windings.OneTriangle.{IsWithin, within_triangle}
 use Rattle.plane.proofs.Windings.TileCorners.{arrow_end, edge_arrow}
 use Rattle.plane.proofs.OneTube.TubeExits.{kept_in, side_a_within, side_b_within, side_c_within}
-use Rattle.plane.proofs.OneTube.BoundSides.{IsSideOf, bound_side, near_inside, right_near, opposite, Some, Twice, Ends, has_some, bounds_twice}
+use Rattle.plane.proofs.OneTube.BoundSides.{IsSideOf, bound_side, near_inside, right_near, opposite}
+use Rattle.plane.proofs.OneTube.BoundSides.{Some, Twice, Ends, has_some, bounds_twice}
 use Rattle.plane.proofs.ListLemmas.Lists.{has_map}
 use Rattle.plane.proofs.Settling.SettledEdges.{Inside, all_left, bound_edge, low_on, high_on}
 
 -- ---- two edges at each corner
-twice_halves : (E : ℕ → Edge) (q : Point) (hs : List Half) → Twice (Ends q) (map (way E) hs) → Twice (λ g. IsEnd (E (edge_of g)) q) hs
+twice_halves : (E : ℕ → Edge) (q : Point) (hs : List Half) → Twice (Ends q) (map (way E) hs)
+    → Twice (λ g. IsEnd (E (edge_of g)) q) hs
 twice_halves E q [] t = t
 twice_halves E q (g ∷ hs) (inl (a, s)) = inl (arrow_end E g q a, some hs s)
   where
-    some : (hs : List Half) → Some (Ends q) (map (way E) hs) → Some (λ g. IsEnd (E (edge_of g)) q) hs
+    some : (hs : List Half) → Some (Ends q) (map (way E) hs)
+        → Some (λ g. IsEnd (E (edge_of g)) q) hs
     some [] s = s
     some (x ∷ xs) (inl a) = inl (arrow_end E x q a)
     some (x ∷ xs) (inr s) = inr (some xs s)
@@ -50,7 +55,8 @@ some_has P [] s = absurd s
 some_has P (g ∷ hs) (inl p) = (g, inl refl, p)
 some_has P (g ∷ hs) (inr s) = let r = some_has P hs s in (r.0, inr r.1, r.2)
 
-pick : (P : Half → Type 0) (hs : List Half) (e : ℕ) → Once (map edge_of hs) → Twice P hs → (g : Half) × Has g hs × (edge_of g ≡ e → ⊥) × P g
+pick : (P : Half → Type 0) (hs : List Half) (e : ℕ) → Once (map edge_of hs) → Twice P hs
+    → (g : Half) × Has g hs × (edge_of g ≡ e → ⊥) × P g
 pick P [] e o t = absurd t
 pick P (g ∷ hs) e o (inr t) = let r = pick P hs e o.1 t in (r.0, inr r.1, r.2, r.3)
 pick P (g ∷ hs) e o (inl (a, s)) = elim (decide_number (edge_of g) e) [
@@ -59,28 +65,35 @@ pick P (g ∷ hs) e o (inl (a, s)) = elim (decide_number (edge_of g) e) [
 ]
 
 -- ---- the sides of a half-edge's arrow
-pub side-twin : (E : ℕ → Edge) (g : Half) (v : Vector) → side (way E (twin g)) v ≡ pos 0 -ℤ side (way E g) v
+pub side-twin : (E : ℕ → Edge) (g : Half) (v : Vector)
+    → side (way E (twin g)) v ≡ pos 0 -ℤ side (way E g) v
 side-twin E (over e) v = opposite (E e).high (E e).low v
 side-twin E (under e) v = opposite (E e).low (E e).high v
 
-way_line : (w : ℤ) (E : ℕ → Edge) (g : Half) (v : Vector) → On w (E (edge_of g)) v → side (way E g) v ≡ pos 0
+way_line : (w : ℤ) (E : ℕ → Edge) (g : Half) (v : Vector) → On w (E (edge_of g)) v
+    → side (way E g) v ≡ pos 0
 way_line w E (over e) v on = on.line
 way_line w E (under e) v on = let f = opposite (E e).high (E e).low v in let k = on.line in omega (arith, ints, f, k)
 
-way_between : (E : ℕ → Edge) (g : Half) (v : Vector) → Between v (point (E (edge_of g)).low) (point (E (edge_of g)).high) → Between v (point (way E g).low) (point (way E g).high)
+way_between : (E : ℕ → Edge) (g : Half) (v : Vector)
+    → Between v (point (E (edge_of g)).low) (point (E (edge_of g)).high)
+    → Between v (point (way E g).low) (point (way E g).high)
 way_between E (over e) v b = b
 way_between E (under e) v b = between_back v (point (E e).low) (point (E e).high) b
 
-side_in : (e : Edge) (t : Tile) (z : Vector) → IsSideOf e t → Place z → IsLeftTile t → Between z (point e.low) (point e.high) → IsWithin t z
+side_in : (e : Edge) (t : Tile) (z : Vector) → IsSideOf e t → Place z → IsLeftTile t
+    → Between z (point e.low) (point e.high) → IsWithin t z
 side_in e t z (inl s) Z left b = side_a_within t z Z left (subst (λ (f : Edge). Between z (point f.low) (point f.high)) s b)
 side_in e t z (inr (inl s)) Z left b = side_b_within t z Z left (subst (λ (f : Edge). Between z (point f.low) (point f.high)) s b)
 side_in e t z (inr (inr s)) Z left b = side_c_within t z Z left (subst (λ (f : Edge). Between z (point f.low) (point f.high)) s b)
 
 -- a mix of two places on one side of a line is on that side
-mix_left : (s a t b v : ℤ) → pos 0 ≤ℤ s → pos 0 ≤ℤ t → pos 0 <ℤ (s +ℤ t) → pos 0 <ℤ a → pos 0 <ℤ b → v ≡ (s *ℤ a) +ℤ (t *ℤ b) → v ≡ pos 0 → ⊥
+mix_left : (s a t b v : ℤ) → pos 0 ≤ℤ s → pos 0 ≤ℤ t → pos 0 <ℤ (s +ℤ t) → pos 0 <ℤ a → pos 0 <ℤ b
+    → v ≡ (s *ℤ a) +ℤ (t *ℤ b) → v ≡ pos 0 → ⊥
 mix_left s a t b v hs ht some ha hb e z = let x = weight_at_most s a hs ha in let y = weight_at_most t b ht hb in omega (arith, ints, x, y, some, e, z)
 
-mix_right : (s a t b v : ℤ) → pos 0 ≤ℤ s → pos 0 ≤ℤ t → pos 0 <ℤ (s +ℤ t) → a <ℤ pos 0 → b <ℤ pos 0 → v ≡ (s *ℤ a) +ℤ (t *ℤ b) → v ≡ pos 0 → ⊥
+mix_right : (s a t b v : ℤ) → pos 0 ≤ℤ s → pos 0 ≤ℤ t → pos 0 <ℤ (s +ℤ t) → a <ℤ pos 0 → b <ℤ pos 0
+    → v ≡ (s *ℤ a) +ℤ (t *ℤ b) → v ≡ pos 0 → ⊥
 mix_right s a t b v hs ht some ha hb e z =
     let x = weight_at_most s (pos 0 -ℤ a) hs (omega (arith, ints, ha)) in
     let y = weight_at_most t (pos 0 -ℤ b) ht (omega (arith, ints, hb)) in
@@ -105,14 +118,16 @@ module _ (d : Plan) (l : EdgeList) (is : IsEdgeList d l) (settled : IsSettled d 
     pub z : Vector
     pub z_on : IsOnWay s o z
     pub z_edge : On w (l.edge (edge_of g)) z
-    pub clear : (x : Vector) → IsOnWay s o x → (f : ℕ) → f < l.edges → (f ≡ edge_of g → ⊥) → On w (l.edge f) x → ⊥
+    pub clear : (x : Vector) → IsOnWay s o x → (f : ℕ) → f < l.edges → (f ≡ edge_of g → ⊥)
+        → On w (l.edge f) x → ⊥
     pub s_beside : Beside r g (sector r s)
     pub o_beside : Beside r (twin g) (sector r o)
 
   way_back : (p q x : Vector) → IsOnWay p q x → IsOnWay q p x
   way_back p q x k = let some = k.some in record { s = k.t; t = k.s; s_least = k.t_least; t_least = k.s_least; some = omega (arith, ints, some); is = k.is ∙ mix_back k.s k.t p q }
 
-  pub way_hits : (p q x : Vector) → Place p → Place q → IsOnWay p q x → (f : ℕ) → On w (l.edge f) x → HitsEdge w p q (l.edge f)
+  pub way_hits : (p q x : Vector) → Place p → Place q → IsOnWay p q x → (f : ℕ) → On w (l.edge f) x
+      → HitsEdge w p q (l.edge f)
   way_hits p q x P Q k f on = record {
     z = x;
     place = way_place p q x P Q k;
@@ -200,7 +215,8 @@ module _ (d : Plan) (l : EdgeList) (is : IsEdgeList d l) (settled : IsSettled d 
       }
 
   -- another edge of the tube at a corner
-  other_end : (i : ℕ) (h : IsHalfArc d i) (g : Half) → Has g (l.tube i).halves → (q : Point) → IsEnd (l.edge (edge_of g)) q
+  other_end : (i : ℕ) (h : IsHalfArc d i) (g : Half) → Has g (l.tube i).halves → (q : Point)
+      → IsEnd (l.edge (edge_of g)) q
       → (f : Half) × Has f (l.tube i).halves × (edge_of f ≡ edge_of g → ⊥) × IsEnd (l.edge (edge_of f)) q
   other_end i h g m q x =
       let t = is.tubes i h in
@@ -228,7 +244,8 @@ module _ (d : Plan) (l : EdgeList) (is : IsEdgeList d l) (settled : IsSettled d 
         a.clear a.z a.z_on (edge_of f.0) k f.2 (on_same w (l.edge (edge_of f.0)) (point q) a.z (same_sym a.z (point q) e) (place_point q) Z (end_on (edge_of f.0) k q f.3))
 
     -- a part of the way that does not come to the edge meets no bound of the tube
-    part_misses : (p q : Vector) → Place p → Place q → IsOnWay s o p → IsOnWay s o q → ((x : Vector) → IsOnWay p q x → side (way l.edge g) x ≡ pos 0 → ⊥)
+    part_misses : (p q : Vector) → Place p → Place q → IsOnWay s o p → IsOnWay s o q
+        → ((x : Vector) → IsOnWay p q x → side (way l.edge g) x ≡ pos 0 → ⊥)
         → (x : Vector) → IsOnWay p q x → (e : Edge) → Has e (bounds (l.tube i).arc.from ((l.tube i).bay ∷ (l.tube i).bays)) → Between x (point e.low) (point e.high) → ⊥
     part_misses p q P Q ip iq aside x k e n b =
         let X = way_place p q x P Q k in

@@ -1,10 +1,12 @@
 -- In a settled drawing no place of an edge but its ends is in a tube that is not the edge's own.
-use Rattle.std.proofs.Common.{◌≡◌, ℕ, ◌<◌, ◌⊎◌, inl, inr, List, [], ◌∷◌, ℤ, pos, ◌+ℤ◌, ◌*ℤ◌, ◌-ℤ◌, ◌<ℤ◌, ◌≤ℤ◌, refl, arith, ap, sym, ◌∙◌, subst}
+use Rattle.std.proofs.Common.{◌≡◌, ℕ, ◌<◌, ◌⊎◌, inl, inr, List, [], ◌∷◌, ℤ, pos, ◌+ℤ◌, ◌*ℤ◌, ◌-ℤ◌}
+use Rattle.std.proofs.Common.{◌<ℤ◌, ◌≤ℤ◌, refl, arith, ap, sym, ◌∙◌, subst}
 use Rattle.std.proofs.lemmas.Int.{ints, by_lt_z}
 use Rattle.plane.specs.declared.kinds.Point.{Point}
 use Rattle.plane.specs.declared.kinds.Curve.{Curve}
 use Rattle.plane.specs.Lists.{Each, Has}
-use Rattle.plane.specs.Forms.Vectors.{Vector, Place, Same, Between, mix, point, Edge, side, sweep, rise, lift, On}
+use Rattle.plane.specs.Forms.Vectors.{Vector, Place, Same, Between, mix, point, Edge, side, sweep}
+use Rattle.plane.specs.Forms.Vectors.{rise, lift, On}
 use Rattle.plane.specs.Forms.Meets.{IsEnd}
 use Rattle.plane.specs.Forms.Arcs.{HalfArc, chord, along, bow}
 use Rattle.plane.specs.Rule.Curves.{arc}
@@ -15,7 +17,8 @@ use Rattle.plane.specs.Runs.Steps.{Step, WeighedRun}
 use Rattle.plane.specs.Faces.Replays.{Replay, replay}
 use Rattle.plane.specs.Faces.Halves.{Half, edge_of}
 use Rattle.plane.specs.Tubes.Bays.{Bay}
-use Rattle.plane.specs.Tubes.Windings.{arrow, Tile, InTile, InSomeTile, IsLeftTile, IsTiled, tiles, bounds, IsCornerOf}
+use Rattle.plane.specs.Tubes.Windings.{arrow, Tile, InTile, InSomeTile, IsLeftTile, IsTiled, tiles}
+use Rattle.plane.specs.Tubes.Windings.{bounds, IsCornerOf}
 use Rattle.plane.specs.Tubes.Facing.{way}
 use Rattle.plane.specs.CurveRuns.Extended.{IsOnWay}
 use Rattle.plane.proofs.Settling.EdgesAndTubes.{DrawnTube, tiles_of, EdgeList, IsEdgeList}
@@ -35,7 +38,8 @@ use Rattle.plane.proofs.Windings.Enters.{high_same}
 use Rattle.plane.proofs.Windings.TubeCells.{from_map, way_on}
 use Rattle.plane.proofs.Windings.Whole.{IsWhole, swept_whole}
 use Rattle.plane.proofs.HalfArcs.Turned.{bow_one}
-use Rattle.plane.proofs.Windings.TileCorners.{AtArrow, arrow_end, tile_corners, corner_edge, edge_arrow}
+use Rattle.plane.proofs.Windings.TileCorners.{AtArrow, arrow_end, tile_corners, corner_edge}
+use Rattle.plane.proofs.Windings.TileCorners.{edge_arrow}
 use Rattle.plane.proofs.Windings.SteepTiles.{tiled}
 use Rattle.plane.proofs.OneTube.TubeExits.{kept_in}
 use Rattle.plane.proofs.OneTube.BoundSides.{IsSideOf, bound_side, column_low}
@@ -47,10 +51,12 @@ use Rattle.plane.proofs.Caps.Pictures.{along-from, along-to, bow-from, bow-to}
 use Rattle.plane.proofs.OneTube.TubeStrips.{tube_cap, tube_rest}
 use Rattle.plane.proofs.OneTube.TubeEdges.{at_end}
 use Rattle.plane.proofs.OneTube.Chords.{inner_after}
-use Rattle.plane.proofs.Settling.DrawnTubes.{either_kind, arc_ends, ends_arc, tip_is, moved, between_arc}
+use Rattle.plane.proofs.Settling.DrawnTubes.{either_kind, arc_ends, ends_arc, tip_is, moved}
+use Rattle.plane.proofs.Settling.DrawnTubes.{between_arc}
 
 -- ---- places of an edge
-pub low_same : (w : ℤ) (e : Edge) (z : Vector) → pos 0 <ℤ rise w e → Place z → side e z ≡ pos 0 → sweep w z ≡ sweep w (point e.low) *ℤ z.n → Same z (point e.low)
+pub low_same : (w : ℤ) (e : Edge) (z : Vector) → pos 0 <ℤ rise w e → Place z → side e z ≡ pos 0
+    → sweep w z ≡ sweep w (point e.low) *ℤ z.n → Same z (point e.low)
 low_same w e z up Z line level =
     let q = side-low e in
     by_sign (lift z (point e.low))
@@ -58,7 +64,8 @@ low_same w e z up Z line level =
     (λ l. same_place w z e.low level l)
     (λ (l : pos 0 <ℤ lift z (point e.low)). let x = higher_side w e z e.low level Z up l (omega (arith, ints, q)) in absurd (omega (arith, ints, x, line)))
 
-pub on_mix : (w : ℤ) (e : Edge) (s : ℤ) (y : Vector) (t : ℤ) (z : Vector) → pos 0 ≤ℤ s → pos 0 ≤ℤ t → On w e y → On w e z → On w e (mix s y t z)
+pub on_mix : (w : ℤ) (e : Edge) (s : ℤ) (y : Vector) (t : ℤ) (z : Vector) → pos 0 ≤ℤ s → pos 0 ≤ℤ t
+    → On w e y → On w e z → On w e (mix s y t z)
 on_mix w e s y t z hs ht a b =
     let f = side-mix e s y t z in
     let u = ap (λ (v : ℤ). s *ℤ v) a.line in
@@ -67,10 +74,12 @@ on_mix w e s y t z hs ht a b =
     record { line = omega (arith, ints, f, u, v); low = k.low; high = k.high }
 
 -- strictly after the low end, and strictly before the high one
-pub after_low : (w : ℤ) (e : Edge) (z : Vector) → pos 0 <ℤ rise w e → Place z → On w e z → (Same z (point e.low) → ⊥) → (sweep w (point e.low) *ℤ z.n) <ℤ sweep w z
+pub after_low : (w : ℤ) (e : Edge) (z : Vector) → pos 0 <ℤ rise w e → Place z → On w e z
+    → (Same z (point e.low) → ⊥) → (sweep w (point e.low) *ℤ z.n) <ℤ sweep w z
 after_low w e z up Z on n = by_lt_z (sweep w (point e.low) *ℤ z.n) (sweep w z) (λ l. l) (λ (l : sweep w z ≤ℤ (sweep w (point e.low) *ℤ z.n)). let k = on.low in absurd (n (low_same w e z up Z on.line (omega (arith, ints, l, k)))))
 
-pub before_high : (w : ℤ) (e : Edge) (z : Vector) → pos 0 <ℤ rise w e → Place z → On w e z → (Same z (point e.high) → ⊥) → sweep w z <ℤ (sweep w (point e.high) *ℤ z.n)
+pub before_high : (w : ℤ) (e : Edge) (z : Vector) → pos 0 <ℤ rise w e → Place z → On w e z
+    → (Same z (point e.high) → ⊥) → sweep w z <ℤ (sweep w (point e.high) *ℤ z.n)
 before_high w e z up Z on n = by_lt_z (sweep w z) (sweep w (point e.high) *ℤ z.n) (λ l. l) (λ (l : (sweep w (point e.high) *ℤ z.n) ≤ℤ sweep w z). let k = on.high in absurd (n (high_same w e z up Z on.line (omega (arith, ints, l, k)))))
 
 pub low_on : (w : ℤ) (e : Edge) → pos 0 <ℤ rise w e → On w e (point e.low)
@@ -80,7 +89,8 @@ pub high_on : (w : ℤ) (e : Edge) → pos 0 <ℤ rise w e → On w e (point e.h
 high_on w e up = let f = rise-is w e in record { line = side-high e; low = omega (arith, ints, up, f); high = omega (arith, ints) }
 
 -- of two places strictly before a sweep value each mix is strictly before it
-below_mix : (k s a m t b n : ℤ) → pos 0 ≤ℤ s → pos 0 ≤ℤ t → pos 0 <ℤ (s +ℤ t) → a <ℤ (k *ℤ m) → b <ℤ (k *ℤ n) → ((s *ℤ a) +ℤ (t *ℤ b)) <ℤ (k *ℤ ((s *ℤ m) +ℤ (t *ℤ n)))
+below_mix : (k s a m t b n : ℤ) → pos 0 ≤ℤ s → pos 0 ≤ℤ t → pos 0 <ℤ (s +ℤ t) → a <ℤ (k *ℤ m)
+    → b <ℤ (k *ℤ n) → ((s *ℤ a) +ℤ (t *ℤ b)) <ℤ (k *ℤ ((s *ℤ m) +ℤ (t *ℤ n)))
 below_mix k s a m t b n hs ht some ha hb =
     let x = weight_at_most s ((k *ℤ m) -ℤ a) hs (omega (arith, ints, ha)) in
     let y = weight_at_most t ((k *ℤ n) -ℤ b) ht (omega (arith, ints, hb)) in
@@ -88,7 +98,8 @@ below_mix k s a m t b n hs ht some ha hb =
     (plus (times (at 1) (minus (times (at 0) (at 3)) (at 2))) (times (at 4) (minus (times (at 0) (at 6)) (at 5)))) (vars (k ∷ s ∷ a ∷ m ∷ t ∷ b ∷ n ∷ [])) refl in
     omega (arith, ints, x, y, f, some)
 
-above_mix : (k s a m t b n : ℤ) → pos 0 ≤ℤ s → pos 0 ≤ℤ t → pos 0 <ℤ (s +ℤ t) → (k *ℤ m) <ℤ a → (k *ℤ n) <ℤ b → (k *ℤ ((s *ℤ m) +ℤ (t *ℤ n))) <ℤ ((s *ℤ a) +ℤ (t *ℤ b))
+above_mix : (k s a m t b n : ℤ) → pos 0 ≤ℤ s → pos 0 ≤ℤ t → pos 0 <ℤ (s +ℤ t) → (k *ℤ m) <ℤ a
+    → (k *ℤ n) <ℤ b → (k *ℤ ((s *ℤ m) +ℤ (t *ℤ n))) <ℤ ((s *ℤ a) +ℤ (t *ℤ b))
 above_mix k s a m t b n hs ht some ha hb =
     let x = weight_at_most s (a -ℤ (k *ℤ m)) hs (omega (arith, ints, ha)) in
     let y = weight_at_most t (b -ℤ (k *ℤ n)) ht (omega (arith, ints, hb)) in
@@ -134,7 +145,8 @@ side_corner e t q (inl s) i = elim (subst (λ (f : Edge). IsEnd f q) s i) [ inl 
 side_corner e t q (inr (inl s)) i = elim (subst (λ (f : Edge). IsEnd f q) s i) [ inl x ↦ inr (inl (sym x)) | inr x ↦ inr (inr (sym x)) ]
 side_corner e t q (inr (inr s)) i = elim (subst (λ (f : Edge). IsEnd f q) s i) [ inl x ↦ inr (inr (sym x)) | inr x ↦ inl (sym x) ]
 
-pub bound_in : (a : Point) (k : Bay) (ks : List Bay) (e : Edge) (q : Point) → Has e (bounds a (k ∷ ks)) → IsEnd e q → InSomeTile (tiles a (k ∷ ks)) (point q)
+pub bound_in : (a : Point) (k : Bay) (ks : List Bay) (e : Edge) (q : Point)
+    → Has e (bounds a (k ∷ ks)) → IsEnd e q → InSomeTile (tiles a (k ∷ ks)) (point q)
 bound_in a k ks e q m i = let s = bound_side a k ks e m in (s.0, s.1, corner_within s.0 q (side_corner e s.0 q s.2 i))
 
 -- ---- one edge, two curves
@@ -176,7 +188,9 @@ module _ (d : Plan) (l : EdgeList) (is : IsEdgeList d l) (settled : IsSettled d 
   all_tiled i h = let t = is.tubes i h in tiled r whole.run (l.tube i).arc.from ((l.tube i).bay ∷ (l.tube i).bays) (l.tube i).halves t.bounds t.fits (all_left i h)
 
   -- a bound of the tube through a place is an edge of the tube through it
-  pub bound_edge : (i : ℕ) → (h : IsHalfArc d i) → (e : Edge) → Has e (bounds (l.tube i).arc.from ((l.tube i).bay ∷ (l.tube i).bays)) → (z : Vector) → Place z → Between z (point e.low) (point e.high)
+  pub bound_edge : (i : ℕ) → (h : IsHalfArc d i) → (e : Edge)
+      → Has e (bounds (l.tube i).arc.from ((l.tube i).bay ∷ (l.tube i).bays)) → (z : Vector)
+      → Place z → Between z (point e.low) (point e.high)
       → (g : Half) × Has g (l.tube i).halves × On w (l.edge (edge_of g)) z
   bound_edge i h e m z Z b =
       let t = is.tubes i h in
@@ -184,14 +198,17 @@ module _ (d : Plan) (l : EdgeList) (is : IsEdgeList d l) (settled : IsSettled d 
       (g.0, g.1, way_on w l.edge g.0 z (whole.run.rise (edge_of g.0) (t.fits g.0 g.1)) Z (subst (λ (f : Edge). Between z (point f.low) (point f.high)) g.2 b))
 
   -- an end of an edge of the tube is in the tube
-  pub end_in : (i : ℕ) → (h : IsHalfArc d i) → (g : Half) → Has g (l.tube i).halves → (q : Point) → IsEnd (l.edge (edge_of g)) q → Inside i (point q)
+  pub end_in : (i : ℕ) → (h : IsHalfArc d i) → (g : Half) → Has g (l.tube i).halves → (q : Point)
+      → IsEnd (l.edge (edge_of g)) q → Inside i (point q)
   end_in i h g m q x =
       let t = is.tubes i h in
       let a = edge_arrow l.edge (bounds (l.tube i).arc.from ((l.tube i).bay ∷ (l.tube i).bays)) (l.tube i).halves g q t.bounds m x in
       bound_in (l.tube i).arc.from (l.tube i).bay (l.tube i).bays a.0 q a.1 a.2
 
   -- an event in the tube is an end of an edge of the tube
-  pub event_in : (i : ℕ) → (h : IsHalfArc d i) → (e : ℕ) → e < l.edges → (q : Point) → IsEnd (l.edge e) q → Inside i (point q) → (g : Half) × Has g (l.tube i).halves × IsEnd (l.edge (edge_of g)) q
+  pub event_in : (i : ℕ) → (h : IsHalfArc d i) → (e : ℕ) → e < l.edges → (q : Point)
+      → IsEnd (l.edge e) q → Inside i (point q)
+      → (g : Half) × Has g (l.tube i).halves × IsEnd (l.edge (edge_of g)) q
   event_in i h e f q x (t, m, s) =
       let tube = is.tubes i h in
       let a = (l.tube i).arc.from in
@@ -212,7 +229,8 @@ module _ (d : Plan) (l : EdgeList) (is : IsEdgeList d l) (settled : IsSettled d 
     up = whole.run.rise u fits
 
     -- where a bound meets the edge, the edge ends
-    meets_end : (x : Vector) → Place x → On w (l.edge u) x → (g : Half) → Has g (l.tube i).halves → On w (l.edge (edge_of g)) x
+    meets_end : (x : Vector) → Place x → On w (l.edge u) x → (g : Half) → Has g (l.tube i).halves
+        → On w (l.edge (edge_of g)) x
         → (p : Point) × IsEnd (l.edge u) p × IsEnd (l.edge (edge_of g)) p × Same x (point p)
     meets_end x X at_u g m at_g =
         let c = meet_in_ends w l.edges l.edge steps x u (edge_of g) swept fits ((is.tubes i h).fits g m) (λ e. other (ap l.owner e ∙ is.tube_owner i h g m)) X at_u at_g in
@@ -225,7 +243,10 @@ module _ (d : Plan) (l : EdgeList) (is : IsEdgeList d l) (settled : IsSettled d 
       | inr out ↦ kept_in y (point (l.edge u).low) Y (place_point (l.edge u).low) (l.tube i).arc.from ((l.tube i).bay ∷ (l.tube i).bays) (all_left i h) (misses out) inside
     ]
       where
-        misses : (Inside i (point (l.edge u).low) → ⊥) → (x : Vector) → IsOnWay y (point (l.edge u).low) x → (e : Edge) → Has e (bounds (l.tube i).arc.from ((l.tube i).bay ∷ (l.tube i).bays)) → Between x (point e.low) (point e.high) → ⊥
+        misses : (Inside i (point (l.edge u).low) → ⊥) → (x : Vector)
+            → IsOnWay y (point (l.edge u).low) x → (e : Edge)
+            → Has e (bounds (l.tube i).arc.from ((l.tube i).bay ∷ (l.tube i).bays))
+            → Between x (point e.low) (point e.high) → ⊥
         misses out x way e m b =
             let X = way_place y (point (l.edge u).low) x Y (place_point (l.edge u).low) way in
             let at_u = subst (λ (v : Vector). On w (l.edge u) v) (sym way.is) (on_mix w (l.edge u) way.s y way.t (point (l.edge u).low) way.s_least way.t_least on (low_on w (l.edge u) up)) in
@@ -249,7 +270,10 @@ module _ (d : Plan) (l : EdgeList) (is : IsEdgeList d l) (settled : IsSettled d 
       | inr out ↦ kept_in y (point (l.edge u).high) Y (place_point (l.edge u).high) (l.tube i).arc.from ((l.tube i).bay ∷ (l.tube i).bays) (all_left i h) (misses out) inside
     ]
       where
-        misses : (Inside i (point (l.edge u).high) → ⊥) → (x : Vector) → IsOnWay y (point (l.edge u).high) x → (e : Edge) → Has e (bounds (l.tube i).arc.from ((l.tube i).bay ∷ (l.tube i).bays)) → Between x (point e.low) (point e.high) → ⊥
+        misses : (Inside i (point (l.edge u).high) → ⊥) → (x : Vector)
+            → IsOnWay y (point (l.edge u).high) x → (e : Edge)
+            → Has e (bounds (l.tube i).arc.from ((l.tube i).bay ∷ (l.tube i).bays))
+            → Between x (point e.low) (point e.high) → ⊥
         misses out x way e m b =
             let X = way_place y (point (l.edge u).high) x Y (place_point (l.edge u).high) way in
             let at_u = subst (λ (v : Vector). On w (l.edge u) v) (sym way.is) (on_mix w (l.edge u) way.s y way.t (point (l.edge u).high) way.s_least way.t_least on (high_on w (l.edge u) up)) in
@@ -282,7 +306,8 @@ module _ (d : Plan) (l : EdgeList) (is : IsEdgeList d l) (settled : IsSettled d 
         flat : (l.edge u).low ≡ (l.edge u).high → ⊥
         flat e = let f = rise-is w (l.edge u) in let g = ap (λ (p : Point). sweep w (point p)) e in let up = whole.run.rise u fits in omega (arith, ints, f, g, up)
 
-        ends : IsEndOf (curve d i) (l.edge u).low → IsEndOf (curve d i) (l.edge u).high → IsEdgeOf (l.edge u) (curve d i)
+        ends : IsEndOf (curve d i) (l.edge u).low → IsEndOf (curve d i) (l.edge u).high
+            → IsEdgeOf (l.edge u) (curve d i)
         ends (inl a) (inl b) = absurd (flat (sym a ∙ b))
         ends (inl a) (inr b) = inl (sym a, sym b)
         ends (inr a) (inl b) = inr (sym a, sym b)
@@ -344,7 +369,9 @@ module _ (d : Plan) (l : EdgeList) (is : IsEdgeList d l) (settled : IsSettled d 
         high_chord_out t.arc t.bay t.bays y tube.tube tube.wide
         (each_from (StandsHigh t.arc) (t.bay ∷ t.bays) (λ b m. stands b m (settled.chord j i s h same b m))) Y a.0 a.1 a.2 (tiles_in_tube t.arc.from t.bay t.bays y inside)
       where
-        stands : (b : Bay) → Has b ((l.tube i).bay ∷ (l.tube i).bays) → IsEndOf (curve d i) b.inner ⊎ (pos 0 <ℤ bow (arc (curve d i)) (point b.inner)) → StandsHigh (l.tube i).arc b
+        stands : (b : Bay) → Has b ((l.tube i).bay ∷ (l.tube i).bays)
+            → IsEndOf (curve d i) b.inner ⊎ (pos 0 <ℤ bow (arc (curve d i)) (point b.inner))
+            → StandsHigh (l.tube i).arc b
         stands b m (inr k) = let e = bow_one (l.tube i).arc (arc (curve d i)) (point b.inner) (is.tubes i h).is in inr (omega (arith, ints, e, k))
         stands b m (inl k) =
             let tube = is.tubes i h in

@@ -1,5 +1,6 @@
 -- In a settled drawing a face that has a half-edge which faces a tube from within has the half-edges that do so, and no others.
-use Rattle.std.proofs.Common.{◌≡◌, ℕ, ◌<◌, inl, inr, List, ◌∷◌, ℤ, pos, ◌+ℤ◌, ◌*ℤ◌, ◌<ℤ◌, ◌≤ℤ◌, refl, arith, ap, sym, ◌∙◌, subst}
+use Rattle.std.proofs.Common.{◌≡◌, ℕ, ◌<◌, inl, inr, List, ◌∷◌, ℤ, pos, ◌+ℤ◌, ◌*ℤ◌, ◌<ℤ◌, ◌≤ℤ◌}
+use Rattle.std.proofs.Common.{refl, arith, ap, sym, ◌∙◌, subst}
 use Rattle.std.proofs.lemmas.Int.{ints}
 use Rattle.plane.specs.declared.kinds.Point.{Point}
 use Rattle.plane.specs.Lists.{Has}
@@ -8,7 +9,8 @@ use Rattle.plane.specs.Forms.Meets.{IsEnd}
 use Rattle.plane.specs.Rule.Plans.{Plan, IsHalfArc}
 use Rattle.plane.specs.Runs.Steps.{Step, WeighedRun}
 use Rattle.plane.specs.Faces.Replays.{Replay, replay, IsOffEdges, reach}
-use Rattle.plane.specs.Faces.Cells.{Sector, IsSector, corner, sector, Linked, IsFree, JoinedByEdges, arrives, goes}
+use Rattle.plane.specs.Faces.Cells.{Sector, IsSector, corner, sector, Linked, IsFree, JoinedByEdges}
+use Rattle.plane.specs.Faces.Cells.{arrives, goes}
 use Rattle.plane.specs.Faces.Halves.{Half, under, over, edge_of, twin, Beside}
 use Rattle.plane.specs.Faces.Classes.{Connected, Touches, IsFaces}
 use Rattle.plane.specs.Tubes.Windings.{Tile, IsLeftTile, bounds, lead}
@@ -30,13 +32,16 @@ use Rattle.plane.proofs.Strips.Joins.{linked_joined}
 use Rattle.plane.proofs.Turning.CellWalls.{connected_linked}
 use Rattle.plane.proofs.Windings.CommonPlaces.{decide_number, in_some_same}
 use Rattle.plane.proofs.Windings.Under.{lead_after}
-use Rattle.plane.proofs.Windings.OneTriangle.{side_a, side_b, side_c, area, sides_sum, sides_lead, triangle_within}
+use Rattle.plane.proofs.Windings.OneTriangle.{side_a, side_b, side_c, area, sides_sum, sides_lead}
+use Rattle.plane.proofs.Windings.OneTriangle.{triangle_within}
 use Rattle.plane.proofs.Windings.Whole.{IsWhole, swept_whole}
 use Rattle.plane.proofs.Windings.TileCorners.{AtArrow, tile_corners, corner_edge, end_event}
 use Rattle.plane.proofs.OneTube.TubeExits.{kept_in}
 use Rattle.plane.proofs.Settling.DrawnTubes.{of_tube}
-use Rattle.plane.proofs.Settling.SettledEdges.{Inside, all_left, bound_edge, event_in, edge_out, low_on, high_on}
-use Rattle.plane.proofs.Settling.SettledCells.{IsAcross, across_edge, across_back, left_inside, right_outside, way_hits}
+use Rattle.plane.proofs.Settling.SettledEdges.{Inside, all_left, bound_edge, event_in, edge_out}
+use Rattle.plane.proofs.Settling.SettledEdges.{low_on, high_on}
+use Rattle.plane.proofs.Settling.SettledCells.{IsAcross, across_edge, across_back, left_inside}
+use Rattle.plane.proofs.Settling.SettledCells.{right_outside, way_hits}
 
 module _ (d : Plan) (l : EdgeList) (is : IsEdgeList d l) (settled : IsSettled d l) (w : ℤ) (steps : List Step) (swept : WeighedRun w l.edges l.edge steps) where
   abbrev r : Replay
@@ -49,23 +54,27 @@ module _ (d : Plan) (l : EdgeList) (is : IsEdgeList d l) (settled : IsSettled d 
   In i z = Inside d l is settled w steps swept i z
 
   -- ---- what is joined to a place of the tube is in the tube
-  free_in : (i : ℕ) → IsHalfArc d i → (p q : Vector) → Place p → Place q → IsFree r p q → In i p → In i q
+  free_in : (i : ℕ) → IsHalfArc d i → (p q : Vector) → Place p → Place q → IsFree r p q → In i p
+      → In i q
   free_in i h p q P Q free inside = kept_in p q P Q (l.tube i).arc.from ((l.tube i).bay ∷ (l.tube i).bays) (all_left d l is settled w steps swept i h)
       (λ x k e m b.
       let j = bound_edge d l is settled w steps swept i h e m x (way_place p q x P Q k) b in
       free (edge_of j.0) ((is.tubes i h).fits j.0 j.1) (way_hits d l is settled w steps swept p q x P Q k (edge_of j.0) j.2))
       inside
 
-  pub joined_in : (i : ℕ) → IsHalfArc d i → (p q : Vector) → JoinedByEdges r p q → Place p → Place q → In i p → In i q
+  pub joined_in : (i : ℕ) → IsHalfArc d i → (p q : Vector) → JoinedByEdges r p q → Place p → Place q
+      → In i p → In i q
   joined_in i h _ _ (arrives p q e) P Q inside = in_some_same (tiles_of (l.tube i)) p q P e inside
   joined_in i h _ _ (goes p q s Y free j) P S inside = joined_in i h q s j Y S (free_in i h p q P Y free inside)
 
-  linked_in : (i : ℕ) → IsHalfArc d i → (p q : Vector) → Place p → Place q → IsOffEdges r p → IsOffEdges r q → Linked r (sector r p) (sector r q) → In i p → In i q
+  linked_in : (i : ℕ) → IsHalfArc d i → (p q : Vector) → Place p → Place q → IsOffEdges r p
+      → IsOffEdges r q → Linked r (sector r p) (sector r q) → In i p → In i q
   linked_in i h p q P Q op oq k inside = joined_in i h p q (linked_joined r whole.run whole.law p q P Q op oq k) P Q inside
 
   -- ---- a half-edge beside a place of the tube faces it
   module _ (i : ℕ) (h : IsHalfArc d i) (g : Half) (fits : edge_of g < l.edges) where
-    own_wall : (s o : Vector) → IsAcross d l is settled w steps swept g s o → In i s → l.owner (edge_of g) ≡ i → Has g (l.tube i).halves
+    own_wall : (s o : Vector) → IsAcross d l is settled w steps swept g s o → In i s
+        → l.owner (edge_of g) ≡ i → Has g (l.tube i).halves
     own_wall s o a inside q =
         let m = of_tube d l is i h (edge_of g) fits q in
         elim (half_or_twin m.0 g m.2) [
@@ -80,7 +89,8 @@ module _ (d : Plan) (l : EdgeList) (is : IsEdgeList d l) (settled : IsSettled d 
         twice (over e) = refl
         twice (under e) = refl
 
-    no_other : (s o : Vector) → IsAcross d l is settled w steps swept g s o → In i s → (l.owner (edge_of g) ≡ i → ⊥) → ⊥
+    no_other : (s o : Vector) → IsAcross d l is settled w steps swept g s o → In i s
+        → (l.owner (edge_of g) ≡ i → ⊥) → ⊥
     no_other s o a inside n =
         let Z = way_place s o a.z a.s_place a.o_place a.z_on in
         let at_z : In i a.z = kept_in s a.z a.s_place Z (l.tube i).arc.from ((l.tube i).bay ∷ (l.tube i).bays) (all_left d l is settled w steps swept i h)
@@ -103,7 +113,8 @@ module _ (d : Plan) (l : EdgeList) (is : IsEdgeList d l) (settled : IsSettled d 
               | inr y ↦ subst (λ (p : Point). On w (l.edge (edge_of f.0)) (point p)) y (high_on w (l.edge (edge_of f.0)) (whole.run.rise (edge_of f.0) k))
             ]))
 
-    pub wall_faces : (x : Vector) → Place x → IsOffEdges r x → Beside r g (sector r x) → In i x → Has g (l.tube i).halves
+    pub wall_faces : (x : Vector) → Place x → IsOffEdges r x → Beside r g (sector r x) → In i x
+        → Has g (l.tube i).halves
     wall_faces x X off beside inside =
         let (s, o, a) = across_edge d l is settled w steps swept g fits in
         let k = beside_linked r whole.run whole.law g (sector r x) (sector r s) (cell_is r whole.run whole.law x X) (cell_is r whole.run whole.law s a.s_place) beside a.s_beside in
@@ -114,7 +125,8 @@ module _ (d : Plan) (l : EdgeList) (is : IsEdgeList d l) (settled : IsSettled d 
         ]
 
   -- ---- faces
-  pub connected_faces : (i : ℕ) → IsHalfArc d i → (g f : Half) → Has g (l.tube i).halves → edge_of f < l.edges → Connected r g f → Has f (l.tube i).halves
+  pub connected_faces : (i : ℕ) → IsHalfArc d i → (g f : Half) → Has g (l.tube i).halves
+      → edge_of f < l.edges → Connected r g f → Has f (l.tube i).halves
   connected_faces i h g f m fits c =
       let (s, o, a) = across_edge d l is settled w steps swept g ((is.tubes i h).fits g m) in
       let (x, y, b) = across_edge d l is settled w steps swept f fits in
@@ -122,7 +134,9 @@ module _ (d : Plan) (l : EdgeList) (is : IsEdgeList d l) (settled : IsSettled d 
       wall_faces i h f fits x b.s_place b.s_off b.s_beside (linked_in i h s x a.s_place b.s_place a.s_off b.s_off k (left_inside d l is settled w steps swept i h g m s o a))
 
   -- ---- the tube is bounded: before all events there is none of it
-  lead_sum : (t : Tile) (v : Vector) → (pos 0 ≤ℤ side_a t v) × (pos 0 ≤ℤ side_b t v) × (pos 0 ≤ℤ side_c t v) → pos 0 <ℤ ((side_a t v +ℤ side_b t v) +ℤ side_c t v)
+  lead_sum : (t : Tile) (v : Vector)
+      → (pos 0 ≤ℤ side_a t v) × (pos 0 ≤ℤ side_b t v) × (pos 0 ≤ℤ side_c t v)
+      → pos 0 <ℤ ((side_a t v +ℤ side_b t v) +ℤ side_c t v)
       → pos 0 <ℤ lead w t.a v → pos 0 <ℤ lead w t.b v → pos 0 <ℤ lead w t.c v → ⊥
   lead_sum t v s some a b c =
       let e = sides_lead w t v in
@@ -131,7 +145,8 @@ module _ (d : Plan) (l : EdgeList) (is : IsEdgeList d l) (settled : IsSettled d 
       let z = weight_at_most (side_a t v) (lead w t.c v) s.0 c in
       omega (arith, ints, e, x, y, z, some)
 
-  none_before : (i : ℕ) → IsHalfArc d i → (v : Vector) → Place v → ((j : ℕ) → j < r.steps → sweep w v <ℤ (reach r j *ℤ v.n)) → In i v → ⊥
+  none_before : (i : ℕ) → IsHalfArc d i → (v : Vector) → Place v
+      → ((j : ℕ) → j < r.steps → sweep w v <ℤ (reach r j *ℤ v.n)) → In i v → ⊥
   none_before i h v V before (t, m, inside) =
       let tube = is.tubes i h in
       let left = each_has (λ t. IsLeftTile t) (tiles_of (l.tube i)) t (all_left d l is settled w steps swept i h) m in
@@ -141,14 +156,17 @@ module _ (d : Plan) (l : EdgeList) (is : IsEdgeList d l) (settled : IsSettled d 
       let p = product_positive v.n (area t) V left in
       lead_sum t v s (omega (arith, ints, sum, p)) (ahead t.a c.a) (ahead t.b c.b) (ahead t.c c.c)
     where
-      ahead : (q : Point) → AtArrow (bounds (l.tube i).arc.from ((l.tube i).bay ∷ (l.tube i).bays)) q → pos 0 <ℤ lead w q v
+      ahead : (q : Point)
+          → AtArrow (bounds (l.tube i).arc.from ((l.tube i).bay ∷ (l.tube i).bays)) q
+          → pos 0 <ℤ lead w q v
       ahead q a =
           let tube = is.tubes i h in
           let g = corner_edge l.edge (bounds (l.tube i).arc.from ((l.tube i).bay ∷ (l.tube i).bays)) (l.tube i).halves q tube.bounds a in
           let j = end_event r whole (edge_of g.0) q (tube.fits g.0 g.1) g.2 in
           lead_after w q v (subst (λ (p : Point). sweep w v <ℤ (sweep w (point p) *ℤ v.n)) j.2 (before j.0 j.1))
 
-  pub no_border : (i : ℕ) → IsHalfArc d i → (g f : Half) → Has g (l.tube i).halves → Connected r g f → Touches r f → ⊥
+  pub no_border : (i : ℕ) → IsHalfArc d i → (g f : Half) → Has g (l.tube i).halves → Connected r g f
+      → Touches r f → ⊥
   no_border i h g f m c t =
       let (s, o, a) = across_edge d l is settled w steps swept g ((is.tubes i h).fits g m) in
       let k = connected_linked r whole.run whole.law g f c (sector r s) t.0 (cell_is r whole.run whole.law s a.s_place) t.1 a.s_beside t.2 in
@@ -161,8 +179,10 @@ module _ (d : Plan) (l : EdgeList) (is : IsEdgeList d l) (settled : IsSettled d 
       none_before i h v V (λ j n. x.inside.to j (omega arith) n)
       (linked_in i h s v a.s_place V a.s_off off (subst (λ (c : Sector). Linked r (sector r s) c) (sym e) (linked_join r (sector r s) t.0 corner k b)) (left_inside d l is settled w steps swept i h g m s o a))
 
-  pub own_face : (face : Half → ℕ) → IsFaces r face → (i : ℕ) → IsHalfArc d i → (g f : Half) → Has g (l.tube i).halves → edge_of f < l.edges → face g ≡ face f → Has f (l.tube i).halves
+  pub own_face : (face : Half → ℕ) → IsFaces r face → (i : ℕ) → IsHalfArc d i → (g f : Half)
+      → Has g (l.tube i).halves → edge_of f < l.edges → face g ≡ face f → Has f (l.tube i).halves
   own_face face faces i h g f m fits e = connected_faces i h g f m fits (faces.one g f ((is.tubes i h).fits g m) fits e)
 
-  pub not_outer : (face : Half → ℕ) → IsFaces r face → (i : ℕ) → IsHalfArc d i → (g : Half) → Has g (l.tube i).halves → face g ≡ 0 → ⊥
+  pub not_outer : (face : Half → ℕ) → IsFaces r face → (i : ℕ) → IsHalfArc d i → (g : Half)
+      → Has g (l.tube i).halves → face g ≡ 0 → ⊥
   not_outer face faces i h g m e = let t = faces.outside g ((is.tubes i h).fits g m) e in no_border i h g t.0 m t.1 t.2

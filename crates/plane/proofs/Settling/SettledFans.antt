@@ -1,5 +1,6 @@
 -- In a settled drawing no edge starts between the two bounds of a tube at its first corner, so the first of them comes next after the last one.
-use Rattle.std.proofs.Common.{◌≡◌, ℕ, ◌<◌, ◌⊎◌, inl, inr, List, [], ◌∷◌, ℤ, pos, ◌+ℤ◌, ◌*ℤ◌, ◌-ℤ◌, ◌<ℤ◌, ◌≤ℤ◌, refl, arith, ap, sym, ◌∙◌, subst}
+use Rattle.std.proofs.Common.{◌≡◌, ℕ, ◌<◌, ◌⊎◌, inl, inr, List, [], ◌∷◌, ℤ, pos, ◌+ℤ◌, ◌*ℤ◌, ◌-ℤ◌}
+use Rattle.std.proofs.Common.{◌<ℤ◌, ◌≤ℤ◌, refl, arith, ap, sym, ◌∙◌, subst}
 use Rattle.std.proofs.lemmas.Int.{ints}
 use Rattle.plane.specs.declared.kinds.Point.{Point}
 use Rattle.plane.specs.Lists.{Has}
@@ -10,7 +11,8 @@ use Rattle.plane.specs.Runs.Steps.{Step, Run, WeighedRun}
 use Rattle.plane.specs.Faces.Replays.{Replay, replay}
 use Rattle.plane.specs.Faces.Halves.{Half, under, over, edge_of, twin}
 use Rattle.plane.specs.Faces.Classes.{Next}
-use Rattle.plane.specs.Faces.Directions.{Direction, origin, direction, TurnsLeft, Comes, IsClockwiseNext}
+use Rattle.plane.specs.Faces.Directions.{Direction, origin, direction, TurnsLeft, Comes}
+use Rattle.plane.specs.Faces.Directions.{IsClockwiseNext}
 use Rattle.plane.specs.Tubes.Bays.{Bay}
 use Rattle.plane.specs.Tubes.Windings.{arrow, back, Tile, IsLeftTile}
 use Rattle.plane.specs.Tubes.Facing.{way}
@@ -41,13 +43,15 @@ use Rattle.plane.proofs.Settling.SettledChains.{at_corner, by_edge, twin_other}
 cross : (a b c : Point) → ℤ
 cross a b c = ((b.x -ℤ a.x) *ℤ (c.y -ℤ a.y)) -ℤ ((b.y -ℤ a.y) *ℤ (c.x -ℤ a.x))
 
-side_first : (a b c : Point) → side (arrow a b) (point c) ≡ ((b.x -ℤ a.x) *ℤ (c.y -ℤ a.y)) -ℤ ((b.y -ℤ a.y) *ℤ (c.x -ℤ a.x))
+side_first : (a b c : Point)
+    → side (arrow a b) (point c) ≡ ((b.x -ℤ a.x) *ℤ (c.y -ℤ a.y)) -ℤ ((b.y -ℤ a.y) *ℤ (c.x -ℤ a.x))
 unfolding side
 side_first a b c =
     ring (minus (times (minus (at 2) (at 0)) (minus (at 5) (times (at 1) (num (pos 1))))) (times (minus (at 3) (at 1)) (minus (at 4) (times (at 0) (num (pos 1))))))
     (minus (times (minus (at 2) (at 0)) (minus (at 5) (at 1))) (times (minus (at 3) (at 1)) (minus (at 4) (at 0)))) (vars (a.x ∷ a.y ∷ b.x ∷ b.y ∷ c.x ∷ c.y ∷ [])) refl
 
-side_last : (a b c : Point) → side (arrow b a) (point c) ≡ ((c.x -ℤ a.x) *ℤ (b.y -ℤ a.y)) -ℤ ((c.y -ℤ a.y) *ℤ (b.x -ℤ a.x))
+side_last : (a b c : Point)
+    → side (arrow b a) (point c) ≡ ((c.x -ℤ a.x) *ℤ (b.y -ℤ a.y)) -ℤ ((c.y -ℤ a.y) *ℤ (b.x -ℤ a.x))
 unfolding side
 side_last a b c =
     ring (minus (times (minus (at 0) (at 2)) (minus (at 5) (times (at 3) (num (pos 1))))) (times (minus (at 1) (at 3)) (minus (at 4) (times (at 2) (num (pos 1))))))
@@ -110,7 +114,8 @@ module _ (a k o e : Point) (left : IsLeftTile (record { a = a; b = k; c = o })) 
       let z = subst (λ (p : Point). side (arrow a k) (point p) ≡ pos 0) q (side-low (arrow a k)) in
       omega (arith, ints, z, first)
     where
-      one : (w a e : ℤ) → pos 0 <ℤ w → ((w *ℤ a) +ℤ (pos 1 *ℤ e)) *ℤ pos 1 ≡ e *ℤ ((w *ℤ pos 1) +ℤ (pos 1 *ℤ pos 1)) → a ≡ e
+      one : (w a e : ℤ) → pos 0 <ℤ w
+          → ((w *ℤ a) +ℤ (pos 1 *ℤ e)) *ℤ pos 1 ≡ e *ℤ ((w *ℤ pos 1) +ℤ (pos 1 *ℤ pos 1)) → a ≡ e
       one w a e h f =
           let i = ring (minus (times (plus (times (at 0) (at 1)) (times (num (pos 1)) (at 2))) (num (pos 1))) (times (at 2) (plus (times (at 0) (num (pos 1))) (times (num (pos 1)) (num (pos 1)))))) (times (at 0) (minus (at 1) (at 2))) (vars (w ∷ a ∷ e ∷ [])) refl in
           let z = cancel_zero w (a -ℤ e) h (omega (arith, ints, i, f)) in
@@ -149,7 +154,9 @@ module _ (d : Plan) (l : EdgeList) (is : IsEdgeList d l) (settled : IsSettled d 
         (let e = side_first a k.inner k.outer in omega (arith, ints, e, left)))
 
     -- no other half-edge starts in the wedge
-    wedge_empty : (x : Half) → edge_of x < l.edges → origin l.edge x ≡ origin l.edge (twin o) → (x ≡ g → ⊥) → (x ≡ twin o → ⊥) → InWedge (direction l.edge g) (direction l.edge (twin o)) (direction l.edge x) → ⊥
+    wedge_empty : (x : Half) → edge_of x < l.edges → origin l.edge x ≡ origin l.edge (twin o)
+        → (x ≡ g → ⊥) → (x ≡ twin o → ⊥)
+        → InWedge (direction l.edge g) (direction l.edge (twin o)) (direction l.edge x) → ⊥
     wedge_empty x fits at_o not_g not_o wedge = elim (decide_number (l.owner (edge_of x)) i) [
       | inl own ↦
           let m = of_tube d l is i h (edge_of x) fits own in
@@ -195,20 +202,28 @@ module _ (d : Plan) (l : EdgeList) (is : IsEdgeList d l) (settled : IsSettled d 
             (λ s. low_end x from_a s) (λ s. high_end x from_a s)
             (record { a = a; b = k.inner; c = k.outer }, inl refl, within_triangle (record { a = a; b = k.inner; c = k.outer }) y Y left within)
           where
-            no_a : Same (near_corner a k.inner k.outer (way l.edge x).high left first last) (point a) → ⊥
+            no_a : Same (near_corner a k.inner k.outer (way l.edge x).high left first last) (point a)
+                → ⊥
             no_a s = near_not_corner a k.inner k.outer (way l.edge x).high left first last s
 
-            no_e : Same (near_corner a k.inner k.outer (way l.edge x).high left first last) (point (way l.edge x).high) → ⊥
+            no_e : Same (near_corner a k.inner k.outer (way l.edge x).high left first last) (point (way l.edge x).high)
+                → ⊥
             no_e s = near_not_end a k.inner k.outer (way l.edge x).high left first last s
 
-            ends : (y : Vector) → (Same y (point a) → ⊥) → (g : Half) → (way l.edge g).low ≡ a → (Same y (point (way l.edge g).high) → ⊥) → (Same y (point (l.edge (edge_of g)).low) → ⊥) × (Same y (point (l.edge (edge_of g)).high) → ⊥)
+            ends : (y : Vector) → (Same y (point a) → ⊥) → (g : Half) → (way l.edge g).low ≡ a
+                → (Same y (point (way l.edge g).high) → ⊥)
+                → (Same y (point (l.edge (edge_of g)).low) → ⊥) × (Same y (point (l.edge (edge_of g)).high) → ⊥)
             ends y na (over e) q ne = (λ s. na (subst (λ (p : Point). Same y (point p)) q s), ne)
             ends y na (under e) q ne = (ne, λ s. na (subst (λ (p : Point). Same y (point p)) q s))
 
-            low_end : (g : Half) → (way l.edge g).low ≡ a → Same (near_corner a k.inner k.outer (way l.edge x).high left first last) (point (l.edge (edge_of x)).low) → ⊥
+            low_end : (g : Half) → (way l.edge g).low ≡ a
+                → Same (near_corner a k.inner k.outer (way l.edge x).high left first last) (point (l.edge (edge_of x)).low)
+                → ⊥
             low_end g q s = (ends (near_corner a k.inner k.outer (way l.edge x).high left first last) no_a x from_a no_e).0 s
 
-            high_end : (g : Half) → (way l.edge g).low ≡ a → Same (near_corner a k.inner k.outer (way l.edge x).high left first last) (point (l.edge (edge_of x)).high) → ⊥
+            high_end : (g : Half) → (way l.edge g).low ≡ a
+                → Same (near_corner a k.inner k.outer (way l.edge x).high left first last) (point (l.edge (edge_of x)).high)
+                → ⊥
             high_end g q s = (ends (near_corner a k.inner k.outer (way l.edge x).high left first last) no_a x from_a no_e).1 s
 
     -- the order of the directions leaves no other way
@@ -232,7 +247,8 @@ module _ (d : Plan) (l : EdgeList) (is : IsEdgeList d l) (settled : IsSettled d 
         other : g ≡ twin o → ⊥
         other e = twin_other d l is settled steps complete w swept i h o g mo mg meet e
 
-        between_halves : (x : Half) → IsClockwiseNext l.edges l.edge (twin o) x → (x ≡ g → ⊥) → InWedge (direction l.edge g) (direction l.edge (twin o)) (direction l.edge x)
+        between_halves : (x : Half) → IsClockwiseNext l.edges l.edge (twin o) x → (x ≡ g → ⊥)
+            → InWedge (direction l.edge g) (direction l.edge (twin o)) (direction l.edge x)
         between_halves x c not_g = elim c.turn [
           | inl k ↦ elim (k.1 g fits_g at_g) [
             | inl p ↦ elim p [
@@ -247,12 +263,15 @@ module _ (d : Plan) (l : EdgeList) (is : IsEdgeList d l) (settled : IsSettled d 
           | inr k ↦ two x not_g (k g fits_g at_g)
         ]
           where
-            two : (x : Half) → (x ≡ g → ⊥) → ((g ≡ x) ⊎ Comes l.edge g x) × ((g ≡ twin o) ⊎ Comes l.edge (twin o) g) → InWedge (direction l.edge g) (direction l.edge (twin o)) (direction l.edge x)
+            two : (x : Half) → (x ≡ g → ⊥)
+                → ((g ≡ x) ⊎ Comes l.edge g x) × ((g ≡ twin o) ⊎ Comes l.edge (twin o) g)
+                → InWedge (direction l.edge g) (direction l.edge (twin o)) (direction l.edge x)
             two x not_g (inl e, q) = absurd (not_g (sym e))
             two x not_g (inr p, inl e) = absurd (other e)
             two x not_g (inr p, inr q) = after (direction l.edge g) (direction l.edge (twin o)) (direction l.edge x) turns q p
 
-        not_next : (x : Half) → edge_of x < l.edges → IsClockwiseNext l.edges l.edge (twin o) x → (x ≡ g → ⊥) → ⊥
+        not_next : (x : Half) → edge_of x < l.edges → IsClockwiseNext l.edges l.edge (twin o) x
+            → (x ≡ g → ⊥) → ⊥
         not_next x fits c not_g = elim (decide_half x (twin o)) [
           | inl e ↦ not_itself l.edges l.edge (twin o) g (subst (λ (y : Half). IsClockwiseNext l.edges l.edge (twin o) y) e c) fits_g at_g other
           | inr not_o ↦ wedge_empty x fits c.start not_g not_o (between_halves x c not_g)

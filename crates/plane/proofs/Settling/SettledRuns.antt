@@ -1,5 +1,7 @@
 -- A settled run in the words of the tubes from those ends from which the third points are on the right.
-use Rattle.std.proofs.Common.{◌≡◌, ℕ, suc, ◌+◌, ◌<◌, Bool, true, false, cond, List, [], ◌∷◌, ◌++◌, map, length, get_or, pos, ◌<ℤ◌, ◌⊎◌, ◌↔◌, inl, inr, refl, ap, sym, ◌∙◌, subst}
+use Rattle.std.proofs.Common.{◌≡◌, ℕ, suc, ◌+◌, ◌<◌, Bool, true, false, cond, List, [], ◌∷◌, ◌++◌}
+use Rattle.std.proofs.Common.{map, length, get_or, pos, ◌<ℤ◌, ◌⊎◌, ◌↔◌, inl, inr, refl, ap, sym}
+use Rattle.std.proofs.Common.{◌∙◌, subst}
 use Rattle.plane.specs.declared.kinds.Point.{Point}
 use Rattle.plane.specs.declared.kinds.Curve.{Curve}
 use Rattle.plane.specs.Lists.{Has}
@@ -15,7 +17,11 @@ use Rattle.plane.specs.Faces.Halves.{Half, edge_of}
 use Rattle.plane.specs.Tubes.Bays.{Bay, IsSome, IsTube}
 use Rattle.plane.specs.Tubes.Bays as one
 use Rattle.plane.specs.Tubes.Windings.{Tile, InTile, InSomeTile, tiles, bounds, IsCornerOf}
-use Rattle.plane.specs.CurveRuns.TubedRuns.{Part, whole, inner, outer, Owned, chain, inner_corners, outer_corners, owned, Connects, IsTubedRun, third_is_left, inward, half_within, first_edge, tube_start, tube_bays, tube_edges, first_bay, later_bays, backward}
+use Rattle.plane.specs.CurveRuns.TubedRuns.{Part, whole, inner, outer, Owned, chain, inner_corners}
+use Rattle.plane.specs.CurveRuns.TubedRuns.{outer_corners, owned, Connects, IsTubedRun}
+use Rattle.plane.specs.CurveRuns.TubedRuns.{third_is_left, inward, half_within, first_edge}
+use Rattle.plane.specs.CurveRuns.TubedRuns.{tube_start, tube_bays, tube_edges, first_bay}
+use Rattle.plane.specs.CurveRuns.TubedRuns.{later_bays, backward}
 use Rattle.plane.proofs.Settling.EdgesAndTubes.{tiles_of, EdgeList, IsEdgeList, level}
 use Rattle.plane.proofs.Settling.EdgesSettled.{IsSettled}
 use Rattle.plane.specs.CurveRuns.Levels.{AreWide, IsSettledRun}
@@ -29,7 +35,8 @@ use Rattle.plane.proofs.TubedRuns.TubeBounds.{IsAmong}
 use Rattle.plane.proofs.Runs.RunLaws.{run_meets}
 use Rattle.plane.proofs.TubedRuns.FacingHalves.{faces}
 use Rattle.plane.proofs.TubedRuns.TubeNumbers.{tube_among, among_tube, oriented}
-use Rattle.plane.proofs.TubedRuns.ArcEdges.{its_curve, of_tube, below_m, some_bay, inner_from, outer_from, ends_at}
+use Rattle.plane.proofs.TubedRuns.ArcEdges.{its_curve, of_tube, below_m, some_bay, inner_from}
+use Rattle.plane.proofs.TubedRuns.ArcEdges.{outer_from, ends_at}
 use Rattle.plane.proofs.TubedRuns.TubedEdges.{half_from, facing}
 use Rattle.plane.proofs.Windings.TileCorners.{AtArrow, tile_corners, edge_arrow, end_event}
 use Rattle.plane.proofs.OneTube.TubeCorners.{tile_corner}
@@ -40,7 +47,8 @@ use Rattle.plane.proofs.Windings.Whole.{swept_whole}
 use Rattle.plane.proofs.Settling.RunLevels.{run_edges}
 
 -- ---- inner corners from the other end
-back_inner : (a : Point) (bs : List Bay) (k : Bay) → Has k (backward a bs) → (k.inner ≡ a) ⊎ ((b : Bay) × Has b bs × (b.inner ≡ k.inner))
+back_inner : (a : Point) (bs : List Bay) (k : Bay) → Has k (backward a bs)
+    → (k.inner ≡ a) ⊎ ((b : Bay) × Has b bs × (b.inner ≡ k.inner))
 back_inner a [] k m = absurd m
 back_inner a (b ∷ bs) k m = elim (has_append k (backward b.inner bs) (record { outer = b.outer; inner = a } ∷ []) m) [
   | inr n ↦ elim n [ inl e ↦ inl (ap (λ (x : Bay). x.inner) e) | inr v ↦ absurd v ]
@@ -51,13 +59,16 @@ back_inner a (b ∷ bs) k m = elim (has_append k (backward b.inner bs) (record {
 ]
 
 -- of the bays from the right end, by the side of the third point
-right_inner : (left : Bool) (c : Curve) (bs : List Bay) (k : Bay) → IsSome bs → Has k (first_bay (cond left (backward c.from bs) bs) ∷ later_bays (cond left (backward c.from bs) bs)) → (k.inner ≡ c.from) ⊎ ((b : Bay) × Has b bs × (b.inner ≡ k.inner))
+right_inner : (left : Bool) (c : Curve) (bs : List Bay) (k : Bay) → IsSome bs
+    → Has k (first_bay (cond left (backward c.from bs) bs) ∷ later_bays (cond left (backward c.from bs) bs))
+    → (k.inner ≡ c.from) ⊎ ((b : Bay) × Has b bs × (b.inner ≡ k.inner))
 right_inner left c [] k s m = absurd s
 right_inner false c (b ∷ bs) k s m = inr (k, m, refl)
 right_inner true c (b ∷ bs) k s m = back_inner c.from (b ∷ bs) k (subst (λ (ks : List Bay). Has k ks) (split_bays true c.from b bs) m)
 
 -- ---- an arrow of an edge has the edge's ends
-inward_end : (left : Bool) (part : Part) (p q v : Point) → IsEnd (inward left part p q) v → (p ≡ v) ⊎ (q ≡ v)
+inward_end : (left : Bool) (part : Part) (p q v : Point) → IsEnd (inward left part p q) v
+    → (p ≡ v) ⊎ (q ≡ v)
 inward_end false inner p q v x = x
 inward_end true inner p q v (inl e) = inr e
 inward_end true inner p q v (inr e) = inl e
@@ -67,7 +78,8 @@ inward_end true outer p q v x = x
 inward_end false whole p q v x = x
 inward_end true whole p q v x = x
 
-end_inward : (left : Bool) (part : Part) (p q v : Point) → (p ≡ v) ⊎ (q ≡ v) → IsEnd (inward left part p q) v
+end_inward : (left : Bool) (part : Part) (p q v : Point) → (p ≡ v) ⊎ (q ≡ v)
+    → IsEnd (inward left part p q) v
 end_inward false inner p q v x = x
 end_inward true inner p q v (inl e) = inr e
 end_inward true inner p q v (inr e) = inl e
@@ -119,7 +131,10 @@ module _ (d : Plan) (bays : ℕ → List Bay) (m : ℕ) (E : ℕ → Edge) (step
         split bs b.0 b.1 b.2 (inner_from d bays m E steps is i h.there h.kind) (outer_from d bays m E steps is i h.there h.kind)
         (ends_at d bays m E steps is i h.there h.kind)
       where
-        split : (ks : List Bay) (b : Bay) (rest : List Bay) → ks ≡ b ∷ rest → IsFrom f s (chain i inner c.from (inner_corners ks)) → IsFrom f (s + length ks) (chain i outer c.from (outer_corners ks ++ c.to ∷ [])) → last_inner c.from ks ≡ c.to
+        split : (ks : List Bay) (b : Bay) (rest : List Bay) → ks ≡ b ∷ rest
+            → IsFrom f s (chain i inner c.from (inner_corners ks))
+            → IsFrom f (s + length ks) (chain i outer c.from (outer_corners ks ++ c.to ∷ []))
+            → last_inner c.from ks ≡ c.to
             → bounds c.from ks ≡ map (λ n. inward false (f n).part (f n).from (f n).to) (tube_edges false s ks)
         split ks b rest e = subst (λ (ks : List Bay). IsFrom f s (chain i inner c.from (inner_corners ks)) → IsFrom f (s + length ks) (chain i outer c.from (outer_corners ks ++ c.to ∷ [])) → last_inner c.from ks ≡ c.to
             → bounds c.from ks ≡ map (λ n. inward false (f n).part (f n).from (f n).to) (tube_edges false s ks)) (sym e) (λ F G H. oriented false f i s c.from c.to b rest F G H)
@@ -151,7 +166,8 @@ module _ (d : Plan) (bays : ℕ → List Bay) (m : ℕ) (E : ℕ → Edge) (step
           end_inward false (f k.edge).part (f k.edge).from (f k.edge).to p (end_joins (E k.edge) (f k.edge).from (f k.edge).to p (is.edge k.edge k.fits) k.end),
         )
 
-    pub half_corner : (p : Point) (g : Half) → Has g (l.tube i).halves → IsEnd (E (edge_of g)) p → HasCorner p
+    pub half_corner : (p : Point) (g : Half) → Has g (l.tube i).halves → IsEnd (E (edge_of g)) p
+        → HasCorner p
     half_corner p g has x =
         let y = half_from d bays m E steps within is (faces d bays m E steps is) i h.there h.kind (tube_edges (third_is_left c) s bs) g has in
         let a = tube_among (third_is_left c) s y.0 bs y.1 in
@@ -160,19 +176,22 @@ module _ (d : Plan) (bays : ℕ → List Bay) (m : ℕ) (E : ℕ → Edge) (step
         let e : edge_of g ≡ y.0 = ap edge_of y.2 ∙ (facing d bays m E steps within is (faces d bays m E steps is) i h.there h.kind y.0 k o).1 in
         record { edge = y.0; fits = k; among = a; end = subst (λ (n : ℕ). IsEnd (E n) p) e x }
 
-    corner_half : (p : Point) → HasCorner p → (g : Half) × Has g (l.tube i).halves × IsEnd (E (edge_of g)) p
+    corner_half : (p : Point) → HasCorner p
+        → (g : Half) × Has g (l.tube i).halves × IsEnd (E (edge_of g)) p
     corner_half p k =
         let o = its_curve d bays m E steps is i h.there h.kind k.edge k.among in
         let x = facing d bays m E steps within is (faces d bays m E steps is) i h.there h.kind k.edge k.fits o in
         (within k.edge, x.0, subst (λ (n : ℕ). IsEnd (E n) p) (sym x.1) k.end)
 
     -- the triangles from the one end and from the other have the same places
-    own_place : (p : Point) → InSomeTile (tiles_of (l.tube i)) (point p) ↔ InSomeTile (tiles c.from bs) (point p)
+    own_place : (p : Point)
+        → InSomeTile (tiles_of (l.tube i)) (point p) ↔ InSomeTile (tiles c.from bs) (point p)
     own_place p =
         let b = some_bay d bays m E steps is i h.there h.kind in
         split bs b.0 b.1 b.2 (ends_at d bays m E steps is i h.there h.kind)
       where
-        split : (ks : List Bay) (b : Bay) (rest : List Bay) → ks ≡ b ∷ rest → last_inner c.from ks ≡ c.to
+        split : (ks : List Bay) (b : Bay) (rest : List Bay) → ks ≡ b ∷ rest
+            → last_inner c.from ks ≡ c.to
             → InSomeTile (tiles (tube_start c) (first_bay (tube_bays c ks) ∷ later_bays (tube_bays c ks))) (point p) ↔ InSomeTile (tiles c.from ks) (point p)
         split ks b rest e = subst (λ (ks : List Bay). last_inner c.from ks ≡ c.to → InSomeTile (tiles (tube_start c) (first_bay (tube_bays c ks) ∷ later_bays (tube_bays c ks))) (point p) ↔ InSomeTile (tiles c.from ks) (point p)) (sym e)
             (λ q.
@@ -185,12 +204,15 @@ module _ (d : Plan) (bays : ℕ → List Bay) (m : ℕ) (E : ℕ → Edge) (step
     pub some : IsSome bs
     some = (is.tube i h.there h.kind).some
 
-    corner_of : (t : Tile) (p : Point) (es : List Edge) → IsCornerOf t p → AtArrow es t.a → AtArrow es t.b → AtArrow es t.c → AtArrow es p
+    corner_of : (t : Tile) (p : Point) (es : List Edge) → IsCornerOf t p → AtArrow es t.a
+        → AtArrow es t.b → AtArrow es t.c → AtArrow es p
     corner_of t p es (inl e) a b c = subst (AtArrow es) (sym e) a
     corner_of t p es (inr (inl e)) a b c = subst (AtArrow es) (sym e) b
     corner_of t p es (inr (inr e)) a b c = subst (AtArrow es) (sym e) c
 
-  pub own : (i : ℕ) → IsHalfArc d i → (g : Half) → Has g (l.tube i).halves → (p : Point) → IsEnd (E (edge_of g)) p → IsEndOf (curve d i) p ⊎ ((e : ℕ) → e < m → IsEnd (E e) p → (f e).curve ≡ i)
+  pub own : (i : ℕ) → IsHalfArc d i → (g : Half) → Has g (l.tube i).halves → (p : Point)
+      → IsEnd (E (edge_of g)) p
+      → IsEndOf (curve d i) p ⊎ ((e : ℕ) → e < m → IsEnd (E e) p → (f e).curve ≡ i)
   own i h g has p x = elim (decide_point (curve d i).from p) [
     | inl a ↦ inl (inl a)
     | inr u ↦ elim (decide_point (curve d i).to p) [
@@ -209,13 +231,15 @@ module _ (d : Plan) (bays : ℕ → List Bay) (m : ℕ) (E : ℕ → Edge) (step
     ]
   ]
     where
-      event : (p : Point) (e : ℕ) → e < m → IsEnd (E e) p → (k : ℕ) × (k < length steps) × ((get_or steps k no_step).at ≡ p)
+      event : (p : Point) (e : ℕ) → e < m → IsEnd (E e) p
+          → (k : ℕ) × (k < length steps) × ((get_or steps k no_step).at ≡ p)
       event p e k x =
           let u = run_weight m E steps [] is.run in
           end_event (replay u.weight m E steps) (swept_whole u.weight m E steps u.swept) e p k x
 
   module _ (settled : IsSettledRun d bays m E) where
-    enter : (e : ℕ) → e < m → (p : Point) → IsEnd (E e) p → (i : ℕ) → IsHalfArc d i → (t : Tile) → Has t (tiles_of (l.tube i)) → InTile t (point p) → IsCornerOf t p
+    enter : (e : ℕ) → e < m → (p : Point) → IsEnd (E e) p → (i : ℕ) → IsHalfArc d i → (t : Tile)
+        → Has t (tiles_of (l.tube i)) → InTile t (point p) → IsCornerOf t p
     enter e k p x i h t n inside =
         let u = (own_place i h p).0 (t, n, inside) in
         let q = settled.enter e k p x i h.there h.kind u.0 u.1 u.2 in
@@ -226,7 +250,9 @@ module _ (d : Plan) (bays : ℕ → List Bay) (m : ℕ) (E : ℕ → Edge) (step
         tile_corner (l.tube i).arc (l.tube i).arc.from ((l.tube i).bay ∷ (l.tube i).bays) t p tube.tube.are_bays n inside
         (edge_arrow E (bounds (l.tube i).arc.from ((l.tube i).bay ∷ (l.tube i).bays)) (l.tube i).halves g.0 p tube.bounds g.1 g.2)
 
-    chord : (i j : ℕ) → IsStraight d i → IsHalfArc d j → HaveSameEnds (curve d i) (curve d j) → (b : Bay) → Has b ((l.tube j).bay ∷ (l.tube j).bays) → IsEndOf (curve d j) b.inner ⊎ (pos 0 <ℤ bow (arc (curve d j)) (point b.inner))
+    chord : (i j : ℕ) → IsStraight d i → IsHalfArc d j → HaveSameEnds (curve d i) (curve d j)
+        → (b : Bay) → Has b ((l.tube j).bay ∷ (l.tube j).bays)
+        → IsEndOf (curve d j) b.inner ⊎ (pos 0 <ℤ bow (arc (curve d j)) (point b.inner))
     chord i j a h same b has = elim (right_inner (third_is_left (curve d j)) (curve d j) (bays j) b (some j h) has) [
       | inl e ↦ inl (inl (sym e))
       | inr r ↦ subst (λ (q : Point). IsEndOf (curve d j) q ⊎ (pos 0 <ℤ bow (arc (curve d j)) (point q))) r.2 (settled.chord i j a.there h.there a.kind h.kind same r.0 r.1)

@@ -1,6 +1,7 @@
 -- A settled drawing keeps the rules on tubes: with face numbers each tube has one face within, which has no other half-edges and is not the
 -- outer one, and one face along each chain.
-use Rattle.std.proofs.Common.{◌≡◌, ℕ, ◌⊎◌, inl, inr, List, [], ◌∷◌, map, ℤ, pos, ◌<ℤ◌, ◌≤ℤ◌, refl, arith, ap, sym, ◌∙◌, subst}
+use Rattle.std.proofs.Common.{◌≡◌, ℕ, ◌⊎◌, inl, inr, List, [], ◌∷◌, map, ℤ, pos, ◌<ℤ◌, ◌≤ℤ◌, refl}
+use Rattle.std.proofs.Common.{arith, ap, sym, ◌∙◌, subst}
 use Rattle.std.proofs.lemmas.Int.{ints}
 use Rattle.plane.specs.declared.kinds.Point.{Point}
 use Rattle.plane.specs.Lists.{Has}
@@ -40,7 +41,8 @@ matches_map E [] = tt
 matches_map E (h ∷ hs) = (refl, matches_map E hs)
 
 -- each half-edge of a list is of the one kind or of the other
-pub chains : (x : Half) (hs : List Half) → Has x hs → Has x (inner_halves hs) ⊎ Has x (outer_halves hs)
+pub chains : (x : Half) (hs : List Half) → Has x hs
+    → Has x (inner_halves hs) ⊎ Has x (outer_halves hs)
 chains x [] m = absurd m
 chains x (g ∷ []) m = inr m
 chains x (g ∷ (h ∷ rest)) (inl e) = inl (inl e)
@@ -50,7 +52,9 @@ chains x (g ∷ (h ∷ rest)) (inr (inr m)) = elim (chains x rest m) [ inl y ↦
 -- ---- what neighbours along a chain share, the chain shares
 module _ (E : ℕ → Edge) (h : HalfArc) (Ours : Half → Type 0) (F : Half → ℕ)
     (step : (g f : Half) → Ours g → Ours f → (way E g).high ≡ (way E f).low → pos 0 <ℤ along h (point (way E f).low) → along h (point (way E f).low) <ℤ chord h → F g ≡ F f) where
-  inner_same : (p u : Point) (ks : List Bay) (hs : List Half) → Matches E (fence p u ks) hs → ((x : Half) → Has x hs → Ours x) → pos 0 <ℤ along h (point u) → along h (point u) <ℤ along h (point p) → along h (point p) ≤ℤ chord h → Rests h p ks
+  inner_same : (p u : Point) (ks : List Bay) (hs : List Half) → Matches E (fence p u ks) hs
+      → ((x : Half) → Has x hs → Ours x) → pos 0 <ℤ along h (point u)
+      → along h (point u) <ℤ along h (point p) → along h (point p) ≤ℤ chord h → Rests h p ks
       → (g : Half) → Ours g → (way E g).high ≡ p → (x : Half) → Has x (inner_halves hs) → F g ≡ F x
   inner_same p u [] [] m ours low up top r g og at_g x n = absurd n
   inner_same p u [] (y ∷ []) m ours low up top r g og at_g x n = absurd n
@@ -69,7 +73,9 @@ module _ (E : ℕ → Edge) (h : HalfArc) (Ours : Half → Type 0) (F : Half →
         | inr q ↦ first ∙ inner_same k.inner k.outer ks hs m.1.1 (λ v w. ours v (inr (inr w))) (omega (arith, ints, low, up, on1)) on2 end (rests_after h p k ks r) y (ours y (inl refl)) (sym (ap (λ (e : Edge). e.high) m.0)) x q
       ]
 
-  outer_same : (p u : Point) (ks : List Bay) (hs : List Half) → Matches E (fence p u ks) hs → ((x : Half) → Has x hs → Ours x) → pos 0 <ℤ along h (point u) → along h (point u) <ℤ along h (point p) → along h (point p) ≤ℤ chord h → Rests h p ks
+  outer_same : (p u : Point) (ks : List Bay) (hs : List Half) → Matches E (fence p u ks) hs
+      → ((x : Half) → Has x hs → Ours x) → pos 0 <ℤ along h (point u)
+      → along h (point u) <ℤ along h (point p) → along h (point p) ≤ℤ chord h → Rests h p ks
       → (g : Half) → Ours g → (way E g).low ≡ u → (x : Half) → Has x (outer_halves hs) → F x ≡ F g
   outer_same p u [] [] m ours low up top r g og at_g x n = absurd n
   outer_same p u [] (y ∷ []) m ours low up top r g og at_g x (inl e) =
@@ -105,7 +111,8 @@ pub record AreChains (E : ℕ → Edge) (a : Point) (k : Bay) (Ours : Half → T
 
 module _ (E : ℕ → Edge) (h : HalfArc) (Ours : Half → Type 0) (F : Half → ℕ)
     (step : (g f : Half) → Ours g → Ours f → (way E g).high ≡ (way E f).low → pos 0 <ℤ along h (point (way E f).low) → along h (point (way E f).low) <ℤ chord h → F g ≡ F f) where
-  chains_same : (k : Bay) (ks : List Bay) (hs : List Half) → Matches E (bounds h.from (k ∷ ks)) hs → ((x : Half) → Has x hs → Ours x) → IsRest h h.from k ks → AreChains E h.from k Ours F hs
+  chains_same : (k : Bay) (ks : List Bay) (hs : List Half) → Matches E (bounds h.from (k ∷ ks)) hs
+      → ((x : Half) → Has x hs → Ours x) → IsRest h h.from k ks → AreChains E h.from k Ours F hs
   chains_same k ks [] m ours r = absurd m
   chains_same k ks (y ∷ []) m ours r = absurd m.1
   chains_same k ks (y ∷ (z ∷ hs)) m ours r =
@@ -156,7 +163,8 @@ module _ (d : Plan) (l : EdgeList) (is : IsEdgeList d l) (settled : IsSettled d 
     Ours g = Has g t.halves
 
     -- a corner strictly between the ends of the chord is no end of the half arc
-    middle : (q : Point) → pos 0 <ℤ along t.arc (point q) → along t.arc (point q) <ℤ chord t.arc → IsEndOf (curve d i) q → ⊥
+    middle : (q : Point) → pos 0 <ℤ along t.arc (point q) → along t.arc (point q) <ℤ chord t.arc
+        → IsEndOf (curve d i) q → ⊥
     middle q low high e = elim (ends_arc l.edges l.edge (curve d i) t tube q e) [
       | inl x ↦ let y = ap (λ (p : Point). along t.arc (point p)) x in let f = along-from t.arc in omega (arith, ints, y, f, low)
       | inr x ↦ let y = ap (λ (p : Point). along t.arc (point p)) (x ∙ tip_is t.bay t.bays t.arc.to tube.tube.ends) in let f = along-to t.arc in omega (arith, ints, y, f, high)

@@ -1,6 +1,7 @@
 -- The cells under all edges, and those over all edges, are linked to the first cell.
 -- At each event the border goes on under it and over it.
-use Rattle.std.proofs.Common.{ℕ, zero, suc, ◌<◌, ◌≤◌, List, length, refl, arith, ap, sym, inl, inr, subst}
+use Rattle.std.proofs.Common.{ℕ, zero, suc, ◌<◌, ◌≤◌, List, length, refl, arith, ap, sym, inl, inr}
+use Rattle.std.proofs.Common.{subst}
 use Rattle.plane.specs.Faces.Replays.{Replay}
 use Rattle.plane.proofs.Runs.RunWords.{IsRun, IsLawful}
 use Rattle.plane.specs.Faces.Cells.{Sector, IsSector, corner, IsBorder, Linked, stays, back}

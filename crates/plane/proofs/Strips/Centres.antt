@@ -1,6 +1,7 @@
 -- No cell is empty: between two neighbours of a list in strict order there is a place.
 -- Places of one strip with the same edges below them are joined by a segment that hits no edge.
-use Rattle.std.proofs.Common.{◌≡◌, ℕ, zero, suc, ◌<◌, ◌≤◌, List, [], ◌∷◌, length, map, ℤ, pos, ◌+ℤ◌, ◌*ℤ◌, ◌-ℤ◌, ◌<ℤ◌, refl, arith, ap, sym, ◌∙◌, inl, inr, subst}
+use Rattle.std.proofs.Common.{◌≡◌, ℕ, zero, suc, ◌<◌, ◌≤◌, List, [], ◌∷◌, length, map, ℤ, pos, ◌+ℤ◌}
+use Rattle.std.proofs.Common.{◌*ℤ◌, ◌-ℤ◌, ◌<ℤ◌, refl, arith, ap, sym, ◌∙◌, inl, inr, subst}
 use Rattle.std.proofs.lemmas.Int.{ints}
 use Rattle.plane.specs.Lists.{Has, Neighbours}
 use Rattle.plane.specs.Forms.Vectors.{Vector, Place, mix, Edge, side, sweep, up, rise, gap}
@@ -30,7 +31,8 @@ lifted_sweep w d t z =
     let c : t *ℤ pos 0 ≡ pos 0 = omega (arith, ints) in
     omega (arith, ints, a, b, c)
 
-pub lifted_side : (w d t : ℤ) (z : Vector) (e : Edge) → from_height d t (wall w z e) ≡ side e (lifted w d t z)
+pub lifted_side : (w d t : ℤ) (z : Vector) (e : Edge)
+    → from_height d t (wall w z e) ≡ side e (lifted w d t z)
 lifted_side w d t z e = sym (side-mix e d z t (up w) ∙ ap (λ (x : ℤ). (d *ℤ side e z) +ℤ (t *ℤ x)) (side-up w e))
 
 pub lifted_scale : (c d n t : ℤ) → c *ℤ ((d *ℤ n) +ℤ (t *ℤ pos 0)) ≡ d *ℤ (c *ℤ n)
@@ -42,7 +44,8 @@ lifted_place w d t z D Z =
     let c : t *ℤ pos 0 ≡ pos 0 = omega (arith, ints) in
     omega (arith, ints, a, c)
 
-pub lifted_inside : (r : Replay) (k : ℕ) (d t : ℤ) (z : Vector) → pos 0 <ℤ d → IsBetweenEvents r k z → IsBetweenEvents r k (lifted r.weight d t z)
+pub lifted_inside : (r : Replay) (k : ℕ) (d t : ℤ) (z : Vector) → pos 0 <ℤ d → IsBetweenEvents r k z
+    → IsBetweenEvents r k (lifted r.weight d t z)
 lifted_inside r k d t z D h =
     let s = lifted_sweep r.weight d t z in
     record {
@@ -51,18 +54,23 @@ lifted_inside r k d t z D h =
     }
 
 -- ---- walls in order
-pub walls_rise : (w : ℤ) (E : ℕ → Edge) (z : Vector) (es : List ℕ) → ((e : ℕ) → Has e es → pos 0 <ℤ rise w (E e)) → (b : Wall) → Has b (map (λ e. wall w z (E e)) es) → pos 0 <ℤ b.rise
+pub walls_rise : (w : ℤ) (E : ℕ → Edge) (z : Vector) (es : List ℕ)
+    → ((e : ℕ) → Has e es → pos 0 <ℤ rise w (E e)) → (b : Wall)
+    → Has b (map (λ e. wall w z (E e)) es) → pos 0 <ℤ b.rise
 walls_rise w E z [] h b m = absurd m
 walls_rise w E z (e ∷ es) h b (inl f) = subst (λ (x : Wall). pos 0 <ℤ x.rise) (sym f) (h e (inl refl))
 walls_rise w E z (e ∷ es) h b (inr m) = walls_rise w E z es (λ d n. h d (inr n)) b m
 
-pub walls_ordered : (w : ℤ) (E : ℕ → Edge) (z : Vector) (es : List ℕ) → Neighbours (λ a b. gap w (E a) (E b) z <ℤ pos 0) es → Neighbours IsLower (map (λ e. wall w z (E e)) es)
+pub walls_ordered : (w : ℤ) (E : ℕ → Edge) (z : Vector) (es : List ℕ)
+    → Neighbours (λ a b. gap w (E a) (E b) z <ℤ pos 0) es
+    → Neighbours IsLower (map (λ e. wall w z (E e)) es)
 unfolding gap
 walls_ordered w E z [] h = tt
 walls_ordered w E z (a ∷ []) h = (tt, tt)
 walls_ordered w E z (a ∷ (b ∷ es)) h = (h.0, walls_ordered w E z (b ∷ es) h.1)
 
-pub length_walls : (w : ℤ) (E : ℕ → Edge) (z : Vector) (es : List ℕ) → length (map (λ e. wall w z (E e)) es) ≡ length es
+pub length_walls : (w : ℤ) (E : ℕ → Edge) (z : Vector) (es : List ℕ)
+    → length (map (λ e. wall w z (E e)) es) ≡ length es
 length_walls w E z [] = refl
 length_walls w E z (e ∷ es) = let k = length_walls w E z es in omega (arith, k)
 

@@ -1,13 +1,15 @@
 -- A segment within one closed strip hits no edge where its ends have the same edges below them.
 -- So places of one cell are joined.
-use Rattle.std.proofs.Common.{◌≡◌, ℕ, zero, suc, ◌<◌, ◌≤◌, [], ◌∷◌, ℤ, pos, ◌+ℤ◌, ◌*ℤ◌, ◌<ℤ◌, ◌≤ℤ◌, refl, arith, ap, ◌∙◌, ◌⊎◌, inl, inr, subst}
+use Rattle.std.proofs.Common.{◌≡◌, ℕ, zero, suc, ◌<◌, ◌≤◌, [], ◌∷◌, ℤ, pos, ◌+ℤ◌, ◌*ℤ◌, ◌<ℤ◌, ◌≤ℤ◌}
+use Rattle.std.proofs.Common.{refl, arith, ap, ◌∙◌, ◌⊎◌, inl, inr, subst}
 use Rattle.std.proofs.lemmas.Int.{ints, by_lt_z}
 use Rattle.plane.specs.Lists.{Has}
 use Rattle.plane.specs.declared.kinds.Point.{Point}
 use Rattle.plane.specs.Forms.Vectors.{Vector, Place, Same, mix, point, side, sweep, On}
 use Rattle.plane.specs.Faces.Replays.{Replay, IsOffEdges, reach}
 use Rattle.plane.proofs.Runs.RunWords.{IsRun, IsLawful, IsBetweenEvents, IsStrip}
-use Rattle.plane.specs.Faces.Cells.{Sector, IsSector, sector, strip, raised, IsFree, JoinedByEdges, arrives, goes}
+use Rattle.plane.specs.Faces.Cells.{Sector, IsSector, sector, strip, raised, IsFree, JoinedByEdges}
+use Rattle.plane.specs.Faces.Cells.{arrives, goes}
 use Rattle.plane.proofs.Algebra.Laws.{product_positive}
 use Rattle.plane.proofs.Algebra.Scaling.{times_le, times_lt, product_negative}
 use Rattle.plane.proofs.Linear.Vectors.{side-mix, sweep-mix, rise-is}
@@ -15,9 +17,11 @@ use Rattle.plane.proofs.Linear.Signs.{mix_place}
 use Rattle.plane.proofs.Linear.Clear.{Agrees, mix_clear, on_same}
 use Rattle.plane.proofs.Strips.CountBelow.{raised_most}
 use Rattle.plane.proofs.Strips.OnSweepLine.{IsLevel}
-use Rattle.plane.proofs.Strips.ToTheRight.{cells_eq, IsClosed, closed_strip, scaled_rising, free_back}
+use Rattle.plane.proofs.Strips.ToTheRight.{cells_eq, IsClosed, closed_strip, scaled_rising}
+use Rattle.plane.proofs.Strips.ToTheRight.{free_back}
 use Rattle.plane.proofs.Strips.OneStrip.{strip_is, strip_only}
-use Rattle.plane.proofs.Strips.OneCut.{sides, parts_agree, parts_nonzero, parts_count, divided_parts}
+use Rattle.plane.proofs.Strips.OneCut.{sides, parts_agree, parts_nonzero, parts_count}
+use Rattle.plane.proofs.Strips.OneCut.{divided_parts}
 use Rattle.plane.proofs.Strips.Centres.{IsCentre, centre}
 use Rattle.plane.proofs.Algebra.Ring.{at, num, plus, times, vars, ring}
 
@@ -43,7 +47,8 @@ mix_reach c s a t b = ring (times (at 0) (plus (times (at 1) (at 2)) (times (at 
 
 module _ (r : Replay) (run : IsRun r) (law : IsLawful r) where
   -- an edge with a place strictly inside a strip is in its live list
-  pub in_live : (k e : ℕ) (z : Vector) → k ≤ r.steps → e < r.edges → IsBetweenEvents r k z → On r.weight (r.edge e) z → Has e (r.list k)
+  pub in_live : (k e : ℕ) (z : Vector) → k ≤ r.steps → e < r.edges → IsBetweenEvents r k z
+      → On r.weight (r.edge e) z → Has e (r.list k)
   in_live k e z h l inside on =
       let b = run.begins e l in
       let d = run.ends e l in
@@ -62,7 +67,8 @@ module _ (r : Replay) (run : IsRun r) (law : IsLawful r) where
       absurd (omega (arith, ints, f, g, low)))
 
   -- an edge with a place on an event's sweep line is live before it or after it
-  pub in_either : (k e : ℕ) (o : Vector) → k < r.steps → e < r.edges → Place o → IsLevel r k o → On r.weight (r.edge e) o → Has e (r.list k) ⊎ Has e (r.list (suc k))
+  pub in_either : (k e : ℕ) (o : Vector) → k < r.steps → e < r.edges → Place o → IsLevel r k o
+      → On r.weight (r.edge e) o → Has e (r.list k) ⊎ Has e (r.list (suc k))
   in_either k e o h l O level on =
       let b = run.begins e l in
       let d = run.ends e l in
@@ -92,7 +98,8 @@ module _ (r : Replay) (run : IsRun r) (law : IsLawful r) where
       absurd (omega (arith, ints, f, g, t, u, v))))))
 
   -- the law of one strip
-  pub free_inside : (k : ℕ) (p q : Vector) → k ≤ r.steps → Place p → Place q → IsOffEdges r p → IsOffEdges r q → IsClosed r k p → IsClosed r k q
+  pub free_inside : (k : ℕ) (p q : Vector) → k ≤ r.steps → Place p → Place q → IsOffEdges r p
+      → IsOffEdges r q → IsClosed r k p → IsClosed r k q
       → ((j : ℕ) → k ≤ j → j < r.steps → sweep r.weight p <ℤ (reach r j *ℤ p.n))
       → ((j : ℕ) → j < k → (reach r j *ℤ q.n) <ℤ sweep r.weight q)
       → ((e : ℕ) → Has e (r.list k) → Agrees (r.edge e) p q) → IsFree r p q
@@ -123,7 +130,8 @@ module _ (r : Replay) (run : IsRun r) (law : IsLawful r) where
             | inr c ↦ (let f = product_negative s (side (r.edge e) p) hs c.0 in let g = product_negative t (side (r.edge e) q) ht c.1 in omega (arith, ints, m, z, f, g))
           ]
 
-      hit : (s t : ℤ) → pos 0 ≤ℤ s → pos 0 ≤ℤ t → pos 0 <ℤ (s +ℤ t) → On r.weight (r.edge e) (mix s p t q) → ⊥
+      hit : (s t : ℤ) → pos 0 ≤ℤ s → pos 0 ≤ℤ t → pos 0 <ℤ (s +ℤ t)
+          → On r.weight (r.edge e) (mix s p t q) → ⊥
       hit s t hs ht some on = by_lt_z (pos 0) s
           (λ (x : pos 0 <ℤ s). by_lt_z (pos 0) t (λ (y : pos 0 <ℤ t). crossed s t x y on)
           (λ (y : t ≤ℤ pos 0).
@@ -159,7 +167,8 @@ module _ (r : Replay) (run : IsRun r) (law : IsLawful r) where
       cells_eq (sector r z) c e (ap (λ (j : ℕ). raised r z (r.list j)) e ∙ n)
 
   -- a place of the cell and a place inside it
-  pub free_to_centre : (p z : Vector) → Place p → IsOffEdges r p → IsCentre r (sector r p) z → IsFree r p z
+  pub free_to_centre : (p z : Vector) → Place p → IsOffEdges r p → IsCentre r (sector r p) z
+      → IsFree r p z
   free_to_centre p z P off m =
       let k = strip r p in
       let s = strip_is r run p P in
@@ -171,7 +180,8 @@ module _ (r : Replay) (run : IsRun r) (law : IsLawful r) where
   cell_is p P = let s = strip_is r run p P in record { strip = s.fits; index = raised_most r p (r.list (strip r p)) }
 
   -- two places of one cell are joined
-  pub one_cell : (p q : Vector) → Place p → Place q → IsOffEdges r p → IsOffEdges r q → sector r p ≡ sector r q → JoinedByEdges r p q
+  pub one_cell : (p q : Vector) → Place p → Place q → IsOffEdges r p → IsOffEdges r q
+      → sector r p ≡ sector r q → JoinedByEdges r p q
   one_cell p q P Q off_p off_q e =
       let c = centre r run law (sector r p) (cell_is p P) in
       let z = c.0 in

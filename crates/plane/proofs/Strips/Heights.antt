@@ -1,6 +1,7 @@
 -- Heights on a sweep line, as sides of edges there.
 -- Between two neighbours of an ordered list there is always room.
-use Rattle.std.proofs.Common.{◌≡◌, ℕ, zero, suc, ◌≤◌, List, [], ◌∷◌, length, ℤ, pos, ◌+ℤ◌, ◌*ℤ◌, ◌-ℤ◌, ◌<ℤ◌, ◌≤ℤ◌, refl, arith, inl, inr}
+use Rattle.std.proofs.Common.{◌≡◌, ℕ, zero, suc, ◌≤◌, List, [], ◌∷◌, length, ℤ, pos, ◌+ℤ◌, ◌*ℤ◌}
+use Rattle.std.proofs.Common.{◌-ℤ◌, ◌<ℤ◌, ◌≤ℤ◌, refl, arith, inl, inr}
 use Rattle.std.proofs.lemmas.Int.{ints, by_lt_z}
 use Rattle.plane.specs.Lists.{Has, Neighbours}
 use Rattle.plane.proofs.Algebra.Laws.{product_positive, weight_at_most}
@@ -26,13 +27,15 @@ Parts f i [] = Unit {0}
 Parts f zero (a ∷ rest) = (f a <ℤ pos 0) × Parts f zero rest
 Parts f (suc i) (a ∷ rest) = (pos 0 <ℤ f a) × Parts f i rest
 
-tied : (d t a b m n : ℤ) → a *ℤ ((d *ℤ n) +ℤ (t *ℤ b)) ≡ (d *ℤ ((a *ℤ n) -ℤ (b *ℤ m))) +ℤ (b *ℤ ((d *ℤ m) +ℤ (t *ℤ a)))
+tied : (d t a b m n : ℤ)
+    → a *ℤ ((d *ℤ n) +ℤ (t *ℤ b)) ≡ (d *ℤ ((a *ℤ n) -ℤ (b *ℤ m))) +ℤ (b *ℤ ((d *ℤ m) +ℤ (t *ℤ a)))
 tied d t a b m n =
     let D = at 0 in let T = at 1 in let A = at 2 in let B = at 3 in let M = at 4 in let N = at 5 in
     ring (times A (plus (times D N) (times T B))) (plus (times D (minus (times A N) (times B M))) (times B (plus (times D M) (times T A)))) (vars (d ∷ t ∷ a ∷ b ∷ m ∷ n ∷ [])) refl
 
 -- what is under a wall is under the higher ones
-under_next : (d t : ℤ) (a b : Wall) → pos 0 <ℤ d → pos 0 <ℤ a.rise → pos 0 <ℤ b.rise → IsLower a b → from_height d t a <ℤ pos 0 → from_height d t b <ℤ pos 0
+under_next : (d t : ℤ) (a b : Wall) → pos 0 <ℤ d → pos 0 <ℤ a.rise → pos 0 <ℤ b.rise → IsLower a b
+    → from_height d t a <ℤ pos 0 → from_height d t b <ℤ pos 0
 under_next d t a b D A B l h =
     let p = product_negative d ((a.rise *ℤ b.side) -ℤ (b.rise *ℤ a.side)) D l in
     let q = product_negative b.rise (from_height d t a) B h in
@@ -44,7 +47,8 @@ under_next d t a b D A B l h =
     sum_below x y u v e z p q = omega (arith, ints)
 
 -- what is over a wall is over the lower ones
-over_previous : (d t : ℤ) (a b : Wall) → pos 0 <ℤ d → pos 0 <ℤ a.rise → pos 0 <ℤ b.rise → IsLower a b → pos 0 <ℤ from_height d t b → pos 0 <ℤ from_height d t a
+over_previous : (d t : ℤ) (a b : Wall) → pos 0 <ℤ d → pos 0 <ℤ a.rise → pos 0 <ℤ b.rise
+    → IsLower a b → pos 0 <ℤ from_height d t b → pos 0 <ℤ from_height d t a
 over_previous d t a b D A B l h =
     let p = product_negative d ((a.rise *ℤ b.side) -ℤ (b.rise *ℤ a.side)) D l in
     let q = product_positive a.rise (from_height d t b) A h in
@@ -77,7 +81,8 @@ above_one a A = by_lt_z (pos 0) a.side
     let p = weight_at_most (pos 1 -ℤ a.side) a.rise (omega (arith, ints)) A in
     (pos 1 -ℤ a.side, omega (arith, ints, p)))
 
-middle_over : (a b m n : ℤ) → ((a +ℤ b) *ℤ m) +ℤ ((pos 0 -ℤ (m +ℤ n)) *ℤ a) ≡ pos 0 -ℤ ((a *ℤ n) -ℤ (b *ℤ m))
+middle_over : (a b m n : ℤ)
+    → ((a +ℤ b) *ℤ m) +ℤ ((pos 0 -ℤ (m +ℤ n)) *ℤ a) ≡ pos 0 -ℤ ((a *ℤ n) -ℤ (b *ℤ m))
 middle_over a b m n =
     let A = at 0 in let B = at 1 in let M = at 2 in let N = at 3 in
     ring (plus (times (plus A B) M) (times (minus (num (pos 0)) (plus M N)) A)) (minus (num (pos 0)) (minus (times A N) (times B M))) (vars (a ∷ b ∷ m ∷ n ∷ [])) refl
@@ -88,14 +93,16 @@ middle_under a b m n =
     ring (plus (times (plus A B) N) (times (minus (num (pos 0)) (plus M N)) B)) (minus (times A N) (times B M)) (vars (a ∷ b ∷ m ∷ n ∷ [])) refl
 
 -- under the first wall is under all
-all_under : (d t : ℤ) → pos 0 <ℤ d → (a : Wall) (ws : List Wall) → ((b : Wall) → Has b (a ∷ ws) → pos 0 <ℤ b.rise) → Neighbours IsLower (a ∷ ws)
+all_under : (d t : ℤ) → pos 0 <ℤ d → (a : Wall) (ws : List Wall)
+    → ((b : Wall) → Has b (a ∷ ws) → pos 0 <ℤ b.rise) → Neighbours IsLower (a ∷ ws)
     → from_height d t a <ℤ pos 0 → Parts (from_height d t) 0 (a ∷ ws)
 all_under d t D a [] rises o h = (h, tt)
 all_under d t D a (b ∷ ws) rises o h =
     (h, all_under d t D b ws (λ c m. rises c (inr m)) o.1 (under_next d t a b D (rises a (inl refl)) (rises b (inr (inl refl))) o.0 h))
 
 -- in an ordered list there is room at each index
-pub room : (i : ℕ) (ws : List Wall) → i ≤ length ws → ((b : Wall) → Has b ws → pos 0 <ℤ b.rise) → Neighbours IsLower ws → HasRoom i ws
+pub room : (i : ℕ) (ws : List Wall) → i ≤ length ws → ((b : Wall) → Has b ws → pos 0 <ℤ b.rise)
+    → Neighbours IsLower ws → HasRoom i ws
 room i [] h rises o = record { d = pos 1; t = pos 0; whole = omega (arith, ints); parts = tt }
 room zero (a ∷ ws) h rises o =
     let b = below_one a (rises a (inl refl)) in

@@ -1,6 +1,7 @@
 -- A place on an event's sweep line: its cell before the event opens to its cell after it.
 -- The opening goes below the event or above it.
-use Rattle.std.proofs.Common.{◌≡◌, ℕ, suc, ◌+◌, ◌<◌, ◌≤◌, List, ◌++◌, length, ℤ, pos, ◌+ℤ◌, ◌*ℤ◌, ◌<ℤ◌, ◌≤ℤ◌, refl, arith, ap, sym, ◌⊎◌, inl, inr, subst}
+use Rattle.std.proofs.Common.{◌≡◌, ℕ, suc, ◌+◌, ◌<◌, ◌≤◌, List, ◌++◌, length, ℤ, pos, ◌+ℤ◌, ◌*ℤ◌}
+use Rattle.std.proofs.Common.{◌<ℤ◌, ◌≤ℤ◌, refl, arith, ap, sym, ◌⊎◌, inl, inr, subst}
 use Rattle.std.proofs.lemmas.Int.{ints}
 use Rattle.plane.specs.Lists.{Has}
 use Rattle.plane.specs.declared.kinds.Point.{Point}
@@ -26,7 +27,8 @@ side_from w e o v h =
     let l = side-lift w e o (point v) (let c = product_comm o.n (sweep w (point v)) in omega (arith, ints, h, c)) in
     omega (arith, ints, l)
 
-pub under_event : (w : ℤ) (e : Edge) (o : Vector) (v : Point) → Place o → sweep w o ≡ sweep w (point v) *ℤ o.n → pos 0 <ℤ rise w e
+pub under_event : (w : ℤ) (e : Edge) (o : Vector) (v : Point) → Place o
+    → sweep w o ≡ sweep w (point v) *ℤ o.n → pos 0 <ℤ rise w e
     → lift o (point v) <ℤ pos 0 → side e (point v) ≤ℤ pos 0 → side e o <ℤ pos 0
 under_event w e o v O h u l s =
     let a = product_negative (rise w e) (lift o (point v)) u l in
@@ -35,7 +37,8 @@ under_event w e o v O h u l s =
     let f = side_from w e o v h in
     omega (arith, ints, a, b, c, f)
 
-pub over_event : (w : ℤ) (e : Edge) (o : Vector) (v : Point) → Place o → sweep w o ≡ sweep w (point v) *ℤ o.n → pos 0 <ℤ rise w e
+pub over_event : (w : ℤ) (e : Edge) (o : Vector) (v : Point) → Place o
+    → sweep w o ≡ sweep w (point v) *ℤ o.n → pos 0 <ℤ rise w e
     → pos 0 <ℤ lift o (point v) → pos 0 ≤ℤ side e (point v) → pos 0 <ℤ side e o
 over_event w e o v O h u l s =
     let a = product_positive (lift o (point v)) (rise w e) l u in
@@ -44,7 +47,8 @@ over_event w e o v O h u l s =
     omega (arith, ints, a, b, f)
 
 -- at the event itself each edge that ends there is met
-pub at_event : (w : ℤ) (e : Edge) (o : Vector) (v : Point) → Place o → sweep w o ≡ sweep w (point v) *ℤ o.n → pos 0 <ℤ rise w e
+pub at_event : (w : ℤ) (e : Edge) (o : Vector) (v : Point) → Place o
+    → sweep w o ≡ sweep w (point v) *ℤ o.n → pos 0 <ℤ rise w e
     → lift o (point v) ≡ pos 0 → (e.low ≡ v) ⊎ (e.high ≡ v) → On w e o
 at_event w e o v O h u l (inl s) =
     let z : side e (point v) ≡ pos 0 = subst (λ (p : Point). side e (point p) ≡ pos 0) s (side-low e) in
@@ -86,21 +90,25 @@ module _ (r : Replay) (run : IsRun r) (law : IsLawful r) where
   pub rise_of : (k e : ℕ) → k ≤ r.steps → Has e (r.list k) → pos 0 <ℤ rise r.weight (r.edge e)
   rise_of k e h m = run.rise e (law.live k e h m)
 
-  pub ending_zero : (k e : ℕ) → k < r.steps → Has e (r.step k).ending → side (r.edge e) (point (r.step k).at) ≡ pos 0
+  pub ending_zero : (k e : ℕ) → k < r.steps → Has e (r.step k).ending
+      → side (r.edge e) (point (r.step k).at) ≡ pos 0
   ending_zero k e h m = subst (λ (p : Point). side (r.edge e) (point p) ≡ pos 0) (run.ending k h e m) (side-high (r.edge e))
 
-  pub starting_zero : (k e : ℕ) → k < r.steps → Has e (r.step k).starting → side (r.edge e) (point (r.step k).at) ≡ pos 0
+  pub starting_zero : (k e : ℕ) → k < r.steps → Has e (r.step k).starting
+      → side (r.edge e) (point (r.step k).at) ≡ pos 0
   starting_zero k e h m = subst (λ (p : Point). side (r.edge e) (point p) ≡ pos 0) (run.starting k h e m) (side-low (r.edge e))
 
   -- ---- the counts before and after an event
-  pub raised_before : (k : ℕ) (o : Vector) → k < r.steps → raised r o (r.list k) ≡ raised r o (r.step k).below + (raised r o (r.step k).ending + raised r o (r.step k).above)
+  pub raised_before : (k : ℕ) (o : Vector) → k < r.steps
+      → raised r o (r.list k) ≡ raised r o (r.step k).below + (raised r o (r.step k).ending + raised r o (r.step k).above)
   raised_before k o h =
       let a = ap (raised r o) (run.before k h) in
       let b = raised_append r o (r.step k).below ((r.step k).ending ++ (r.step k).above) in
       let c = raised_append r o (r.step k).ending (r.step k).above in
       omega (arith, a, b, c)
 
-  pub raised_after : (k : ℕ) (o : Vector) → k < r.steps → raised r o (r.list (suc k)) ≡ raised r o (r.step k).below + (raised r o (r.step k).starting + raised r o (r.step k).above)
+  pub raised_after : (k : ℕ) (o : Vector) → k < r.steps
+      → raised r o (r.list (suc k)) ≡ raised r o (r.step k).below + (raised r o (r.step k).starting + raised r o (r.step k).above)
   raised_after k o h =
       let a = ap (raised r o) (run.after k h) in
       let b = raised_append r o (r.step k).below ((r.step k).starting ++ (r.step k).above) in
@@ -108,10 +116,12 @@ module _ (r : Replay) (run : IsRun r) (law : IsLawful r) where
       omega (arith, a, b, c)
 
   -- ---- the opening
-  pub opens_at : (k : ℕ) (o : Vector) → k < r.steps → Place o → IsOffEdges r o → IsLevel r k o → Opens r (sector_at r o k) (sector_at r o (suc k))
+  pub opens_at : (k : ℕ) (o : Vector) → k < r.steps → Place o → IsOffEdges r o → IsLevel r k o
+      → Opens r (sector_at r o k) (sector_at r o (suc k))
   opens_at k o h O off level = by_sign (lift o (point (r.step k).at)) low mid high
     where
-      low : lift o (point (r.step k).at) <ℤ pos 0 → Opens r (sector_at r o k) (sector_at r o (suc k))
+      low : lift o (point (r.step k).at) <ℤ pos 0
+          → Opens r (sector_at r o k) (sector_at r o (suc k))
       low l =
           let before = raised_before k o h in
           let after = raised_after k o h in
@@ -130,7 +140,8 @@ module _ (r : Replay) (run : IsRun r) (law : IsLawful r) where
       mid : lift o (point (r.step k).at) ≡ pos 0 → Opens r (sector_at r o k) (sector_at r o (suc k))
       mid l = let m = run.met k h in absurd (off m.0 m.1 (at_event r.weight (r.edge m.0) o (r.step k).at O level (run.rise m.0 m.1) l m.2))
 
-      high : pos 0 <ℤ lift o (point (r.step k).at) → Opens r (sector_at r o k) (sector_at r o (suc k))
+      high : pos 0 <ℤ lift o (point (r.step k).at)
+          → Opens r (sector_at r o k) (sector_at r o (suc k))
       high l =
           let before = raised_before k o h in
           let after = raised_after k o h in

@@ -1,11 +1,13 @@
 -- Each place has exactly one strip, and linked cells are an equivalence.
 -- A segment that hits no edge has linked cells at its ends.
-use Rattle.std.proofs.Common.{◌≡◌, ℕ, zero, suc, ◌+◌, ◌<◌, ◌≤◌, Bool, true, false, cond, ◌*ℤ◌, ◌-ℤ◌, ◌<ℤ◌, ◌≤ℤ◌, refl, arith, ap, sym, ◌∙◌, subst}
+use Rattle.std.proofs.Common.{◌≡◌, ℕ, zero, suc, ◌+◌, ◌<◌, ◌≤◌, Bool, true, false, cond, ◌*ℤ◌, ◌-ℤ◌}
+use Rattle.std.proofs.Common.{◌<ℤ◌, ◌≤ℤ◌, refl, arith, ap, sym, ◌∙◌, subst}
 use Rattle.std.proofs.lemmas.Int.{ints, by_lt_z}
 use Rattle.plane.specs.Forms.Vectors.{Vector, Place, sweep}
 use Rattle.plane.specs.Faces.Replays.{Replay, reach}
 use Rattle.plane.proofs.Runs.RunWords.{IsRun, IsLawful, IsStrip}
-use Rattle.plane.specs.Faces.Cells.{is_positive, passed, strip, Sector, sector, Opens, Linked, stays, onward, back, IsFree}
+use Rattle.plane.specs.Faces.Cells.{is_positive, passed, strip, Sector, sector, Opens, Linked}
+use Rattle.plane.specs.Faces.Cells.{stays, onward, back, IsFree}
 use Rattle.plane.proofs.Strips.CountBelow.{positive_is, not_positive}
 use Rattle.plane.proofs.Strips.ToTheRight.{free_back, linked_right, scaled_rising}
 
@@ -21,7 +23,8 @@ linked_back r _ _ (onward c x d o l) = linked_join r d x c (linked_back r x d l)
 linked_back r _ _ (back c x d o l) = linked_join r d x c (linked_back r x d l) (onward x c c o (stays c c refl))
 
 -- what is kept where cells open to each other is kept by linked cells
-pub linked_keeps : {X : Type 0} (r : Replay) (f : Sector → X) → ((c d : Sector) → Opens r c d → f c ≡ f d) → (c d : Sector) → Linked r c d → f c ≡ f d
+pub linked_keeps : {X : Type 0} (r : Replay) (f : Sector → X)
+    → ((c d : Sector) → Opens r c d → f c ≡ f d) → (c d : Sector) → Linked r c d → f c ≡ f d
 linked_keeps r f k _ _ (stays c d h) = ap f h
 linked_keeps r f k _ _ (onward c x d o l) = k c x o ∙ linked_keeps r f k x d l
 linked_keeps r f k _ _ (back c x d o l) = sym (k x c o) ∙ linked_keeps r f k x d l
@@ -40,7 +43,8 @@ by_last (suc j) zero h below here = absurd (omega arith)
 by_last (suc j) (suc k) h below here = by_last j k (omega arith) (λ l. below (omega arith)) (λ e. here (ap (λ (n : ℕ). suc n) e))
 
 module _ (r : Replay) (run : IsRun r) where
-  not_yet : (z : Vector) (k m : ℕ) → IsPassed r z k m → sweep r.weight z <ℤ (reach r k *ℤ z.n) → IsPassed r z (suc k) m
+  not_yet : (z : Vector) (k m : ℕ) → IsPassed r z k m → sweep r.weight z <ℤ (reach r k *ℤ z.n)
+      → IsPassed r z (suc k) m
   not_yet z k m b l = record {
     most = (let n = b.most in omega arith);
     from = b.from;
@@ -48,7 +52,8 @@ module _ (r : Replay) (run : IsRun r) where
         (λ (e : j ≡ k). subst (λ (i : ℕ). sweep r.weight z <ℤ (reach r i *ℤ z.n)) (sym e) l);
   }
 
-  already : (z : Vector) (k m : ℕ) → Place z → k < r.steps → IsPassed r z k m → (reach r k *ℤ z.n) ≤ℤ sweep r.weight z → IsPassed r z (suc k) (suc m)
+  already : (z : Vector) (k m : ℕ) → Place z → k < r.steps → IsPassed r z k m
+      → (reach r k *ℤ z.n) ≤ℤ sweep r.weight z → IsPassed r z (suc k) (suc m)
   already z k m Z h b l = by_last m k (let n = b.most in omega arith)
       (λ (n : m < k).
       let s = scaled_rising r run m k z.n Z n h in
@@ -101,7 +106,8 @@ by_order (suc k) (suc m) f g = by_order k m (λ d e. f d (omega arith)) (λ d e.
 
 module _ (r : Replay) (run : IsRun r) (law : IsLawful r) where
   -- a segment that hits no edge has linked cells at its ends
-  pub segment_linked : (p q : Vector) → Place p → Place q → IsFree r p q → Linked r (sector r p) (sector r q)
+  pub segment_linked : (p q : Vector) → Place p → Place q → IsFree r p q
+      → Linked r (sector r p) (sector r q)
   segment_linked p q P Q free = by_order (strip r p) (strip r q)
       (λ (d : ℕ) (e : strip r q ≡ strip r p + d). linked_right r run law d (strip r p) (strip r q) p q e P Q free (strip_is r run p P) (strip_is r run q Q))
       (λ (d : ℕ) (e : strip r p ≡ strip r q + d). linked_back r _ _ (linked_right r run law d (strip r q) (strip r p) q p e Q P (free_back r p q P Q free) (strip_is r run q Q) (strip_is r run p P)))

@@ -1,6 +1,8 @@
 -- Where a cell opens to the next there is a place on the event's sweep line that lies in the closure of both.
 -- It is below the lowest edge through the event, or above the highest.
-use Rattle.std.proofs.Common.{◌≡◌, ℕ, suc, ◌+◌, ◌<◌, ◌≤◌, List, [], ◌∷◌, ◌++◌, length, map, ℤ, pos, ◌+ℤ◌, ◌*ℤ◌, ◌-ℤ◌, ◌<ℤ◌, ◌≤ℤ◌, refl, arith, ap, sym, ◌∙◌, ◌⊎◌, inl, inr, subst, length-append}
+use Rattle.std.proofs.Common.{◌≡◌, ℕ, suc, ◌+◌, ◌<◌, ◌≤◌, List, [], ◌∷◌, ◌++◌, length, map, ℤ, pos}
+use Rattle.std.proofs.Common.{◌+ℤ◌, ◌*ℤ◌, ◌-ℤ◌, ◌<ℤ◌, ◌≤ℤ◌, refl, arith, ap, sym, ◌∙◌, ◌⊎◌, inl}
+use Rattle.std.proofs.Common.{inr, subst, length-append}
 use Rattle.std.proofs.lemmas.Int.{ints}
 use Rattle.plane.specs.Lists.{Has, Neighbours}
 use Rattle.plane.specs.Forms.Vectors.{Vector, Place, point, Edge, side, rise}
@@ -9,32 +11,40 @@ use Rattle.plane.proofs.Runs.RunWords.{IsRun, IsLawful}
 use Rattle.plane.proofs.Algebra.Laws.{product_positive}
 use Rattle.plane.proofs.Algebra.Scaling.{times_le}
 use Rattle.plane.proofs.ListLemmas.Lists.{has_append}
-use Rattle.plane.proofs.Strips.OnSweepLine.{IsLevel, in_below, in_ending, in_above, in_starting, rise_of, ending_zero, starting_zero}
+use Rattle.plane.proofs.Strips.OnSweepLine.{IsLevel, in_below, in_ending, in_above, in_starting}
+use Rattle.plane.proofs.Strips.OnSweepLine.{rise_of, ending_zero, starting_zero}
 use Rattle.plane.proofs.Strips.Heights.{Wall, from_height, IsLower, Parts, HasRoom, room}
-use Rattle.plane.proofs.Strips.OneCut.{sides, parts_map, parts_like, parts_low, parts_high, parts_last}
-use Rattle.plane.proofs.Strips.Centres.{lifted, wall, lifted_sweep, lifted_side, lifted_scale, lifted_place, walls_rise, walls_ordered, length_walls}
+use Rattle.plane.proofs.Strips.OneCut.{sides, parts_map, parts_like, parts_low, parts_high}
+use Rattle.plane.proofs.Strips.OneCut.{parts_last}
+use Rattle.plane.proofs.Strips.Centres.{lifted, wall, lifted_sweep, lifted_side, lifted_scale}
+use Rattle.plane.proofs.Strips.Centres.{lifted_place, walls_rise, walls_ordered, length_walls}
 use Rattle.plane.proofs.Algebra.Ring.{at, num, minus, times, vars, ring}
 
 -- the event itself, as a wall of side 0
 abbrev event_wall : Wall
 event_wall = record { side = pos 0; rise = pos 1 }
 
-walls_each : (P : Wall → Type 0) (w : ℤ) (E : ℕ → Edge) (z : Vector) (es : List ℕ) → ((e : ℕ) → Has e es → P (wall w z (E e))) → (b : Wall) → Has b (map (λ e. wall w z (E e)) es) → P b
+walls_each : (P : Wall → Type 0) (w : ℤ) (E : ℕ → Edge) (z : Vector) (es : List ℕ)
+    → ((e : ℕ) → Has e es → P (wall w z (E e))) → (b : Wall) → Has b (map (λ e. wall w z (E e)) es)
+    → P b
 walls_each P w E z [] h b m = absurd m
 walls_each P w E z (e ∷ es) h b (inl f) = subst P (sym f) (h e (inl refl))
 walls_each P w E z (e ∷ es) h b (inr m) = walls_each P w E z es (λ d n. h d (inr n)) b m
 
-lower_last : (ws : List Wall) (v : Wall) → Neighbours IsLower ws → ((a : Wall) → Has a ws → IsLower a v) → Neighbours IsLower (ws ++ (v ∷ []))
+lower_last : (ws : List Wall) (v : Wall) → Neighbours IsLower ws
+    → ((a : Wall) → Has a ws → IsLower a v) → Neighbours IsLower (ws ++ (v ∷ []))
 lower_last [] v h k = (tt, tt)
 lower_last (a ∷ []) v h k = (k a (inl refl), (tt, tt))
 lower_last (a ∷ (b ∷ ws)) v h k = (h.0, lower_last (b ∷ ws) v h.1 (λ c m. k c (inr m)))
 
-lower_first : (v : Wall) (ws : List Wall) → Neighbours IsLower ws → ((a : Wall) → Has a ws → IsLower v a) → Neighbours IsLower (v ∷ ws)
+lower_first : (v : Wall) (ws : List Wall) → Neighbours IsLower ws
+    → ((a : Wall) → Has a ws → IsLower v a) → Neighbours IsLower (v ∷ ws)
 lower_first v [] h k = (tt, tt)
 lower_first v (a ∷ ws) h k = (k a (inl refl), h)
 
 -- sides under and over the event
-side_under : (d t s u : ℤ) → pos 0 <ℤ d → t <ℤ pos 0 → s ≤ℤ pos 0 → pos 0 <ℤ u → ((d *ℤ s) +ℤ (t *ℤ u)) <ℤ pos 0
+side_under : (d t s u : ℤ) → pos 0 <ℤ d → t <ℤ pos 0 → s ≤ℤ pos 0 → pos 0 <ℤ u
+    → ((d *ℤ s) +ℤ (t *ℤ u)) <ℤ pos 0
 side_under d t s u D T S U =
     let a = times_le d s (pos 0) (omega (arith, ints)) S in
     let z : d *ℤ pos 0 ≡ pos 0 = omega (arith, ints) in
@@ -42,14 +52,16 @@ side_under d t s u D T S U =
     let e = ring (times (minus (num (pos 0)) (at 0)) (at 1)) (minus (num (pos 0)) (times (at 0) (at 1))) (vars (t ∷ u ∷ [])) refl in
     omega (arith, ints, a, z, b, e)
 
-side_over : (d t s u : ℤ) → pos 0 <ℤ d → pos 0 <ℤ t → pos 0 ≤ℤ s → pos 0 <ℤ u → pos 0 <ℤ ((d *ℤ s) +ℤ (t *ℤ u))
+side_over : (d t s u : ℤ) → pos 0 <ℤ d → pos 0 <ℤ t → pos 0 ≤ℤ s → pos 0 <ℤ u
+    → pos 0 <ℤ ((d *ℤ s) +ℤ (t *ℤ u))
 side_over d t s u D T S U =
     let a = times_le d (pos 0) s (omega (arith, ints)) S in
     let z : d *ℤ pos 0 ≡ pos 0 = omega (arith, ints) in
     let b = product_positive t u T U in
     omega (arith, ints, a, z, b)
 
-lifted_level : (r : Replay) (k : ℕ) (d t : ℤ) → IsLevel r k (lifted r.weight d t (point (r.step k).at))
+lifted_level : (r : Replay) (k : ℕ) (d t : ℤ)
+    → IsLevel r k (lifted r.weight d t (point (r.step k).at))
 lifted_level r k d t =
     let a = lifted_sweep r.weight d t (point (r.step k).at) in
     let b = lifted_scale (reach r k) d (pos 1) t in
@@ -64,14 +76,17 @@ module _ (r : Replay) (run : IsRun r) (law : IsLawful r) where
   walls k es = map (λ e. wall r.weight (event k) (r.edge e)) es
 
   -- an edge that is not above the event is under each place under the event
-  under : (k : ℕ) (d t : ℤ) (e : ℕ) → pos 0 <ℤ d → t <ℤ pos 0 → side (r.edge e) (event k) ≤ℤ pos 0 → pos 0 <ℤ rise r.weight (r.edge e) → side (r.edge e) (lifted r.weight d t (event k)) <ℤ pos 0
+  under : (k : ℕ) (d t : ℤ) (e : ℕ) → pos 0 <ℤ d → t <ℤ pos 0 → side (r.edge e) (event k) ≤ℤ pos 0
+      → pos 0 <ℤ rise r.weight (r.edge e) → side (r.edge e) (lifted r.weight d t (event k)) <ℤ pos 0
   under k d t e D T s u = subst (λ (x : ℤ). x <ℤ pos 0) (lifted_side r.weight d t (event k) (r.edge e)) (side_under d t (side (r.edge e) (event k)) (rise r.weight (r.edge e)) D T s u)
 
-  over : (k : ℕ) (d t : ℤ) (e : ℕ) → pos 0 <ℤ d → pos 0 <ℤ t → pos 0 ≤ℤ side (r.edge e) (event k) → pos 0 <ℤ rise r.weight (r.edge e) → pos 0 <ℤ side (r.edge e) (lifted r.weight d t (event k))
+  over : (k : ℕ) (d t : ℤ) (e : ℕ) → pos 0 <ℤ d → pos 0 <ℤ t → pos 0 ≤ℤ side (r.edge e) (event k)
+      → pos 0 <ℤ rise r.weight (r.edge e) → pos 0 <ℤ side (r.edge e) (lifted r.weight d t (event k))
   over k d t e D T s u = subst (λ (x : ℤ). pos 0 <ℤ x) (lifted_side r.weight d t (event k) (r.edge e)) (side_over d t (side (r.edge e) (event k)) (rise r.weight (r.edge e)) D T s u)
 
   -- room under the event, among the edges below it
-  room_below : (k i : ℕ) → k < r.steps → i ≤ length (r.step k).below → HasRoom i (walls k (r.step k).below ++ (event_wall ∷ []))
+  room_below : (k i : ℕ) → k < r.steps → i ≤ length (r.step k).below
+      → HasRoom i (walls k (r.step k).below ++ (event_wall ∷ []))
   room_below k i h l =
       let es = (r.step k).below in
       let a = length-append (walls k es) (event_wall ∷ []) in
@@ -81,7 +96,8 @@ module _ (r : Replay) (run : IsRun r) (law : IsLawful r) where
       (lower_last (walls k es) event_wall (walls_ordered r.weight r.edge (event k) es (law.ordered_below k h))
       (walls_each (λ a. IsLower a event_wall) r.weight r.edge (event k) es (λ e m. lower (side (r.edge e) (event k)) (rise r.weight (r.edge e)) (law.under k h e m))))
     where
-      rises : (c : Wall) → Has c (walls k (r.step k).below) ⊎ Has c (event_wall ∷ []) → pos 0 <ℤ c.rise
+      rises : (c : Wall) → Has c (walls k (r.step k).below) ⊎ Has c (event_wall ∷ [])
+          → pos 0 <ℤ c.rise
       rises c (inl m) = walls_rise r.weight r.edge (event k) (r.step k).below (λ e n. rise_of r run law k e (omega arith) (in_below r run law k e h n)) c m
       rises c (inr (inl f)) = subst (λ (x : Wall). pos 0 <ℤ x.rise) (sym f) (omega (arith, ints))
       rises c (inr (inr m)) = absurd m
@@ -90,7 +106,8 @@ module _ (r : Replay) (run : IsRun r) (law : IsLawful r) where
       lower s u a = let z : u *ℤ pos 0 ≡ pos 0 = omega (arith, ints) in omega (arith, ints, z)
 
   -- room over the event, among the edges above it
-  room_above : (k i : ℕ) → k < r.steps → i ≤ length (r.step k).above → HasRoom (suc i) (event_wall ∷ walls k (r.step k).above)
+  room_above : (k i : ℕ) → k < r.steps → i ≤ length (r.step k).above
+      → HasRoom (suc i) (event_wall ∷ walls k (r.step k).above)
   room_above k i h l =
       let es = (r.step k).above in
       let b = length_walls r.weight r.edge (event k) es in
@@ -131,7 +148,8 @@ module _ (r : Replay) (run : IsRun r) (law : IsLawful r) where
       weak : {z : ℤ} → z ≡ pos 0 → z ≤ℤ pos 0
       weak l = omega (arith, ints)
 
-      both : (f : ℕ → ℤ) (xs ys : List ℕ) → ((e : ℕ) → Has e xs → f e <ℤ pos 0) → ((e : ℕ) → Has e ys → f e <ℤ pos 0) → (e : ℕ) → Has e xs ⊎ Has e ys → f e <ℤ pos 0
+      both : (f : ℕ → ℤ) (xs ys : List ℕ) → ((e : ℕ) → Has e xs → f e <ℤ pos 0)
+          → ((e : ℕ) → Has e ys → f e <ℤ pos 0) → (e : ℕ) → Has e xs ⊎ Has e ys → f e <ℤ pos 0
       both f xs ys a b e (inl m) = a e m
       both f xs ys a b e (inr m) = b e m
 

@@ -1,6 +1,7 @@
 -- A place is outer exactly where its cell is linked to the first one.
 -- Far enough to the left every place is in the first cell.
-use Rattle.std.proofs.Common.{◌≡◌, ℕ, zero, suc, ◌<◌, ◌≤◌, List, [], ◌∷◌, length, ℤ, pos, ◌+ℤ◌, ◌*ℤ◌, ◌-ℤ◌, ◌<ℤ◌, ◌≤ℤ◌, refl, arith, ap, sym, ◌∙◌, inr, ◌↔◌, subst}
+use Rattle.std.proofs.Common.{◌≡◌, ℕ, zero, suc, ◌<◌, ◌≤◌, List, [], ◌∷◌, length, ℤ, pos, ◌+ℤ◌}
+use Rattle.std.proofs.Common.{◌*ℤ◌, ◌-ℤ◌, ◌<ℤ◌, ◌≤ℤ◌, refl, arith, ap, sym, ◌∙◌, inr, ◌↔◌, subst}
 use Rattle.std.proofs.lemmas.Int.{ints, by_lt_z}
 use Rattle.plane.specs.declared.kinds.Point.{Point}
 use Rattle.plane.specs.Forms.Vectors.{Vector, Place, point, Edge, side, sweep, rise, InSpan}
@@ -31,7 +32,8 @@ span_x w e z =
     (vars (e.low.x ∷ e.low.y ∷ e.high.x ∷ e.high.y ∷ z.x ∷ z.y ∷ z.n ∷ w ∷ [])) refl
 
 -- a place to the left of an edge's ends, with a sweep value in its span, is above it
-left_of : (w b : ℤ) (e : Edge) (z : Vector) → pos 0 <ℤ rise w e → b ≤ℤ e.low.x → b ≤ℤ e.high.x → InSpan w e z → z.x <ℤ (b *ℤ z.n) → pos 0 <ℤ side e z
+left_of : (w b : ℤ) (e : Edge) (z : Vector) → pos 0 <ℤ rise w e → b ≤ℤ e.low.x → b ≤ℤ e.high.x
+    → InSpan w e z → z.x <ℤ (b *ℤ z.n) → pos 0 <ℤ side e z
 left_of w b e z u l h s left =
     let a = (sweep w (point e.high) *ℤ z.n) -ℤ sweep w z in
     let c = sweep w z -ℤ (sweep w (point e.low) *ℤ z.n) in
@@ -45,7 +47,8 @@ left_of w b e z u l h s left =
     let f = ap (λ (v : ℤ). v *ℤ (b *ℤ z.n)) (rise-is w e) in
     omega (arith, ints, A, C, x, t, d, f)
   where
-    split : (h l n s b : ℤ) → (h -ℤ l) *ℤ (b *ℤ n) ≡ (((h *ℤ n) -ℤ s) *ℤ b) +ℤ ((s -ℤ (l *ℤ n)) *ℤ b)
+    split : (h l n s b : ℤ)
+        → (h -ℤ l) *ℤ (b *ℤ n) ≡ (((h *ℤ n) -ℤ s) *ℤ b) +ℤ ((s -ℤ (l *ℤ n)) *ℤ b)
     split h l n s b =
         let H = at 0 in let L = at 1 in let N = at 2 in let S = at 3 in let B = at 4 in
         ring (times (minus H L) (times B N)) (plus (times (minus (times H N) S) B) (times (minus S (times L N)) B)) (vars (h ∷ l ∷ n ∷ s ∷ b ∷ [])) refl
@@ -61,7 +64,8 @@ low_of_three a b =
     let u = f.1 in let v = f.2 in let x = g.1 in let y = g.2 in
     (g.0, omega (arith, ints, u, x), omega (arith, ints, v, x), y)
 
-pub low_ends : (E : ℕ → Edge) (n : ℕ) → (b : ℤ) × ((e : ℕ) → e < n → (b ≤ℤ (E e).low.x) × (b ≤ℤ (E e).high.x))
+pub low_ends : (E : ℕ → Edge) (n : ℕ)
+    → (b : ℤ) × ((e : ℕ) → e < n → (b ≤ℤ (E e).low.x) × (b ≤ℤ (E e).high.x))
 low_ends E zero = (pos 0, λ (e : ℕ) (l : e < 0). absurd (omega arith))
 low_ends E (suc n) =
     let f = low_ends E n in
@@ -80,7 +84,9 @@ sweep_x w x = ring (plus (times (at 0) (at 1)) (num (pos 0))) (times (at 0) (at 
 
 module _ (r : Replay) (run : IsRun r) (law : IsLawful r) where
   -- a place to the left of all ends is above all edges of its strip
-  pub left_border : (b : ℤ) → ((e : ℕ) → e < r.edges → (b ≤ℤ (r.edge e).low.x) × (b ≤ℤ (r.edge e).high.x)) → (q : Vector) → Place q → q.x <ℤ (b *ℤ q.n) → raised r q (r.list (strip r q)) ≡ length (r.list (strip r q))
+  pub left_border : (b : ℤ)
+      → ((e : ℕ) → e < r.edges → (b ≤ℤ (r.edge e).low.x) × (b ≤ℤ (r.edge e).high.x)) → (q : Vector)
+      → Place q → q.x <ℤ (b *ℤ q.n) → raised r q (r.list (strip r q)) ≡ length (r.list (strip r q))
   left_border b ends q Q left =
       let k = strip r q in
       let s = strip_is r run q Q in
@@ -90,7 +96,8 @@ module _ (r : Replay) (run : IsRun r) (law : IsLawful r) where
       left_of r.weight b (r.edge e) q (run.rise e l) h.0 h.1 (spans_strip r run law k e q s.fits m (closed_strip r k q s)) left)
 
   -- an outer place is linked to the first cell
-  pub outer_linked : (p : Vector) → Place p → IsOffEdges r p → IsOuterByEdges r p → Linked r (sector r p) corner
+  pub outer_linked : (p : Vector) → Place p → IsOffEdges r p → IsOuterByEdges r p
+      → Linked r (sector r p) corner
   outer_linked p P off o =
       let f = low_ends r.edge r.edges in
       let g = o f.0 in
@@ -134,12 +141,14 @@ module _ (r : Replay) (run : IsRun r) (law : IsLawful r) where
       let g = on.low in
       omega (arith, ints, t, f, g)
 
-  pub linked_outer : pos 0 <ℤ r.weight → (p : Vector) → Place p → IsOffEdges r p → Linked r (sector r p) corner → IsOuterByEdges r p
+  pub linked_outer : pos 0 <ℤ r.weight → (p : Vector) → Place p → IsOffEdges r p
+      → Linked r (sector r p) corner → IsOuterByEdges r p
   linked_outer heavy p P off l b =
       let f = far heavy b in
       let q = f.0 in
       (q, f.1, linked_joined r run law p q P f.1 off (first_off q f.3) (subst (λ (c : Sector). Linked r (sector r p) c) (sym (first_cell q f.1 f.3)) l), f.2)
 
   -- both ways
-  pub outer_is_linked : pos 0 <ℤ r.weight → (p : Vector) → Place p → IsOffEdges r p → IsOuterByEdges r p ↔ Linked r (sector r p) corner
+  pub outer_is_linked : pos 0 <ℤ r.weight → (p : Vector) → Place p → IsOffEdges r p
+      → IsOuterByEdges r p ↔ Linked r (sector r p) corner
   outer_is_linked heavy p P off = ((λ o. outer_linked p P off o), (λ l. linked_outer heavy p P off l))

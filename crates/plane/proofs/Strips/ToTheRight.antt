@@ -1,6 +1,7 @@
 -- A segment that hits no edge and runs to the right goes through linked cells.
 -- It meets one event's sweep line after the other.
-use Rattle.std.proofs.Common.{◌≡◌, ℕ, zero, suc, ◌+◌, ◌<◌, ◌≤◌, ℤ, pos, ◌+ℤ◌, ◌*ℤ◌, ◌-ℤ◌, ◌<ℤ◌, ◌≤ℤ◌, [], ◌∷◌, refl, arith, ap, sym, ◌∙◌, ◌⊎◌, inl, inr, subst}
+use Rattle.std.proofs.Common.{◌≡◌, ℕ, zero, suc, ◌+◌, ◌<◌, ◌≤◌, ℤ, pos, ◌+ℤ◌, ◌*ℤ◌, ◌-ℤ◌, ◌<ℤ◌}
+use Rattle.std.proofs.Common.{◌≤ℤ◌, [], ◌∷◌, refl, arith, ap, sym, ◌∙◌, ◌⊎◌, inl, inr, subst}
 use Rattle.std.proofs.lemmas.Int.{ints}
 use Rattle.plane.specs.Lists.{Has}
 use Rattle.plane.specs.declared.kinds.Point.{Point}
@@ -54,7 +55,8 @@ meet w c p q = mix (sweep w q -ℤ (c *ℤ q.n)) p ((c *ℤ p.n) -ℤ sweep w p)
 pub meet_level : (w c : ℤ) (p q : Vector) → sweep w (meet w c p q) ≡ c *ℤ (meet w c p q).n
 meet_level w c p q = sweep-mix w (sweep w q -ℤ (c *ℤ q.n)) p ((c *ℤ p.n) -ℤ sweep w p) q ∙ level c (sweep w p) p.n (sweep w q) q.n
   where
-    level : (c a m b n : ℤ) → ((b -ℤ (c *ℤ n)) *ℤ a) +ℤ (((c *ℤ m) -ℤ a) *ℤ b) ≡ c *ℤ (((b -ℤ (c *ℤ n)) *ℤ m) +ℤ (((c *ℤ m) -ℤ a) *ℤ n))
+    level : (c a m b n : ℤ)
+        → ((b -ℤ (c *ℤ n)) *ℤ a) +ℤ (((c *ℤ m) -ℤ a) *ℤ b) ≡ c *ℤ (((b -ℤ (c *ℤ n)) *ℤ m) +ℤ (((c *ℤ m) -ℤ a) *ℤ n))
     level c a m b n =
         let C = at 0 in let A = at 1 in let M = at 2 in let B = at 3 in let N = at 4 in
         let s = minus B (times C N) in
@@ -71,12 +73,14 @@ module _ (r : Replay) (run : IsRun r) where
       either (suc j) zero h = absurd (omega arith)
       either (suc j) (suc k) h = elim (either j k (omega arith)) [ inl e ↦ inl (ap (λ (n : ℕ). suc n) e) | inr m ↦ inr (omega arith) ]
 
-  pub scaled_reach : (j k : ℕ) (n : ℤ) → pos 0 <ℤ n → j ≤ k → k < r.steps → (reach r j *ℤ n) ≤ℤ (reach r k *ℤ n)
+  pub scaled_reach : (j k : ℕ) (n : ℤ) → pos 0 <ℤ n → j ≤ k → k < r.steps
+      → (reach r j *ℤ n) ≤ℤ (reach r k *ℤ n)
   scaled_reach j k n N h l =
       let a = times_le n (reach r j) (reach r k) (omega (arith, ints)) (reach_most j k h l) in
       omega (arith, ints, a, product_comm n (reach r j), product_comm n (reach r k))
 
-  pub scaled_rising : (j k : ℕ) (n : ℤ) → pos 0 <ℤ n → j < k → k < r.steps → (reach r j *ℤ n) <ℤ (reach r k *ℤ n)
+  pub scaled_rising : (j k : ℕ) (n : ℤ) → pos 0 <ℤ n → j < k → k < r.steps
+      → (reach r j *ℤ n) <ℤ (reach r k *ℤ n)
   scaled_rising j k n N h l =
       let a = times_lt n (reach r j) (reach r k) N (run.rising j k h l) in
       omega (arith, ints, a, product_comm n (reach r j), product_comm n (reach r k))
@@ -88,7 +92,8 @@ module _ (r : Replay) (run : IsRun r) where
     to = λ (j : ℕ) (a : k ≤ j) (b : j < r.steps). let s = scaled_reach k j o.n O a b in omega (arith, ints, s, l);
   }
 
-  pub level_strip : (k : ℕ) (o : Vector) → Place o → k < r.steps → IsLevel r k o → IsStrip r (suc k) o
+  pub level_strip : (k : ℕ) (o : Vector) → Place o → k < r.steps → IsLevel r k o
+      → IsStrip r (suc k) o
   level_strip k o O h l = record {
     fits = omega arith;
     from = λ (j : ℕ) (a : j < suc k). let s = scaled_reach j k o.n O (omega arith) h in omega (arith, ints, s, l);
@@ -97,7 +102,8 @@ module _ (r : Replay) (run : IsRun r) where
 
 module _ (r : Replay) (run : IsRun r) (law : IsLawful r) where
   -- an edge of the live list spans the closed strip
-  pub spans_strip : (k e : ℕ) (z : Vector) → k ≤ r.steps → Has e (r.list k) → IsClosed r k z → InSpan r.weight (r.edge e) z
+  pub spans_strip : (k e : ℕ) (z : Vector) → k ≤ r.steps → Has e (r.list k) → IsClosed r k z
+      → InSpan r.weight (r.edge e) z
   spans_strip k e z h m c =
       let b = law.begun k e h m in
       let d = law.open_still k e h m in
@@ -107,12 +113,14 @@ module _ (r : Replay) (run : IsRun r) (law : IsLawful r) where
       }
 
   -- a free segment within a closed strip keeps the count
-  pub raised_kept : (k : ℕ) (p q : Vector) → k ≤ r.steps → Place p → Place q → IsFree r p q → IsClosed r k p → IsClosed r k q → raised r p (r.list k) ≡ raised r q (r.list k)
+  pub raised_kept : (k : ℕ) (p q : Vector) → k ≤ r.steps → Place p → Place q → IsFree r p q
+      → IsClosed r k p → IsClosed r k q → raised r p (r.list k) ≡ raised r q (r.list k)
   raised_kept k p q h P Q free a b = raised_agrees r p q (r.list k)
       (λ e m. side_kept r.weight (r.edge e) p q P Q (spans_strip k e p h m a) (spans_strip k e q h m b) (free e (law.live k e h m)))
 
   -- ---- to the right
-  pub linked_right : (d k m : ℕ) (p q : Vector) → m ≡ k + d → Place p → Place q → IsFree r p q → IsStrip r k p → IsStrip r m q → Linked r (sector_at r p k) (sector_at r q m)
+  pub linked_right : (d k m : ℕ) (p q : Vector) → m ≡ k + d → Place p → Place q → IsFree r p q
+      → IsStrip r k p → IsStrip r m q → Linked r (sector_at r p k) (sector_at r q m)
   linked_right zero k m p q e P Q free a b =
       let f : m ≡ k = omega arith in
       let b2 : IsStrip r k q = subst (λ (j : ℕ). IsStrip r j q) f b in

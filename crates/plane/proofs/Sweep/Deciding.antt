@@ -1,21 +1,25 @@
 -- Whether two edges are bad is decided by their gaps.
 -- The gaps are taken where both have begun and where the first of them ends.
-use Rattle.std.proofs.Common.{◌≡◌, ℤ, pos, ◌+ℤ◌, ◌*ℤ◌, ◌-ℤ◌, ◌<ℤ◌, ◌≤ℤ◌, ◌⊎◌, inl, inr, [], ◌∷◌, refl, arith, ap, sym, ◌∙◌, subst}
+use Rattle.std.proofs.Common.{◌≡◌, ℤ, pos, ◌+ℤ◌, ◌*ℤ◌, ◌-ℤ◌, ◌<ℤ◌, ◌≤ℤ◌, ◌⊎◌, inl, inr, [], ◌∷◌}
+use Rattle.std.proofs.Common.{refl, arith, ap, sym, ◌∙◌, subst}
 use Rattle.std.proofs.lemmas.Int.{ints, by_lt_z}
 use Rattle.plane.specs.declared.kinds.Point.{Point}
-use Rattle.plane.specs.Forms.Vectors.{Vector, Place, point, Same, mix, Edge, side, sweep, rise, gap, lift, foot, On, InSpan}
+use Rattle.plane.specs.Forms.Vectors.{Vector, Place, point, Same, mix, Edge, side, sweep, rise, gap}
+use Rattle.plane.specs.Forms.Vectors.{lift, foot, On, InSpan}
 use Rattle.plane.specs.Forms.Meets.{IsEnd, CommonEnd}
 use Rattle.plane.specs.Forms.Meets.{Fine, Bad}
 use Rattle.plane.proofs.Algebra.Laws.{product_nonnegative, product_comm, zero-product}
 use Rattle.plane.proofs.Algebra.Ring.{at, num, plus, minus, times, vars, ring}
 use Rattle.plane.proofs.Algebra.Scaling.{cancel_zero}
 use Rattle.plane.proofs.Linear.Vectors.{side-lift, sweep-mix, gap-three, gap-mix}
-use Rattle.plane.proofs.Linear.Signs.{foot-side, foot-sweep, foot-n, foot_place, mix_place, mix_in_span}
+use Rattle.plane.proofs.Linear.Signs.{foot-side, foot-sweep, foot-n, foot_place, mix_place}
+use Rattle.plane.proofs.Linear.Signs.{mix_in_span}
 use Rattle.plane.proofs.Sweep.Meets.{end_test}
 use Rattle.plane.proofs.Sweep.Pairs.{straight_on, on_straight, foot-gap, foot_upto}
 
 -- ---- places of one edge with one sweep value are one place
-same_at : (w : ℤ) (a : Edge) (z f : Vector) → pos 0 <ℤ rise w a → side a z ≡ pos 0 → side a f ≡ pos 0 → sweep w z *ℤ f.n ≡ sweep w f *ℤ z.n → Same z f
+same_at : (w : ℤ) (a : Edge) (z f : Vector) → pos 0 <ℤ rise w a → side a z ≡ pos 0
+    → side a f ≡ pos 0 → sweep w z *ℤ f.n ≡ sweep w f *ℤ z.n → Same z f
 unfolding sweep lift
 same_at w a z f h ez ef level =
     let c : f.n *ℤ sweep w z ≡ z.n *ℤ sweep w f = product_comm f.n (sweep w z) ∙ level ∙ product_comm (sweep w f) z.n in
@@ -38,7 +42,8 @@ same_at w a z f h ez ef level =
 same_through : (z f : Vector) (c : Point) → Place f → Same z f → Same f (point c) → Same z (point c)
 same_through z f c hf h k = record { x = through z.x z.n f.x f.n c.x hf h.x k.x; y = through z.y z.n f.y f.n c.y hf h.y k.y }
   where
-    through : (zx zn fx fn cx : ℤ) → pos 0 <ℤ fn → zx *ℤ fn ≡ fx *ℤ zn → fx *ℤ pos 1 ≡ cx *ℤ fn → zx *ℤ pos 1 ≡ cx *ℤ zn
+    through : (zx zn fx fn cx : ℤ) → pos 0 <ℤ fn → zx *ℤ fn ≡ fx *ℤ zn → fx *ℤ pos 1 ≡ cx *ℤ fn
+        → zx *ℤ pos 1 ≡ cx *ℤ zn
     through zx zn fx fn cx hf h k =
         let a : fx ≡ cx *ℤ fn = omega (arith, ints, k) in
         let b = ap (λ v. v *ℤ zn) a in
@@ -59,7 +64,8 @@ place_test f c = elim (equal_test (f.x *ℤ pos 1) (c.x *ℤ f.n)) [
   | inr n ↦ inr (λ s. n s.x)
 ]
 
-common_at : (a b : Edge) (f : Vector) (c : Point) → IsEnd a c → CommonEnd a b f ⊎ (IsEnd b c → Same f (point c) → ⊥)
+common_at : (a b : Edge) (f : Vector) (c : Point) → IsEnd a c
+    → CommonEnd a b f ⊎ (IsEnd b c → Same f (point c) → ⊥)
 common_at a b f c h = elim (end_test b c) [
   | inl k ↦ elim (place_test f c) [
     | inl s ↦ inl (record { at = c; of_first = h; of_second = k; is = s })
@@ -77,13 +83,17 @@ common_test a b f = elim (common_at a b f a.low (inl refl)) [
   ]
 ]
   where
-    none : (a b : Edge) (f : Vector) → (IsEnd b a.low → Same f (point a.low) → ⊥) → (IsEnd b a.high → Same f (point a.high) → ⊥) → (c : Point) → IsEnd a c → IsEnd b c → Same f (point c) → ⊥
+    none : (a b : Edge) (f : Vector) → (IsEnd b a.low → Same f (point a.low) → ⊥)
+        → (IsEnd b a.high → Same f (point a.high) → ⊥) → (c : Point) → IsEnd a c → IsEnd b c
+        → Same f (point c) → ⊥
     none a b f n k c (inl q) i s = n (subst (λ p. IsEnd b p) (sym q) i) (subst (λ p. Same f (point p)) (sym q) s)
     none a b f n k c (inr q) i s = k (subst (λ p. IsEnd b p) (sym q) i) (subst (λ p. Same f (point p)) (sym q) s)
 
 -- ---- one common place
 -- a foot of one edge keeps the span of another
-foot_from : (w : ℤ) (e : Edge) (y : Vector) (v : Point) → pos 0 <ℤ rise w e → (sweep w (point v) *ℤ y.n) ≤ℤ sweep w y → (sweep w (point v) *ℤ (foot w e y).n) ≤ℤ sweep w (foot w e y)
+foot_from : (w : ℤ) (e : Edge) (y : Vector) (v : Point) → pos 0 <ℤ rise w e
+    → (sweep w (point v) *ℤ y.n) ≤ℤ sweep w y
+    → (sweep w (point v) *ℤ (foot w e y).n) ≤ℤ sweep w (foot w e y)
 foot_from w e y v h l = rw (foot-sweep w e y, foot-n w e y) (weighted (rise w e) (sweep w (point v)) y.n (sweep w y) h l)
   where
     weighted : (r a n b : ℤ) → pos 0 <ℤ r → (a *ℤ n) ≤ℤ b → (a *ℤ (r *ℤ n)) ≤ℤ (r *ℤ b)
@@ -104,7 +114,8 @@ pub record Overlap (w : ℤ) (a b : Edge) (p q : Point) : Type 0 where
   pub to : (z : Vector) → Place z → On w a z → On w b z → sweep w z ≤ℤ (sweep w (point q) *ℤ z.n)
 
 -- a place of both at the weights s and t
-pub meeting : (w : ℤ) (a b : Edge) (p q : Point) (s t : ℤ) → Overlap w a b p q → pos 0 ≤ℤ s → pos 0 ≤ℤ t → pos 0 <ℤ (s +ℤ t)
+pub meeting : (w : ℤ) (a b : Edge) (p q : Point) (s t : ℤ) → Overlap w a b p q → pos 0 ≤ℤ s
+    → pos 0 ≤ℤ t → pos 0 <ℤ (s +ℤ t)
     → (s *ℤ gap w a b (point p)) +ℤ (t *ℤ gap w a b (point q)) ≡ pos 0
     → Place (foot w a (mix s (point p) t (point q))) × On w a (foot w a (mix s (point p) t (point q))) × On w b (foot w a (mix s (point p) t (point q)))
 meeting w a b p q s t o hs ht some zero =
@@ -120,7 +131,8 @@ meeting w a b p q s t o hs ht some zero =
     )
 
 -- where it is the only one, its being a common end decides
-pub decided_at : (w : ℤ) (a b : Edge) (p q : Point) (s t : ℤ) → Overlap w a b p q → pos 0 ≤ℤ s → pos 0 ≤ℤ t → pos 0 <ℤ (s +ℤ t)
+pub decided_at : (w : ℤ) (a b : Edge) (p q : Point) (s t : ℤ) → Overlap w a b p q → pos 0 ≤ℤ s
+    → pos 0 ≤ℤ t → pos 0 <ℤ (s +ℤ t)
     → (s *ℤ gap w a b (point p)) +ℤ (t *ℤ gap w a b (point q)) ≡ pos 0
     → ((z : Vector) → Place z → On w a z → On w b z → s *ℤ (sweep w z -ℤ (sweep w (point p) *ℤ z.n)) ≡ t *ℤ ((sweep w (point q) *ℤ z.n) -ℤ sweep w z))
     → Fine a b ⊎ Bad a b
@@ -139,7 +151,8 @@ decided_at w a b p q s t o hs ht some zero only =
       | inr n ↦ inr (record { at = f; place = m.0; of_first = on_straight w a f ra m.0 m.1; of_second = on_straight w b f rb m.0 m.2; no_end = n })
     ]
   where
-    even : (r s t tp tq v n : ℤ) → s *ℤ (v -ℤ (tp *ℤ n)) ≡ t *ℤ ((tq *ℤ n) -ℤ v) → v *ℤ (r *ℤ ((s *ℤ pos 1) +ℤ (t *ℤ pos 1))) ≡ (r *ℤ ((s *ℤ tp) +ℤ (t *ℤ tq))) *ℤ n
+    even : (r s t tp tq v n : ℤ) → s *ℤ (v -ℤ (tp *ℤ n)) ≡ t *ℤ ((tq *ℤ n) -ℤ v)
+        → v *ℤ (r *ℤ ((s *ℤ pos 1) +ℤ (t *ℤ pos 1))) ≡ (r *ℤ ((s *ℤ tp) +ℤ (t *ℤ tq))) *ℤ n
     even r s t tp tq v n h =
         let i = ring (times (at 5) (times (at 0) (plus (times (at 1) (num (pos 1))) (times (at 2) (num (pos 1))))))
         (plus (times (times (at 0) (plus (times (at 1) (at 3)) (times (at 2) (at 4)))) (at 6)) (times (at 0) (minus (times (at 1) (minus (at 5) (times (at 3) (at 6)))) (times (at 2) (minus (times (at 4) (at 6)) (at 5))))))
@@ -150,7 +163,8 @@ decided_at w a b p q s t o hs ht some zero only =
 
 -- ---- the cases
 -- a common place has gap 0
-common_gap : (w : ℤ) (a b : Edge) (z : Vector) → side a z ≡ pos 0 → side b z ≡ pos 0 → gap w a b z ≡ pos 0
+common_gap : (w : ℤ) (a b : Edge) (z : Vector) → side a z ≡ pos 0 → side b z ≡ pos 0
+    → gap w a b z ≡ pos 0
 unfolding gap
 common_gap w a b z ea eb =
     let x = ap (λ v. rise w a *ℤ v) eb ∙ product_comm (rise w a) (pos 0) ∙ zero-product (rise w a) in
@@ -162,7 +176,9 @@ pub weighed : (w : ℤ) (a b : Edge) (p q : Point) (z : Vector) → side a z ≡
     → (gap w a b (point p) *ℤ ((sweep w (point q) *ℤ z.n) -ℤ sweep w z)) +ℤ (gap w a b (point q) *ℤ (sweep w z -ℤ (sweep w (point p) *ℤ z.n))) ≡ pos 0
 weighed w a b p q z ea eb = plain (gap w a b z) (gap w a b (point p)) (gap w a b (point q)) (sweep w (point p)) (sweep w (point q)) (sweep w z) z.n (common_gap w a b z ea eb) (gap-three w a b z (point p) (point q))
   where
-    plain : (d gp gq tp tq s n : ℤ) → d ≡ pos 0 → d *ℤ ((tq *ℤ pos 1) -ℤ (tp *ℤ pos 1)) ≡ (gp *ℤ ((tq *ℤ n) -ℤ (s *ℤ pos 1))) +ℤ (gq *ℤ ((s *ℤ pos 1) -ℤ (tp *ℤ n))) → (gp *ℤ ((tq *ℤ n) -ℤ s)) +ℤ (gq *ℤ (s -ℤ (tp *ℤ n))) ≡ pos 0
+    plain : (d gp gq tp tq s n : ℤ) → d ≡ pos 0
+        → d *ℤ ((tq *ℤ pos 1) -ℤ (tp *ℤ pos 1)) ≡ (gp *ℤ ((tq *ℤ n) -ℤ (s *ℤ pos 1))) +ℤ (gq *ℤ ((s *ℤ pos 1) -ℤ (tp *ℤ n)))
+        → (gp *ℤ ((tq *ℤ n) -ℤ s)) +ℤ (gq *ℤ (s -ℤ (tp *ℤ n))) ≡ pos 0
     plain d gp gq tp tq s n h e =
         let z = ap (λ v. v *ℤ ((tq *ℤ pos 1) -ℤ (tp *ℤ pos 1))) h ∙ zero-product ((tq *ℤ pos 1) -ℤ (tp *ℤ pos 1)) in
         let i = ring (plus (times (at 1) (minus (times (at 4) (at 6)) (times (at 5) (num (pos 1))))) (times (at 2) (minus (times (at 5) (num (pos 1))) (times (at 3) (at 6)))))
@@ -170,7 +186,8 @@ weighed w a b p q z ea eb = plain (gap w a b z) (gap w a b (point p)) (gap w a b
         omega (arith, ints, z, i, e)
 
 -- a common place on the sweep line of p: the gap is 0 there
-pub level_gap : (w : ℤ) (a b : Edge) (p : Point) (z : Vector) → Place z → side a z ≡ pos 0 → side b z ≡ pos 0 → sweep w z ≡ sweep w (point p) *ℤ z.n → gap w a b (point p) ≡ pos 0
+pub level_gap : (w : ℤ) (a b : Edge) (p : Point) (z : Vector) → Place z → side a z ≡ pos 0
+    → side b z ≡ pos 0 → sweep w z ≡ sweep w (point p) *ℤ z.n → gap w a b (point p) ≡ pos 0
 unfolding gap
 level_gap w a b p z hz ea eb h =
     let c : pos 1 *ℤ sweep w z ≡ z.n *ℤ sweep w (point p) = turned (sweep w z) (sweep w (point p)) z.n h in
@@ -179,7 +196,9 @@ level_gap w a b p z hz ea eb h =
     turned : (a b n : ℤ) → a ≡ b *ℤ n → pos 1 *ℤ a ≡ n *ℤ b
     turned a b n h = let e = ring (times (at 1) (at 2)) (times (at 2) (at 1)) (vars (a ∷ b ∷ n ∷ [])) refl in omega (arith, ints, h, e)
 
-    plain : (ra rb sa sb za zb n l : ℤ) → pos 0 <ℤ n → za ≡ pos 0 → zb ≡ pos 0 → (pos 1 *ℤ za) -ℤ (n *ℤ sa) ≡ l *ℤ ra → (pos 1 *ℤ zb) -ℤ (n *ℤ sb) ≡ l *ℤ rb → (ra *ℤ sb) -ℤ (rb *ℤ sa) ≡ pos 0
+    plain : (ra rb sa sb za zb n l : ℤ) → pos 0 <ℤ n → za ≡ pos 0 → zb ≡ pos 0
+        → (pos 1 *ℤ za) -ℤ (n *ℤ sa) ≡ l *ℤ ra → (pos 1 *ℤ zb) -ℤ (n *ℤ sb) ≡ l *ℤ rb
+        → (ra *ℤ sb) -ℤ (rb *ℤ sa) ≡ pos 0
     plain ra rb sa sb za zb n l hn ea eb ha hb =
         let x : n *ℤ sa ≡ pos 0 -ℤ (l *ℤ ra) = omega (arith, ints, ea, ha) in
         let y : n *ℤ sb ≡ pos 0 -ℤ (l *ℤ rb) = omega (arith, ints, eb, hb) in

@@ -1,6 +1,7 @@
 -- Each two edges are decided: they are bad, or each common place is a common end.
 -- So a sweep is a complete run or comes to a fault, with no test as a premise.
-use Rattle.std.proofs.Common.{◌≡◌, ℕ, ◌<◌, ℤ, pos, ◌+ℤ◌, ◌*ℤ◌, ◌-ℤ◌, ◌<ℤ◌, ◌≤ℤ◌, ◌⊎◌, inl, inr, List, [], ◌∷◌, refl, arith, ap, sym, ◌∙◌, subst}
+use Rattle.std.proofs.Common.{◌≡◌, ℕ, ◌<◌, ℤ, pos, ◌+ℤ◌, ◌*ℤ◌, ◌-ℤ◌, ◌<ℤ◌, ◌≤ℤ◌, ◌⊎◌, inl, inr}
+use Rattle.std.proofs.Common.{List, [], ◌∷◌, refl, arith, ap, sym, ◌∙◌, subst}
 use Rattle.std.proofs.lemmas.Int.{ints, by_lt_z}
 use Rattle.plane.specs.declared.kinds.Point.{Point}
 use Rattle.plane.specs.Forms.Vectors.{Vector, Place, point, mix, Edge, sweep, rise, gap, foot, On}
@@ -22,10 +23,12 @@ use Rattle.plane.proofs.Sweep.SweepEnd.{ready}
 use Rattle.plane.proofs.Sweep.Finding.{run_or_found, bad_found}
 
 -- edges with no common place
-none_fine : (w : ℤ) (a b : Edge) → pos 0 <ℤ rise w a → pos 0 <ℤ rise w b → ((z : Vector) → Place z → On w a z → On w b z → ⊥) → Fine a b
+none_fine : (w : ℤ) (a b : Edge) → pos 0 <ℤ rise w a → pos 0 <ℤ rise w b
+    → ((z : Vector) → Place z → On w a z → On w b z → ⊥) → Fine a b
 none_fine w a b ra rb n z hz oa ob = absurd (n z hz (straight_on w a z ra hz oa) (straight_on w b z rb hz ob))
 
-both_above : (g h u v : ℤ) → pos 0 <ℤ g → pos 0 <ℤ h → pos 0 ≤ℤ u → pos 0 ≤ℤ v → pos 0 <ℤ (u +ℤ v) → (g *ℤ u) +ℤ (h *ℤ v) ≡ pos 0 → ⊥
+both_above : (g h u v : ℤ) → pos 0 <ℤ g → pos 0 <ℤ h → pos 0 ≤ℤ u → pos 0 ≤ℤ v → pos 0 <ℤ (u +ℤ v)
+    → (g *ℤ u) +ℤ (h *ℤ v) ≡ pos 0 → ⊥
 both_above g h u v hg hh hu hv some e =
     let a = weight_at_most u g hu hg in
     let b = weight_at_most v h hv hh in
@@ -33,13 +36,15 @@ both_above g h u v hg hh hu hv some e =
     let j = product_comm h v in
     omega (arith, ints, a, b, i, j, some, e)
 
-both_below : (g h u v : ℤ) → g <ℤ pos 0 → h <ℤ pos 0 → pos 0 ≤ℤ u → pos 0 ≤ℤ v → pos 0 <ℤ (u +ℤ v) → (g *ℤ u) +ℤ (h *ℤ v) ≡ pos 0 → ⊥
+both_below : (g h u v : ℤ) → g <ℤ pos 0 → h <ℤ pos 0 → pos 0 ≤ℤ u → pos 0 ≤ℤ v → pos 0 <ℤ (u +ℤ v)
+    → (g *ℤ u) +ℤ (h *ℤ v) ≡ pos 0 → ⊥
 both_below g h u v hg hh hu hv some e =
     let i = ring (plus (times (minus (num (pos 0)) (at 0)) (at 2)) (times (minus (num (pos 0)) (at 1)) (at 3))) (minus (num (pos 0)) (plus (times (at 0) (at 2)) (times (at 1) (at 3)))) (vars (g ∷ h ∷ u ∷ v ∷ [])) refl in
     both_above (pos 0 -ℤ g) (pos 0 -ℤ h) u v (omega (arith, ints, hg)) (omega (arith, ints, hh)) hu hv some (omega (arith, ints, i, e))
 
 -- both gaps of one strict sign: no common place
-one_sign : (w : ℤ) (a b : Edge) (p q : Point) → Overlap w a b p q → sweep w (point p) <ℤ sweep w (point q)
+one_sign : (w : ℤ) (a b : Edge) (p q : Point) → Overlap w a b p q
+    → sweep w (point p) <ℤ sweep w (point q)
     → ((gap w a b (point p) <ℤ pos 0) × (gap w a b (point q) <ℤ pos 0)) ⊎ ((pos 0 <ℤ gap w a b (point p)) × (pos 0 <ℤ gap w a b (point q))) → Fine a b
 one_sign w a b p q o l signs = none_fine w a b o.rise_first o.rise_second (λ z hz oa ob.
     let from = o.from z hz oa ob in
@@ -81,7 +86,8 @@ changes_back w a b p q o gp gq l =
     (λ z hz oa ob. falling_only g h _ _ (weighed w a b p q z oa.line ob.line))
 
 -- both gaps are 0: the middle is common, and no end
-runs_along : (w : ℤ) (a b : Edge) (p q : Point) → Overlap w a b p q → sweep w (point p) <ℤ sweep w (point q)
+runs_along : (w : ℤ) (a b : Edge) (p q : Point) → Overlap w a b p q
+    → sweep w (point p) <ℤ sweep w (point q)
     → gap w a b (point p) ≡ pos 0 → gap w a b (point q) ≡ pos 0 → Bad a b
 runs_along w a b p q o l gp gq =
     let y = mix (pos 1) (point p) (pos 1) (point q) in
@@ -101,12 +107,15 @@ runs_along w a b p q o l gp gq =
       no_end = λ c. inner w a f c.at after before (same_sweep w f c.at c.is) c.of_first;
     }
   where
-    inner : (w : ℤ) (a : Edge) (f : Vector) (c : Point) → (sweep w (point a.low) *ℤ f.n) <ℤ sweep w f → sweep w f <ℤ (sweep w (point a.high) *ℤ f.n) → sweep w f ≡ sweep w (point c) *ℤ f.n → IsEnd a c → ⊥
+    inner : (w : ℤ) (a : Edge) (f : Vector) (c : Point)
+        → (sweep w (point a.low) *ℤ f.n) <ℤ sweep w f → sweep w f <ℤ (sweep w (point a.high) *ℤ f.n)
+        → sweep w f ≡ sweep w (point c) *ℤ f.n → IsEnd a c → ⊥
     inner w a f c after before h (inl q) = let e = subst (λ p. sweep w f ≡ sweep w (point p) *ℤ f.n) (sym q) h in omega (arith, ints, after, e)
     inner w a f c after before h (inr q) = let e = subst (λ p. sweep w f ≡ sweep w (point p) *ℤ f.n) (sym q) h in omega (arith, ints, before, e)
 
 -- one sweep line
-one_line : (w : ℤ) (a b : Edge) (p q : Point) → Overlap w a b p q → sweep w (point q) ≤ℤ sweep w (point p) → Fine a b ⊎ Bad a b
+one_line : (w : ℤ) (a b : Edge) (p q : Point) → Overlap w a b p q
+    → sweep w (point q) ≤ℤ sweep w (point p) → Fine a b ⊎ Bad a b
 one_line w a b p q o l =
     let level : (z : Vector) → Place z → On w a z → On w b z → sweep w z ≡ sweep w (point p) *ℤ z.n =
     λ z hz oa ob. squeezed _ _ _ _ hz (o.from z hz oa ob) (o.to z hz oa ob) l in
@@ -117,7 +126,8 @@ one_line w a b p q o l =
     (λ z hz oa ob. let e = level z hz oa ob in first_only _ _ _ e))
     (λ (g : pos 0 <ℤ gap w a b (point p)). apart (λ e. omega (arith, ints, g, e)))
   where
-    squeezed : (tp tq s n : ℤ) → pos 0 <ℤ n → (tp *ℤ n) ≤ℤ s → s ≤ℤ (tq *ℤ n) → tq ≤ℤ tp → s ≡ tp *ℤ n
+    squeezed : (tp tq s n : ℤ) → pos 0 <ℤ n → (tp *ℤ n) ≤ℤ s → s ≤ℤ (tq *ℤ n) → tq ≤ℤ tp
+        → s ≡ tp *ℤ n
     squeezed tp tq s n hn h k l = by_lt_z tq tp
         (λ (i : tq <ℤ tp). let x = scaled tq tp n hn i in absurd (omega (arith, ints, x, h, k)))
         (λ (i : tp ≤ℤ tq). let e : tp ≡ tq = omega (arith, ints, i, l) in let x = ap (λ v. v *ℤ n) e in omega (arith, ints, x, h, k))
@@ -157,7 +167,8 @@ record Bounds (w : ℤ) (a b : Edge) (p q : Point) : Type 0 where
   from : (a.low ≡ p) ⊎ (b.low ≡ p)
   to : (a.high ≡ q) ⊎ (b.high ≡ q)
 
-bounded : (w : ℤ) (a b : Edge) (p q : Point) → pos 0 <ℤ rise w a → pos 0 <ℤ rise w b → Bounds w a b p q → Fine a b ⊎ Bad a b
+bounded : (w : ℤ) (a b : Edge) (p q : Point) → pos 0 <ℤ rise w a → pos 0 <ℤ rise w b
+    → Bounds w a b p q → Fine a b ⊎ Bad a b
 bounded w a b p q ra rb k =
     let from : (z : Vector) → Place z → On w a z → On w b z → (sweep w (point p) *ℤ z.n) ≤ℤ sweep w z = λ z hz oa ob. elim k.from [
       | inl e ↦ subst (λ c. (sweep w (point c) *ℤ z.n) ≤ℤ sweep w z) e oa.low
@@ -197,13 +208,16 @@ meet_decided w a b ra rb = by_lt_z (sweep w (point a.low)) (sweep w (point b.low
     bounded w a b a.low b.high ra rb (record { low_first = omega (arith, ints); low_second = l; high_first = h; high_second = omega (arith, ints); from = inl refl; to = inr refl })))
 
 -- ---- the end of a sweep with no test as a premise
-meets : (w : ℤ) (m : ℕ) (E : ℕ → Edge) (pts : List Point) → Weight w pts → IsEventList m E pts → (a b : ℕ) → a < m → b < m → Fine (E a) (E b) ⊎ Bad (E a) (E b)
+meets : (w : ℤ) (m : ℕ) (E : ℕ → Edge) (pts : List Point) → Weight w pts → IsEventList m E pts
+    → (a b : ℕ) → a < m → b < m → Fine (E a) (E b) ⊎ Bad (E a) (E b)
 meets w m E pts h ev a b la lb = let r = ready w m E pts h ev in meet_decided w (E a) (E b) (r.rises a la) (r.rises b lb)
 
 -- a complete sweep, or a fault
-pub swept_or_found : (w : ℤ) (m : ℕ) (E : ℕ → Edge) (pts : List Point) → Weight w pts → IsEventList m E pts → ((end : List Step) × Front w m E pts end []) ⊎ Found w m E pts
+pub swept_or_found : (w : ℤ) (m : ℕ) (E : ℕ → Edge) (pts : List Point) → Weight w pts
+    → IsEventList m E pts → ((end : List Step) × Front w m E pts end []) ⊎ Found w m E pts
 swept_or_found w m E pts h ev = run_or_found w m E pts h ev (meets w m E pts h ev)
 
 -- where two edges are bad, there is a fault
-pub bad_is_found : (w : ℤ) (m : ℕ) (E : ℕ → Edge) (pts : List Point) (a b : ℕ) → Weight w pts → IsEventList m E pts → a < m → b < m → (a ≡ b → ⊥) → Bad (E a) (E b) → Found w m E pts
+pub bad_is_found : (w : ℤ) (m : ℕ) (E : ℕ → Edge) (pts : List Point) (a b : ℕ) → Weight w pts
+    → IsEventList m E pts → a < m → b < m → (a ≡ b → ⊥) → Bad (E a) (E b) → Found w m E pts
 bad_is_found w m E pts a b h ev = bad_found w m E pts a b h ev (meets w m E pts h ev)

@@ -1,6 +1,7 @@
 -- Edges that start together: sorted ones that are not bad turn strictly left.
 -- A list in strict order has no edge twice.
-use Rattle.std.proofs.Common.{◌≡◌, ℕ, ◌<◌, ℤ, pos, ◌*ℤ◌, ◌-ℤ◌, ◌<ℤ◌, ◌≤ℤ◌, inl, inr, List, [], ◌∷◌, refl, arith, sym, ◌∙◌, subst}
+use Rattle.std.proofs.Common.{◌≡◌, ℕ, ◌<◌, ℤ, pos, ◌*ℤ◌, ◌-ℤ◌, ◌<ℤ◌, ◌≤ℤ◌, inl, inr, List, [], ◌∷◌}
+use Rattle.std.proofs.Common.{refl, arith, sym, ◌∙◌, subst}
 use Rattle.std.proofs.lemmas.Int.{ints, by_lt_z}
 use Rattle.plane.specs.declared.kinds.Point.{Point}
 use Rattle.plane.specs.Forms.Vectors.{Vector, Place, point, mix, Edge, side, sweep, rise, gap, On}
@@ -28,11 +29,13 @@ fan_swap l h k =
     (minus (num (pos 0)) (minus (times (minus HX LX) (minus KY (times LY one))) (times (minus HY LY) (minus KX (times LX one)))))
     (vars (l.x ∷ l.y ∷ h.x ∷ h.y ∷ k.x ∷ k.y ∷ [])) refl
 
-pub turn_back : (a b : Edge) → a.low ≡ b.low → side b (point a.high) ≡ pos 0 -ℤ side a (point b.high)
+pub turn_back : (a b : Edge) → a.low ≡ b.low
+    → side b (point a.high) ≡ pos 0 -ℤ side a (point b.high)
 turn_back a b h = subst (λ q. side (record { low = q; high = b.high }) (point a.high) ≡ pos 0 -ℤ side a (point b.high)) h (fan_swap a.low a.high b.high)
 
 -- the middle of an edge is no end of it
-pub middle_end : (w : ℤ) (e : Edge) (c : Point) → pos 0 <ℤ rise w e → sweep w (middle e) ≡ sweep w (point c) *ℤ (middle e).n → IsEnd e c → ⊥
+pub middle_end : (w : ℤ) (e : Edge) (c : Point) → pos 0 <ℤ rise w e
+    → sweep w (middle e) ≡ sweep w (point c) *ℤ (middle e).n → IsEnd e c → ⊥
 middle_end w e c h m (inl q) =
     let r = rise-is w e in let s = sweep-mix w (pos 1) (point e.low) (pos 1) (point e.high) in
     let u = subst (λ p. sweep w (middle e) ≡ sweep w (point p) *ℤ (middle e).n) (sym q) m in omega (arith, ints, h, r, s, u)
@@ -41,7 +44,9 @@ middle_end w e c h m (inr q) =
     let u = subst (λ p. sweep w (middle e) ≡ sweep w (point p) *ℤ (middle e).n) (sym q) m in omega (arith, ints, h, r, s, u)
 
 -- two edges that start together in one direction: the middle of the shorter one is a common place
-one_direction : (w : ℤ) (a b : Edge) → pos 0 <ℤ rise w a → pos 0 <ℤ rise w b → a.low ≡ b.low → side a (point b.high) ≡ pos 0 → sweep w (point b.high) ≤ℤ sweep w (point a.high) → Fine a b → ⊥
+one_direction : (w : ℤ) (a b : Edge) → pos 0 <ℤ rise w a → pos 0 <ℤ rise w b → a.low ≡ b.low
+    → side a (point b.high) ≡ pos 0 → sweep w (point b.high) ≤ℤ sweep w (point a.high) → Fine a b
+    → ⊥
 one_direction w a b ra rb low line short fine =
     let z = middle b in
     let r = rise-is w b in
@@ -57,7 +62,8 @@ one_direction w a b ra rb low line short fine =
 fine_back : (a b : Edge) → Fine a b → Fine b a
 fine_back a b fine z hz ob oa = let c = fine z hz oa ob in record { at = c.at; of_first = c.of_second; of_second = c.of_first; is = c.is }
 
-pub turns_apart : (w : ℤ) (a b : Edge) → pos 0 <ℤ rise w a → pos 0 <ℤ rise w b → a.low ≡ b.low → Fine a b → pos 0 ≤ℤ side a (point b.high) → pos 0 <ℤ side a (point b.high)
+pub turns_apart : (w : ℤ) (a b : Edge) → pos 0 <ℤ rise w a → pos 0 <ℤ rise w b → a.low ≡ b.low
+    → Fine a b → pos 0 ≤ℤ side a (point b.high) → pos 0 <ℤ side a (point b.high)
 turns_apart w a b ra rb low fine h = by_lt_z (pos 0) (side a (point b.high))
     (λ l. l)
     (λ (l : side a (point b.high) ≤ℤ pos 0).
@@ -68,7 +74,8 @@ turns_apart w a b ra rb low fine h = by_lt_z (pos 0) (side a (point b.high))
     absurd (one_direction w b a rb ra (sym low) (omega (arith, ints, t, line)) (omega (arith, ints, i)) (fine_back a b fine)))
     (λ (i : sweep w (point b.high) ≤ℤ sweep w (point a.high)). absurd (one_direction w a b ra rb low line i fine)))
 
-pub sorted_turns : (w : ℤ) (m : ℕ) (E : ℕ → Edge) (v : Point) (xs : List ℕ) → ((e : ℕ) → Has e xs → (e < m) × ((E e).low ≡ v)) → ((e : ℕ) → e < m → pos 0 <ℤ rise w (E e))
+pub sorted_turns : (w : ℤ) (m : ℕ) (E : ℕ → Edge) (v : Point) (xs : List ℕ)
+    → ((e : ℕ) → Has e xs → (e < m) × ((E e).low ≡ v)) → ((e : ℕ) → e < m → pos 0 <ℤ rise w (E e))
     → Neighbours (λ a b. pos 0 ≤ℤ side (E a) (point (E b).high)) xs → Neighbours (FinePair E) xs → Neighbours (Turns E) xs
 sorted_turns w m E v xs only up sorted fine = neighbours_both (λ a b. pos 0 ≤ℤ side (E a) (point (E b).high)) (FinePair E) (Turns E) xs
     (λ a b ka kb s f.
@@ -81,11 +88,14 @@ gap-self : (w : ℤ) (a : Edge) (z : Vector) → gap w a a z ≡ pos 0
 unfolding gap
 gap-self w a z = ring (minus (times (at 0) (at 1)) (times (at 0) (at 1))) (num (pos 0)) (vars (rise w a ∷ side a z ∷ [])) refl
 
-pub gap_trans : (w : ℤ) (a b c : Edge) (z : Vector) → pos 0 <ℤ rise w a → pos 0 <ℤ rise w b → pos 0 <ℤ rise w c → gap w a b z <ℤ pos 0 → gap w b c z <ℤ pos 0 → gap w a c z <ℤ pos 0
+pub gap_trans : (w : ℤ) (a b c : Edge) (z : Vector) → pos 0 <ℤ rise w a → pos 0 <ℤ rise w b
+    → pos 0 <ℤ rise w c → gap w a b z <ℤ pos 0 → gap w b c z <ℤ pos 0 → gap w a c z <ℤ pos 0
 unfolding gap
 gap_trans w a b c z ha hb hc = sum (rise w a) (rise w b) (rise w c) (side a z) (side b z) (side c z) ha hb hc
   where
-    sum : (ra rb rc sa sb sc : ℤ) → pos 0 <ℤ ra → pos 0 <ℤ rb → pos 0 <ℤ rc → ((ra *ℤ sb) -ℤ (rb *ℤ sa)) <ℤ pos 0 → ((rb *ℤ sc) -ℤ (rc *ℤ sb)) <ℤ pos 0 → ((ra *ℤ sc) -ℤ (rc *ℤ sa)) <ℤ pos 0
+    sum : (ra rb rc sa sb sc : ℤ) → pos 0 <ℤ ra → pos 0 <ℤ rb → pos 0 <ℤ rc
+        → ((ra *ℤ sb) -ℤ (rb *ℤ sa)) <ℤ pos 0 → ((rb *ℤ sc) -ℤ (rc *ℤ sb)) <ℤ pos 0
+        → ((ra *ℤ sc) -ℤ (rc *ℤ sa)) <ℤ pos 0
     sum ra rb rc sa sb sc ha hb hc g h =
         let x = product_positive rc (pos 0 -ℤ ((ra *ℤ sb) -ℤ (rb *ℤ sa))) hc (omega (arith, ints, g)) in
         let y = product_positive ra (pos 0 -ℤ ((rb *ℤ sc) -ℤ (rc *ℤ sb))) ha (omega (arith, ints, h)) in
@@ -95,7 +105,9 @@ gap_trans w a b c z ha hb hc = sum (rise w a) (rise w b) (rise w c) (side a z) (
         omega (arith, ints, k)
 
 -- each edge is strictly below all later ones
-pub all_strict : (w : ℤ) (E : ℕ → Edge) (z : Vector) (x : ℕ) (xs : List ℕ) → ((e : ℕ) → Has e (x ∷ xs) → pos 0 <ℤ rise w (E e)) → Neighbours (λ a b. gap w (E a) (E b) z <ℤ pos 0) (x ∷ xs)
+pub all_strict : (w : ℤ) (E : ℕ → Edge) (z : Vector) (x : ℕ) (xs : List ℕ)
+    → ((e : ℕ) → Has e (x ∷ xs) → pos 0 <ℤ rise w (E e))
+    → Neighbours (λ a b. gap w (E a) (E b) z <ℤ pos 0) (x ∷ xs)
     → Each (λ y. gap w (E x) (E y) z <ℤ pos 0) xs
 all_strict w E z x [] up h = tt
 all_strict w E z x (y ∷ ys) up h =
@@ -105,7 +117,9 @@ all_strict w E z x (y ∷ ys) up h =
           (λ u k. gap_trans w (E x) (E y) (E u) z (up x (inl refl)) (up y (inr (inl refl))) (up u (inr (inr k))) h.0 (each_has (λ u. gap w (E y) (E u) z <ℤ pos 0) ys u rest k)),
     )
 
-pub once_strict : (w : ℤ) (E : ℕ → Edge) (z : Vector) (xs : List ℕ) → ((e : ℕ) → Has e xs → pos 0 <ℤ rise w (E e)) → Neighbours (λ a b. gap w (E a) (E b) z <ℤ pos 0) xs → Once xs
+pub once_strict : (w : ℤ) (E : ℕ → Edge) (z : Vector) (xs : List ℕ)
+    → ((e : ℕ) → Has e xs → pos 0 <ℤ rise w (E e))
+    → Neighbours (λ a b. gap w (E a) (E b) z <ℤ pos 0) xs → Once xs
 once_strict w E z [] up h = tt
 once_strict w E z (x ∷ xs) up h = (
   λ k. let g = each_has (λ y. gap w (E x) (E y) z <ℤ pos 0) xs x (all_strict w E z x xs up h) k in let s = gap-self w (E x) z in omega (arith, ints, g, s),
@@ -113,7 +127,8 @@ once_strict w E z (x ∷ xs) up h = (
 )
 
 -- no live list has an edge twice
-pub front_once : (w : ℤ) (m : ℕ) (E : ℕ → Edge) (pts : List Point) (done : List Step) (v : Point) (coming : List Point) → Ready w m E pts → Front w m E pts done (v ∷ coming) → Once (live done)
+pub front_once : (w : ℤ) (m : ℕ) (E : ℕ → Edge) (pts : List Point) (done : List Step) (v : Point) (coming : List Point)
+    → Ready w m E pts → Front w m E pts done (v ∷ coming) → Once (live done)
 front_once w m E pts [] v coming h f = tt
 front_once w m E pts (s ∷ done) v coming h f =
     let c = front_cut w m E pts (s ∷ done) (v ∷ coming) h f in

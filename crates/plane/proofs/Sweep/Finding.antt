@@ -1,6 +1,7 @@
 -- Where some two edges are bad, the sweep comes to a fault.
 -- A live edge through an event that is not its end is a bad pair with each edge that ends or starts there.
-use Rattle.std.proofs.Common.{◌≡◌, ℕ, ◌<◌, ℤ, pos, ◌<ℤ◌, ◌≤ℤ◌, ◌⊎◌, inl, inr, List, [], ◌∷◌, refl, arith, sym, subst}
+use Rattle.std.proofs.Common.{◌≡◌, ℕ, ◌<◌, ℤ, pos, ◌<ℤ◌, ◌≤ℤ◌, ◌⊎◌, inl, inr, List, [], ◌∷◌, refl}
+use Rattle.std.proofs.Common.{arith, sym, subst}
 use Rattle.std.proofs.lemmas.Int.{ints, by_lt_z}
 use Rattle.plane.specs.declared.kinds.Point.{Point}
 use Rattle.plane.specs.Forms.Vectors.{point, Edge, side, sweep, rise, Same}
@@ -21,7 +22,8 @@ use Rattle.plane.proofs.Sweep.SweepEnd.{ready, start, complete_fine, fine_not_ba
 use Rattle.plane.proofs.Sweep.NextStep.{walk, step_of, walked_made, fan_of}
 
 -- ---- deciding along a list
-pub neighbours_or : (R S : ℕ → ℕ → Type 0) (xs : List ℕ) → ((a b : ℕ) → Has a xs → Has b xs → R a b ⊎ S a b) → Neighbours R xs ⊎ SomeNeighbours S xs
+pub neighbours_or : (R S : ℕ → ℕ → Type 0) (xs : List ℕ)
+    → ((a b : ℕ) → Has a xs → Has b xs → R a b ⊎ S a b) → Neighbours R xs ⊎ SomeNeighbours S xs
 neighbours_or R S [] f = inl tt
 neighbours_or R S (x ∷ []) f = inl (tt, tt)
 neighbours_or R S (x ∷ (y ∷ ys)) f = elim (f x y (inl refl) (inr (inl refl))) [
@@ -29,7 +31,8 @@ neighbours_or R S (x ∷ (y ∷ ys)) f = elim (f x y (inl refl) (inr (inl refl))
   | inr s ↦ inr (inl s)
 ]
 
-pub each_or : (P Q : ℕ → Type 0) (xs : List ℕ) → ((e : ℕ) → Has e xs → P e ⊎ Q e) → ((e : ℕ) → Has e xs → P e) ⊎ ((e : ℕ) × Has e xs × Q e)
+pub each_or : (P Q : ℕ → Type 0) (xs : List ℕ) → ((e : ℕ) → Has e xs → P e ⊎ Q e)
+    → ((e : ℕ) → Has e xs → P e) ⊎ ((e : ℕ) × Has e xs × Q e)
 each_or P Q [] f = inl (λ e k. absurd k)
 each_or P Q (x ∷ xs) f = elim (f x (inl refl)) [
   | inl p ↦ elim (each_or P Q xs (λ e k. f e (inr k))) [
@@ -40,7 +43,8 @@ each_or P Q (x ∷ xs) f = elim (f x (inl refl)) [
 ]
 
 -- ---- a live edge through the next event
-end_test : (w : ℤ) (m : ℕ) (E : ℕ → Edge) (pts : List Point) (done : List Step) (v : Point) (coming : List Point) → Ready w m E pts → Front w m E pts done (v ∷ coming)
+end_test : (w : ℤ) (m : ℕ) (E : ℕ → Edge) (pts : List Point) (done : List Step) (v : Point) (coming : List Point)
+    → Ready w m E pts → Front w m E pts done (v ∷ coming)
     → (e : ℕ) → Has e (live done) → (OnStraight (E e) (point v) → (E e).high ≡ v) ⊎ (OnStraight (E e) (point v) × ((E e).high ≡ v → ⊥))
 end_test w m E pts done v coming h f e k =
     let c = front_cut w m E pts done (v ∷ coming) h f in
@@ -66,7 +70,8 @@ end_test w m E pts done v coming h f e k =
     less_not : (x y : ℤ) → x <ℤ y → x ≡ y → ⊥
     less_not x y h e = omega (arith, ints)
 
-pub clear_or : (w : ℤ) (m : ℕ) (E : ℕ → Edge) (pts : List Point) (done : List Step) (v : Point) (coming : List Point) → Ready w m E pts → Front w m E pts done (v ∷ coming)
+pub clear_or : (w : ℤ) (m : ℕ) (E : ℕ → Edge) (pts : List Point) (done : List Step) (v : Point) (coming : List Point)
+    → Ready w m E pts → Front w m E pts done (v ∷ coming)
     → Clear E (live done) v ⊎ OnLive E (live done) v
 clear_or w m E pts done v coming h f =
     elim (each_or (λ e. OnStraight (E e) (point v) → (E e).high ≡ v) (λ e. OnStraight (E e) (point v) × ((E e).high ≡ v → ⊥)) (live done) (end_test w m E pts done v coming h f)) [
@@ -75,7 +80,8 @@ clear_or w m E pts done v coming h f =
     ]
 
 -- ---- whether an edge starts at the next event is seen from the sweep values
-start_test : (w : ℤ) (m : ℕ) (E : ℕ → Edge) (done : List Step) (v : Point) (coming : List Point) → Cut w m E done (v ∷ coming) → (e : ℕ) → e < m → ((E e).low ≡ v) ⊎ ((E e).low ≡ v → ⊥)
+start_test : (w : ℤ) (m : ℕ) (E : ℕ → Edge) (done : List Step) (v : Point) (coming : List Point)
+    → Cut w m E done (v ∷ coming) → (e : ℕ) → e < m → ((E e).low ≡ v) ⊎ ((E e).low ≡ v → ⊥)
 start_test w m E done v coming c e l = elim (c.low e l) [
   | inl k ↦ let x = at_done w m E done v (E e).low coming c k in inr (λ q. less_not _ _ x (subst (λ p. sweep w (point (E e).low) ≡ sweep w (point p)) q refl))
   | inr k ↦ by_lt_z (sweep w (point v)) (sweep w (point (E e).low))
@@ -87,7 +93,8 @@ start_test w m E done v coming c e l = elim (c.low e l) [
     less_not x y h e = omega (arith, ints)
 
 -- ---- the sweep goes on to its end, or comes to a fault
-pub go_on : (w : ℤ) (m : ℕ) (E : ℕ → Edge) (pts : List Point) (done : List Step) (coming : List Point) → Ready w m E pts → ((a b : ℕ) → a < m → b < m → Fine (E a) (E b) ⊎ Bad (E a) (E b))
+pub go_on : (w : ℤ) (m : ℕ) (E : ℕ → Edge) (pts : List Point) (done : List Step) (coming : List Point)
+    → Ready w m E pts → ((a b : ℕ) → a < m → b < m → Fine (E a) (E b) ⊎ Bad (E a) (E b))
     → Front w m E pts done coming → ((end : List Step) × Front w m E pts end []) ⊎ Found w m E pts
 go_on w m E pts done [] h meets f = inl (done, f)
 go_on w m E pts done (v ∷ coming) h meets f = elim (clear_or w m E pts done v coming h f) [
@@ -106,11 +113,13 @@ go_on w m E pts done (v ∷ coming) h meets f = elim (clear_or w m E pts done v 
 ]
 
 -- a complete sweep, or a fault
-pub run_or_found : (w : ℤ) (m : ℕ) (E : ℕ → Edge) (pts : List Point) → Weight w pts → IsEventList m E pts → ((a b : ℕ) → a < m → b < m → Fine (E a) (E b) ⊎ Bad (E a) (E b))
+pub run_or_found : (w : ℤ) (m : ℕ) (E : ℕ → Edge) (pts : List Point) → Weight w pts
+    → IsEventList m E pts → ((a b : ℕ) → a < m → b < m → Fine (E a) (E b) ⊎ Bad (E a) (E b))
     → ((end : List Step) × Front w m E pts end []) ⊎ Found w m E pts
 run_or_found w m E pts h ev meets = go_on w m E pts [] pts (ready w m E pts h ev) meets (start w m E pts)
 
-pub bad_found : (w : ℤ) (m : ℕ) (E : ℕ → Edge) (pts : List Point) (a b : ℕ) → Weight w pts → IsEventList m E pts → ((a b : ℕ) → a < m → b < m → Fine (E a) (E b) ⊎ Bad (E a) (E b))
+pub bad_found : (w : ℤ) (m : ℕ) (E : ℕ → Edge) (pts : List Point) (a b : ℕ) → Weight w pts
+    → IsEventList m E pts → ((a b : ℕ) → a < m → b < m → Fine (E a) (E b) ⊎ Bad (E a) (E b))
     → a < m → b < m → (a ≡ b → ⊥) → Bad (E a) (E b) → Found w m E pts
 bad_found w m E pts a b h ev meets la lb differ bad = elim (run_or_found w m E pts h ev meets) [
   | inl (end, f) ↦ absurd (fine_not_bad (E a) (E b) (complete_fine w m E pts end a b h ev f la lb differ) bad)
@@ -119,7 +128,8 @@ bad_found w m E pts a b h ev meets la lb differ bad = elim (run_or_found w m E p
 
 -- ---- each fault names a bad pair
 -- a live edge through an event that is not its end, and any edge that starts or ends there
-pub on_live_bad : (w : ℤ) (m : ℕ) (E : ℕ → Edge) (pts : List Point) (done : List Step) (v : Point) (coming : List Point) → Ready w m E pts → Front w m E pts done (v ∷ coming)
+pub on_live_bad : (w : ℤ) (m : ℕ) (E : ℕ → Edge) (pts : List Point) (done : List Step) (v : Point) (coming : List Point)
+    → Ready w m E pts → Front w m E pts done (v ∷ coming)
     → (o : OnLive E (live done) v) → (d : ℕ) → d < m → IsEnd (E d) v → (o.edge ≡ d → ⊥) × Bad (E o.edge) (E d)
 on_live_bad w m E pts done v coming h f o d l end =
     let e = o.edge in
@@ -136,7 +146,9 @@ on_live_bad w m E pts done v coming h f o d l end =
       },
     )
   where
-    no_end : (w : ℤ) (E : ℕ → Edge) (done : List Step) (v : Point) (coming : List Point) (e : ℕ) (p : Point) (m : ℕ) → Cut w m E done (v ∷ coming) → sweep w (point (E e).low) <ℤ sweep w (point v) → Has (E e).high (v ∷ coming)
+    no_end : (w : ℤ) (E : ℕ → Edge) (done : List Step) (v : Point) (coming : List Point) (e : ℕ) (p : Point) (m : ℕ)
+        → Cut w m E done (v ∷ coming) → sweep w (point (E e).low) <ℤ sweep w (point v)
+        → Has (E e).high (v ∷ coming)
         → ((E e).high ≡ v → ⊥) → sweep w (point p) ≡ sweep w (point v) → IsEnd (E e) p → ⊥
     no_end w E done v coming e p m c low late n at (inl q) = let x = subst (λ r. sweep w (point r) <ℤ sweep w (point v)) q low in omega (arith, ints, x, at)
     no_end w E done v coming e p m c low late n at (inr q) = n (first_only w v (E e).high coming c.rising late (subst (λ r. sweep w (point r) ≤ℤ sweep w (point v)) (sym q) (omega (arith, ints, at))))
@@ -144,7 +156,8 @@ on_live_bad w m E pts done v coming h f o d l end =
     level : (w : ℤ) (v p : Point) → Same (point v) (point p) → sweep w (point p) ≡ sweep w (point v)
     level w v p same = let x = same_sweep w (point v) p same in omega (arith, ints, x)
 
-    end_place : (w : ℤ) (e : Edge) (v : Point) → pos 0 <ℤ rise w e → IsEnd e v → OnStraight e (point v)
+    end_place : (w : ℤ) (e : Edge) (v : Point) → pos 0 <ℤ rise w e → IsEnd e v
+        → OnStraight e (point v)
     end_place w e v up (inl q) =
         let r = rise-is w e in let s = side-low e in
         subst (λ p. OnStraight e (point p)) q (on_straight w e (point e.low) up (omega (arith, ints)) (record { line = s; low = omega (arith, ints); high = omega (arith, ints, r, up) }))

@@ -1,6 +1,7 @@
 -- Two edges that are not bad are apart or touch in one end.
 -- Two that are bad do neither.
-use Rattle.std.proofs.Common.{◌≡◌, ℤ, pos, ◌<ℤ◌, ◌⊎◌, inl, inr, false, refl, arith, ap, sym, ◌∙◌, subst, ◌*ℤ◌}
+use Rattle.std.proofs.Common.{◌≡◌, ℤ, pos, ◌<ℤ◌, ◌⊎◌, inl, inr, false, refl, arith, ap, sym, ◌∙◌}
+use Rattle.std.proofs.Common.{subst, ◌*ℤ◌}
 use Rattle.std.proofs.lemmas.Int.{ints}
 use Rattle.plane.specs.declared.kinds.Point.{Point}
 use Rattle.plane.specs.Forms.Vectors.{Place, point, Same, Edge, sweep, rise}
@@ -41,7 +42,8 @@ end_test e p = elim (point_test e.low p) [
 ]
 
 -- a common end, or none
-shared : (a b : Edge) → ((p : Point) × IsEnd a p × IsEnd b p) ⊎ ((p : Point) → IsEnd a p → IsEnd b p → ⊥)
+shared : (a b : Edge)
+    → ((p : Point) × IsEnd a p × IsEnd b p) ⊎ ((p : Point) → IsEnd a p → IsEnd b p → ⊥)
 shared a b = elim (end_test b a.low) [
   | inl h ↦ inl (a.low, inl refl, h)
   | inr n ↦ elim (end_test b a.high) [
@@ -51,13 +53,15 @@ shared a b = elim (end_test b a.low) [
 ]
 
 -- two ends of edges that are not bad are one point, if both are common
-one_shared : (w : ℤ) (a b : Edge) → pos 0 <ℤ rise w a → pos 0 <ℤ rise w b → Fine a b → (p q : Point) → IsEnd a p → IsEnd b p → IsEnd a q → IsEnd b q → p ≡ q
+one_shared : (w : ℤ) (a b : Edge) → pos 0 <ℤ rise w a → pos 0 <ℤ rise w b → Fine a b → (p q : Point)
+    → IsEnd a p → IsEnd b p → IsEnd a q → IsEnd b q → p ≡ q
 one_shared w a b ra rb fine p q pa pb qa qb = elim (point_test p q) [
   | inl h ↦ h
   | inr n ↦ absurd (two_ends w a b ra rb fine (same_edge w a b ra rb p q n pa pb qa qb))
 ]
   where
-    two_ends : (w : ℤ) (a b : Edge) → pos 0 <ℤ rise w a → pos 0 <ℤ rise w b → Fine a b → (a.low ≡ b.low) × (a.high ≡ b.high) → ⊥
+    two_ends : (w : ℤ) (a b : Edge) → pos 0 <ℤ rise w a → pos 0 <ℤ rise w b → Fine a b
+        → (a.low ≡ b.low) × (a.high ≡ b.high) → ⊥
     two_ends w a b ra rb fine h =
         let P : Place (middle a) = omega (arith, ints) in
         let oa = on_straight w a (middle a) ra P (middle_on w a ra) in
@@ -65,13 +69,16 @@ one_shared w a b ra rb fine p q pa pb qa qb = elim (point_test p q) [
         let c = fine (middle a) P oa ob in
         middle_end w a c.at ra (same_sweep w (middle a) c.at c.is) c.of_first
 
-    crossed : (w : ℤ) (a b : Edge) → pos 0 <ℤ rise w a → pos 0 <ℤ rise w b → a.low ≡ b.high → a.high ≡ b.low → ⊥
+    crossed : (w : ℤ) (a b : Edge) → pos 0 <ℤ rise w a → pos 0 <ℤ rise w b → a.low ≡ b.high
+        → a.high ≡ b.low → ⊥
     crossed w a b ra rb h k =
         let x = rise-is w a in let y = rise-is w b in
         let u = ap (λ p. sweep w (point p)) h in let v = ap (λ p. sweep w (point p)) k in
         omega (arith, ints, ra, rb, x, y, u, v)
 
-    same_edge : (w : ℤ) (a b : Edge) → pos 0 <ℤ rise w a → pos 0 <ℤ rise w b → (p q : Point) → (p ≡ q → ⊥) → IsEnd a p → IsEnd b p → IsEnd a q → IsEnd b q → (a.low ≡ b.low) × (a.high ≡ b.high)
+    same_edge : (w : ℤ) (a b : Edge) → pos 0 <ℤ rise w a → pos 0 <ℤ rise w b → (p q : Point)
+        → (p ≡ q → ⊥) → IsEnd a p → IsEnd b p → IsEnd a q → IsEnd b q
+        → (a.low ≡ b.low) × (a.high ≡ b.high)
     same_edge w a b ra rb p q n (inl x) (inl y) (inl u) v = absurd (n (sym x ∙ u))
     same_edge w a b ra rb p q n (inl x) (inl y) (inr u) (inl v) = absurd (n (sym y ∙ v))
     same_edge w a b ra rb p q n (inl x) (inl y) (inr u) (inr v) = (x ∙ sym y, u ∙ sym v)
@@ -86,7 +93,8 @@ one_shared w a b ra rb fine p q pa pb qa qb = elim (point_test p q) [
     same_edge w a b ra rb p q n (inr x) (inr y) (inr u) v = absurd (n (sym x ∙ u))
 
 -- edges that are not bad are apart or touch
-pub fine_cases : (w : ℤ) (a b : Edge) → pos 0 <ℤ rise w a → pos 0 <ℤ rise w b → Fine a b → Disjoint a b ⊎ Touch a b
+pub fine_cases : (w : ℤ) (a b : Edge) → pos 0 <ℤ rise w a → pos 0 <ℤ rise w b → Fine a b
+    → Disjoint a b ⊎ Touch a b
 fine_cases w a b ra rb fine = elim (shared a b) [
   | inl (p, pa, pb) ↦ inr (record {
     at = p;

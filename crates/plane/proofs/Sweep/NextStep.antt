@@ -1,6 +1,7 @@
 -- Making the next step: a walk along the live list, or a cut by two tests.
 -- The edges that start are put in by slope.
-use Rattle.std.proofs.Common.{◌≡◌, ℕ, zero, suc, ◌<◌, pos, ◌<ℤ◌, ◌≤ℤ◌, ◌⊎◌, inl, inr, List, [], ◌∷◌, ◌++◌, refl, arith, ap, sym, ◌∙◌, subst}
+use Rattle.std.proofs.Common.{◌≡◌, ℕ, zero, suc, ◌<◌, pos, ◌<ℤ◌, ◌≤ℤ◌, ◌⊎◌, inl, inr, List, [], ◌∷◌}
+use Rattle.std.proofs.Common.{◌++◌, refl, arith, ap, sym, ◌∙◌, subst}
 use Rattle.std.proofs.lemmas.Int.{ints, by_lt_z}
 use Rattle.plane.specs.declared.kinds.Point.{Point}
 use Rattle.plane.specs.Forms.Vectors.{point, Edge, side}
@@ -8,20 +9,23 @@ use Rattle.plane.specs.Lists.{Each, First, Neighbours, Has}
 use Rattle.plane.specs.Runs.Steps.{Step}
 use Rattle.plane.specs.Runs.Sweeps.{Made}
 use Rattle.plane.proofs.Sweep.SweepWords.{FallsUp, Walked, Fan}
-use Rattle.plane.proofs.ListLemmas.Lists.{each_map, each_back, first_from, last_from, neighbours_map, neighbours_back, up_from_first}
+use Rattle.plane.proofs.ListLemmas.Lists.{each_map, each_back, first_from, last_from}
+use Rattle.plane.proofs.ListLemmas.Lists.{neighbours_map, neighbours_back, up_from_first}
 use Rattle.plane.proofs.Linear.Signs.{by_sign}
 use Rattle.plane.proofs.Sweep.Fronts.{not_above_up}
 use Rattle.plane.proofs.Sweep.Fans.{turn_back}
 
 -- ---- the walk
-level : (E : ℕ → Edge) (p : Point) (now : List ℕ) → (ending : List ℕ) × (above : List ℕ) × (now ≡ ending ++ above) × Each (λ e. side (E e) (point p) ≡ pos 0) ending × First (λ e. side (E e) (point p) ≡ pos 0 → ⊥) above
+level : (E : ℕ → Edge) (p : Point) (now : List ℕ)
+    → (ending : List ℕ) × (above : List ℕ) × (now ≡ ending ++ above) × Each (λ e. side (E e) (point p) ≡ pos 0) ending × First (λ e. side (E e) (point p) ≡ pos 0 → ⊥) above
 level E p [] = ([], [], refl, tt, tt)
 level E p (x ∷ xs) = by_sign (side (E x) (point p))
     (λ l. ([], x ∷ xs, refl, tt, λ z. omega (arith, ints, l, z)))
     (λ l. let (ending, above, is, all, on) = level E p xs in (x ∷ ending, above, ap (λ ys. x ∷ ys) is, (l, all), on))
     (λ l. ([], x ∷ xs, refl, tt, λ z. omega (arith, ints, l, z)))
 
-level_first : (E : ℕ → Edge) (p : Point) (x : ℕ) (ys zs : List ℕ) → x ∷ ys ≡ zs → side (E x) (point p) ≤ℤ pos 0 → First (λ e. side (E e) (point p) ≤ℤ pos 0) zs
+level_first : (E : ℕ → Edge) (p : Point) (x : ℕ) (ys zs : List ℕ) → x ∷ ys ≡ zs
+    → side (E x) (point p) ≤ℤ pos 0 → First (λ e. side (E e) (point p) ≤ℤ pos 0) zs
 level_first E p x ys zs e h = subst (λ us. First (λ e. side (E e) (point p) ≤ℤ pos 0) us) e h
 
 pub walk : (E : ℕ → Edge) (p : Point) (now : List ℕ) → Walked E p now
@@ -34,12 +38,14 @@ walk E p (x ∷ xs) = by_lt_z (pos 0) (side (E x) (point p))
     let (ending, above, is, all, on) = level E p (x ∷ xs) in
     record { below = []; ending = ending; above = above; is = is; below_all = tt; stops = level_first E p x xs (ending ++ above) is l; ending_all = all; goes_on = on })
 
-first_both : (P Q R : ℕ → Type 0) (xs : List ℕ) → ((x : ℕ) → P x → Q x → R x) → First P xs → First Q xs → First R xs
+first_both : (P Q R : ℕ → Type 0) (xs : List ℕ) → ((x : ℕ) → P x → Q x → R x) → First P xs
+    → First Q xs → First R xs
 first_both P Q R [] f h k = tt
 first_both P Q R (x ∷ xs) f h k = f x h k
 
 -- in an ordered list the edge after those through p is above it
-pub above_first : (E : ℕ → Edge) (p : Point) (now : List ℕ) (r : Walked E p now) → Neighbours (FallsUp E p) now → First (λ e. side (E e) (point p) <ℤ pos 0) r.above
+pub above_first : (E : ℕ → Edge) (p : Point) (now : List ℕ) (r : Walked E p now)
+    → Neighbours (FallsUp E p) now → First (λ e. side (E e) (point p) <ℤ pos 0) r.above
 above_first E p now r h =
     let F = FallsUp E p in
     let N : ℕ → Type 0 = λ e. side (E e) (point p) ≤ℤ pos 0 in
@@ -52,7 +58,8 @@ above_first E p now r h =
 abbrev pub step_of : {m : ℕ} {E : ℕ → Edge} (p : Point) {now : List ℕ} → Walked E p now → Fan m E p → Step
 step_of p r fan = record { at = p; below = r.below; ending = r.ending; starting = fan.list; above = r.above }
 
-pub walked_made : (m : ℕ) (E : ℕ → Edge) (p : Point) (now : List ℕ) (r : Walked E p now) (fan : Fan m E p) → Neighbours (FallsUp E p) now → Made m E now (step_of p r fan)
+pub walked_made : (m : ℕ) (E : ℕ → Edge) (p : Point) (now : List ℕ) (r : Walked E p now) (fan : Fan m E p)
+    → Neighbours (FallsUp E p) now → Made m E now (step_of p r fan)
 walked_made m E p now r fan h = record {
   is = r.is;
   below_last = last_from (λ e. pos 0 <ℤ side (E e) (point p)) r.below r.below_all;
@@ -80,7 +87,8 @@ has_more : (d x : ℕ) (xs : List ℕ) (e : ℕ) → (d ≡ e) ⊎ Has d xs → 
 has_more d x xs e (inl q) = inl q
 has_more d x xs e (inr k) = inr (inr k)
 
-put : (E : ℕ → Edge) (p : Point) (e : ℕ) (xs : List ℕ) → (E e).low ≡ p → ((d : ℕ) → Has d xs → (E d).low ≡ p) → Neighbours (Slope E) xs → Inserted E e xs
+put : (E : ℕ → Edge) (p : Point) (e : ℕ) (xs : List ℕ) → (E e).low ≡ p
+    → ((d : ℕ) → Has d xs → (E d).low ≡ p) → Neighbours (Slope E) xs → Inserted E e xs
 put E p e [] le lows h = record { list = e ∷ []; only = λ d k. k; new = inl refl; old = λ d k. absurd k; first = λ x l f. l; sorted = (tt, tt) }
 put E p e (x ∷ xs) le lows h = by_lt_z (side (E e) (point (E x).high)) (pos 0)
     (λ (l : side (E e) (point (E x).high) <ℤ pos 0).
@@ -97,7 +105,8 @@ put E p e (x ∷ xs) le lows h = by_lt_z (side (E e) (point (E x).high)) (pos 0)
     (λ (l : pos 0 ≤ℤ side (E e) (point (E x).high)). record { list = e ∷ (x ∷ xs); only = λ d k. k; new = inl refl; old = λ d k. inr k; first = λ y i f. i; sorted = (l, h) })
 
 -- deciding whether an edge starts at p, and the fan of the edges with numbers below n
-pub fan_of : (m : ℕ) (E : ℕ → Edge) (p : Point) → ((e : ℕ) → e < m → ((E e).low ≡ p) ⊎ ((E e).low ≡ p → ⊥)) → Fan m E p
+pub fan_of : (m : ℕ) (E : ℕ → Edge) (p : Point)
+    → ((e : ℕ) → e < m → ((E e).low ≡ p) ⊎ ((E e).low ≡ p → ⊥)) → Fan m E p
 fan_of zero E p test = record { list = []; only = λ e k. absurd k; all = λ e l q. absurd (omega (arith, l)); sorted = tt }
 fan_of (suc m) E p test =
     let r = fan_of m E p (λ e l. test e (omega (arith, l))) in

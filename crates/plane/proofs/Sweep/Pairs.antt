@@ -1,23 +1,28 @@
 -- Two edges that are not bad keep their order on the sweep.
 -- It can only end where both end in one point.
-use Rattle.std.proofs.Common.{◌≡◌, ℕ, ℤ, pos, ◌+ℤ◌, ◌*ℤ◌, ◌-ℤ◌, ◌<ℤ◌, ◌≤ℤ◌, ◌⊎◌, inl, inr, [], ◌∷◌, refl, arith, ap, sym, ◌∙◌, subst}
+use Rattle.std.proofs.Common.{◌≡◌, ℕ, ℤ, pos, ◌+ℤ◌, ◌*ℤ◌, ◌-ℤ◌, ◌<ℤ◌, ◌≤ℤ◌, ◌⊎◌, inl, inr, [], ◌∷◌}
+use Rattle.std.proofs.Common.{refl, arith, ap, sym, ◌∙◌, subst}
 use Rattle.std.proofs.lemmas.Int.{ints, by_lt_z}
 use Rattle.plane.specs.declared.kinds.Point.{Point}
-use Rattle.plane.specs.Forms.Vectors.{Vector, Place, point, mix, up, Edge, side, sweep, rise, gap, foot, On}
+use Rattle.plane.specs.Forms.Vectors.{Vector, Place, point, mix, up, Edge, side, sweep, rise, gap}
+use Rattle.plane.specs.Forms.Vectors.{foot, On}
 use Rattle.plane.specs.Forms.Meets.{IsEnd}
 use Rattle.plane.specs.Forms.Meets.{OnStraight, Fine}
 use Rattle.plane.specs.Runs.Sweeps.{Lies}
 use Rattle.plane.proofs.Algebra.Laws.{product_positive, product_nonnegative, positive_factor}
 use Rattle.plane.proofs.Algebra.Ring.{at, num, plus, minus, times, vars, ring}
-use Rattle.plane.proofs.Linear.Vectors.{side-mix, sweep-mix, side-up, rise-is, side-low, side-high, gap-three, gap-mix}
+use Rattle.plane.proofs.Linear.Vectors.{side-mix, sweep-mix, side-up, rise-is, side-low, side-high}
+use Rattle.plane.proofs.Linear.Vectors.{gap-three, gap-mix}
 use Rattle.plane.proofs.Linear.Signs.{mix_place, foot-side, foot-sweep, foot-n, foot_place}
 use Rattle.plane.proofs.Runs.Meeting.{same_sweep}
 use Rattle.plane.proofs.Linear.Straights.{on_is}
 
-pub straight_on : (w : ℤ) (e : Edge) (z : Vector) → pos 0 <ℤ rise w e → Place z → OnStraight e z → On w e z
+pub straight_on : (w : ℤ) (e : Edge) (z : Vector) → pos 0 <ℤ rise w e → Place z → OnStraight e z
+    → On w e z
 straight_on w e z h P = (on_is w e z h P).1
 
-pub on_straight : (w : ℤ) (e : Edge) (z : Vector) → pos 0 <ℤ rise w e → Place z → On w e z → OnStraight e z
+pub on_straight : (w : ℤ) (e : Edge) (z : Vector) → pos 0 <ℤ rise w e → Place z → On w e z
+    → OnStraight e z
 on_straight w e z h P = (on_is w e z h P).0
 
 -- the other edge at a foot
@@ -29,7 +34,8 @@ foot-gap w a b y =
     ∙ ring (plus (times (at 0) (at 2)) (times (minus (num (pos 0)) (at 3)) (at 1))) (minus (times (at 0) (at 2)) (times (at 1) (at 3))) (vars (rise w a ∷ rise w b ∷ side b y ∷ side a y ∷ [])) refl
 
 -- a value before z's and not after p's is before that of a place between them that is not p
-mix_after : (l tp s n g h : ℤ) → pos 0 <ℤ n → l ≤ℤ tp → (tp *ℤ n) <ℤ s → pos 0 ≤ℤ g → pos 0 <ℤ h → (l *ℤ ((g *ℤ pos 1) +ℤ (h *ℤ n))) <ℤ ((g *ℤ tp) +ℤ (h *ℤ s))
+mix_after : (l tp s n g h : ℤ) → pos 0 <ℤ n → l ≤ℤ tp → (tp *ℤ n) <ℤ s → pos 0 ≤ℤ g → pos 0 <ℤ h
+    → (l *ℤ ((g *ℤ pos 1) +ℤ (h *ℤ n))) <ℤ ((g *ℤ tp) +ℤ (h *ℤ s))
 mix_after l tp s n g h hn hl hs hg hh =
     let a = product_nonnegative g (tp -ℤ l) hg (omega (arith, ints, hl)) in
     let b = product_nonnegative n (tp -ℤ l) (omega (arith, ints, hn)) (omega (arith, ints, hl)) in
@@ -40,7 +46,8 @@ mix_after l tp s n g h hn hl hs hg hh =
     (vars (l ∷ tp ∷ s ∷ n ∷ g ∷ h ∷ [])) refl in
     omega (arith, ints, a, c, e)
 
-mix_upto : (u tp s n g h : ℤ) → tp ≤ℤ u → s ≤ℤ (u *ℤ n) → pos 0 ≤ℤ g → pos 0 <ℤ h → ((g *ℤ tp) +ℤ (h *ℤ s)) ≤ℤ (u *ℤ ((g *ℤ pos 1) +ℤ (h *ℤ n)))
+mix_upto : (u tp s n g h : ℤ) → tp ≤ℤ u → s ≤ℤ (u *ℤ n) → pos 0 ≤ℤ g → pos 0 <ℤ h
+    → ((g *ℤ tp) +ℤ (h *ℤ s)) ≤ℤ (u *ℤ ((g *ℤ pos 1) +ℤ (h *ℤ n)))
 mix_upto u tp s n g h hu hs hg hh =
     let a = product_nonnegative g (u -ℤ tp) hg (omega (arith, ints, hu)) in
     let c = product_nonnegative h ((u *ℤ n) -ℤ s) (omega (arith, ints, hh)) (omega (arith, ints, hs)) in
@@ -49,7 +56,8 @@ mix_upto u tp s n g h hu hs hg hh =
     (vars (u ∷ tp ∷ s ∷ n ∷ g ∷ h ∷ [])) refl in
     omega (arith, ints, a, c, e)
 
-mix_before : (u tp s n g h : ℤ) → tp ≤ℤ u → s <ℤ (u *ℤ n) → pos 0 ≤ℤ g → pos 0 <ℤ h → ((g *ℤ tp) +ℤ (h *ℤ s)) <ℤ (u *ℤ ((g *ℤ pos 1) +ℤ (h *ℤ n)))
+mix_before : (u tp s n g h : ℤ) → tp ≤ℤ u → s <ℤ (u *ℤ n) → pos 0 ≤ℤ g → pos 0 <ℤ h
+    → ((g *ℤ tp) +ℤ (h *ℤ s)) <ℤ (u *ℤ ((g *ℤ pos 1) +ℤ (h *ℤ n)))
 mix_before u tp s n g h hu hs hg hh =
     let a = product_nonnegative g (u -ℤ tp) hg (omega (arith, ints, hu)) in
     let c = product_positive h ((u *ℤ n) -ℤ s) hh (omega (arith, ints, hs)) in
@@ -59,7 +67,9 @@ mix_before u tp s n g h hu hs hg hh =
     omega (arith, ints, a, c, e)
 
 -- the span of a foot
-pub foot_late : (w : ℤ) (e : Edge) (y : Vector) (v : Point) → pos 0 <ℤ rise w e → (sweep w (point v) *ℤ y.n) <ℤ sweep w y → (sweep w (point v) *ℤ (foot w e y).n) <ℤ sweep w (foot w e y)
+pub foot_late : (w : ℤ) (e : Edge) (y : Vector) (v : Point) → pos 0 <ℤ rise w e
+    → (sweep w (point v) *ℤ y.n) <ℤ sweep w y
+    → (sweep w (point v) *ℤ (foot w e y).n) <ℤ sweep w (foot w e y)
 foot_late w e y v h l = rw (foot-sweep w e y, foot-n w e y) (weighted (rise w e) (sweep w (point v)) y.n (sweep w y) h l)
   where
     weighted : (r a n b : ℤ) → pos 0 <ℤ r → (a *ℤ n) <ℤ b → (a *ℤ (r *ℤ n)) <ℤ (r *ℤ b)
@@ -68,7 +78,9 @@ foot_late w e y v h l = rw (foot-sweep w e y, foot-n w e y) (weighted (rise w e)
         let e = ring (times (at 0) (minus (at 3) (times (at 1) (at 2)))) (minus (times (at 0) (at 3)) (times (at 1) (times (at 0) (at 2)))) (vars (r ∷ a ∷ n ∷ b ∷ [])) refl in
         omega (arith, ints, p, e)
 
-pub foot_upto : (w : ℤ) (e : Edge) (y : Vector) (v : Point) → pos 0 <ℤ rise w e → sweep w y ≤ℤ (sweep w (point v) *ℤ y.n) → sweep w (foot w e y) ≤ℤ (sweep w (point v) *ℤ (foot w e y).n)
+pub foot_upto : (w : ℤ) (e : Edge) (y : Vector) (v : Point) → pos 0 <ℤ rise w e
+    → sweep w y ≤ℤ (sweep w (point v) *ℤ y.n)
+    → sweep w (foot w e y) ≤ℤ (sweep w (point v) *ℤ (foot w e y).n)
 foot_upto w e y v h l = rw (foot-sweep w e y, foot-n w e y) (weighted (rise w e) (sweep w (point v)) y.n (sweep w y) h l)
   where
     weighted : (r a n b : ℤ) → pos 0 <ℤ r → b ≤ℤ (a *ℤ n) → (r *ℤ b) ≤ℤ (a *ℤ (r *ℤ n))
@@ -77,7 +89,9 @@ foot_upto w e y v h l = rw (foot-sweep w e y, foot-n w e y) (weighted (rise w e)
         let e = ring (times (at 0) (minus (times (at 1) (at 2)) (at 3))) (minus (times (at 1) (times (at 0) (at 2))) (times (at 0) (at 3))) (vars (r ∷ a ∷ n ∷ b ∷ [])) refl in
         omega (arith, ints, p, e)
 
-pub foot_early : (w : ℤ) (e : Edge) (y : Vector) (v : Point) → pos 0 <ℤ rise w e → sweep w y <ℤ (sweep w (point v) *ℤ y.n) → sweep w (foot w e y) <ℤ (sweep w (point v) *ℤ (foot w e y).n)
+pub foot_early : (w : ℤ) (e : Edge) (y : Vector) (v : Point) → pos 0 <ℤ rise w e
+    → sweep w y <ℤ (sweep w (point v) *ℤ y.n)
+    → sweep w (foot w e y) <ℤ (sweep w (point v) *ℤ (foot w e y).n)
 foot_early w e y v h l = rw (foot-sweep w e y, foot-n w e y) (weighted (rise w e) (sweep w (point v)) y.n (sweep w y) h l)
   where
     weighted : (r a n b : ℤ) → pos 0 <ℤ r → b <ℤ (a *ℤ n) → (r *ℤ b) <ℤ (a *ℤ (r *ℤ n))
@@ -111,7 +125,8 @@ abbrev pub EndTogether : ℤ → Edge → Edge → Vector → Type 0
 EndTogether w a b z = (a.high ≡ b.high) × (sweep w z ≡ sweep w (point a.high) *ℤ z.n)
 
 -- where the order is lost, the two edges have a common place, and so a common high end
-lost : (w : ℤ) (a b : Edge) (p : Point) (z : Vector) → Spans w a b p z → Fine a b → gap w a b (point p) <ℤ pos 0 → pos 0 ≤ℤ gap w a b z → EndTogether w a b z
+lost : (w : ℤ) (a b : Edge) (p : Point) (z : Vector) → Spans w a b p z → Fine a b
+    → gap w a b (point p) <ℤ pos 0 → pos 0 ≤ℤ gap w a b z → EndTogether w a b z
 lost w a b p z i fine below above =
     let g = gap w a b z in
     let h = pos 0 -ℤ gap w a b (point p) in
@@ -158,18 +173,23 @@ lost w a b p z i fine below above =
     one_end : (p q r : Point) → p ≡ q → r ≡ q → p ≡ r
     one_end p q r h k = h ∙ sym k
 
-    at_high : (w : ℤ) (f : Vector) (h c : Point) → h ≡ c → sweep w f ≡ sweep w (point c) *ℤ f.n → sweep w f ≡ sweep w (point h) *ℤ f.n
+    at_high : (w : ℤ) (f : Vector) (h c : Point) → h ≡ c → sweep w f ≡ sweep w (point c) *ℤ f.n
+        → sweep w f ≡ sweep w (point h) *ℤ f.n
     at_high w f h c e s = subst (λ q. sweep w f ≡ sweep w (point q) *ℤ f.n) (sym e) s
 
-    high_of : (w : ℤ) (e : Edge) (f : Vector) (c : Point) → (sweep w (point e.low) *ℤ f.n) <ℤ sweep w f → sweep w f ≡ sweep w (point c) *ℤ f.n → IsEnd e c → e.high ≡ c
+    high_of : (w : ℤ) (e : Edge) (f : Vector) (c : Point)
+        → (sweep w (point e.low) *ℤ f.n) <ℤ sweep w f → sweep w f ≡ sweep w (point c) *ℤ f.n
+        → IsEnd e c → e.high ≡ c
     high_of w e f c l s (inl q) = absurd (not_less _ _ (subst (λ q. (sweep w (point q) *ℤ f.n) <ℤ sweep w f) q l) (sym s))
     high_of w e f c l s (inr q) = q
 
-pub gap_kept : (w : ℤ) (a b : Edge) (p : Point) (z : Vector) → Spans w a b p z → Fine a b → gap w a b (point p) <ℤ pos 0 → (gap w a b z <ℤ pos 0) ⊎ EndTogether w a b z
+pub gap_kept : (w : ℤ) (a b : Edge) (p : Point) (z : Vector) → Spans w a b p z → Fine a b
+    → gap w a b (point p) <ℤ pos 0 → (gap w a b z <ℤ pos 0) ⊎ EndTogether w a b z
 gap_kept w a b p z i fine below = by_lt_z (gap w a b z) (pos 0) (λ l. inl l) (λ (l : pos 0 ≤ℤ gap w a b z). inr (lost w a b p z i fine below l))
 
 -- two edges that start together and turn apart
-gap_fan : (w : ℤ) (a b : Edge) (p : Point) (z : Vector) → Spans w a b p z → a.low ≡ p → b.low ≡ p → pos 0 <ℤ side a (point b.high) → gap w a b z <ℤ pos 0
+gap_fan : (w : ℤ) (a b : Edge) (p : Point) (z : Vector) → Spans w a b p z → a.low ≡ p → b.low ≡ p
+    → pos 0 <ℤ side a (point b.high) → gap w a b z <ℤ pos 0
 unfolding gap
 gap_fan w a b p z i la lb turn =
     let za : side a (point p) ≡ pos 0 = subst (λ q. side a (point q) ≡ pos 0) la (side-low a) in
@@ -180,7 +200,8 @@ gap_fan w a b p z i la lb turn =
     fan (rise w a) (rise w b) (side a (point p)) (side b (point p)) (side a (point b.high)) (side b (point b.high)) (gap w a b z) (sweep w (point p)) (sweep w (point b.high)) (sweep w z) z.n
     za zb (side-high b) turn rb up i.after (gap-three w a b z (point p) (point b.high))
   where
-    fan : (ra rb ap bp aq bq d tp tq s n : ℤ) → ap ≡ pos 0 → bp ≡ pos 0 → bq ≡ pos 0 → pos 0 <ℤ aq → pos 0 <ℤ rb → tp <ℤ tq → (tp *ℤ n) <ℤ s
+    fan : (ra rb ap bp aq bq d tp tq s n : ℤ) → ap ≡ pos 0 → bp ≡ pos 0 → bq ≡ pos 0 → pos 0 <ℤ aq
+        → pos 0 <ℤ rb → tp <ℤ tq → (tp *ℤ n) <ℤ s
         → d *ℤ ((tq *ℤ pos 1) -ℤ (tp *ℤ pos 1)) ≡ (((ra *ℤ bp) -ℤ (rb *ℤ ap)) *ℤ ((tq *ℤ n) -ℤ (s *ℤ pos 1))) +ℤ (((ra *ℤ bq) -ℤ (rb *ℤ aq)) *ℤ ((s *ℤ pos 1) -ℤ (tp *ℤ n)))
         → d <ℤ pos 0
     fan ra rb ap bp aq bq d tp tq s n ea eb ec turn hr up after e =
@@ -198,7 +219,8 @@ gap_fan w a b p z i la lb turn =
         chain x y z u e f g h = omega (arith, ints, e, f, g, h)
 
 -- an order at p is kept up to z, or z is on the sweep line of a common high end
-pub order_kept : (w : ℤ) (E : ℕ → Edge) (p : Point) (z : Vector) (a b : ℕ) → Spans w (E a) (E b) p z → Fine (E a) (E b) → Lies w E p a b
+pub order_kept : (w : ℤ) (E : ℕ → Edge) (p : Point) (z : Vector) (a b : ℕ) → Spans w (E a) (E b) p z
+    → Fine (E a) (E b) → Lies w E p a b
     → (gap w (E a) (E b) z <ℤ pos 0) ⊎ EndTogether w (E a) (E b) z
 order_kept w E p z a b i fine (inl l) = gap_kept w (E a) (E b) p z i fine l
 order_kept w E p z a b i fine (inr (la, lb, t)) = inl (gap_fan w (E a) (E b) p z i la lb t)

@@ -1,6 +1,7 @@
 -- Where no neighbours are bad and no event lies on a live edge but as its end, the next step is good.
 -- Then the sweep goes on, with all edges in order at the event.
-use Rattle.std.proofs.Common.{◌≡◌, ℕ, ◌<◌, ℤ, pos, ◌<ℤ◌, ◌≤ℤ◌, inl, inr, List, ◌∷◌, ◌++◌, refl, arith, sym, subst}
+use Rattle.std.proofs.Common.{◌≡◌, ℕ, ◌<◌, ℤ, pos, ◌<ℤ◌, ◌≤ℤ◌, inl, inr, List, ◌∷◌, ◌++◌, refl}
+use Rattle.std.proofs.Common.{arith, sym, subst}
 use Rattle.std.proofs.lemmas.Int.{ints}
 use Rattle.plane.specs.declared.kinds.Point.{Point}
 use Rattle.plane.specs.Forms.Vectors.{point, Edge, side, sweep, rise}
@@ -8,12 +9,18 @@ use Rattle.plane.specs.Lists.{Each, First, Neighbours, Has, Once}
 use Rattle.plane.specs.Runs.Steps.{Step, before, after, Turns, GoodStep, AtSome, live}
 use Rattle.plane.specs.Runs.Sweeps.{Lies, FinePair, Front, Clear, Made}
 use Rattle.plane.proofs.Sweep.SweepWords.{Ready, FallsUp}
-use Rattle.plane.proofs.ListLemmas.Lists.{each_has, each_from, has_front, has_back, has_three, first_map, first_append, first_from, last_from, neighbours_map, neighbours_append, neighbours_front, neighbours_back, joint_from, down_from_last, up_from_first, once_front, once_back}
+use Rattle.plane.proofs.ListLemmas.Lists.{each_has, each_from, has_front, has_back, has_three}
+use Rattle.plane.proofs.ListLemmas.Lists.{first_map, first_append, first_from, last_from}
+use Rattle.plane.proofs.ListLemmas.Lists.{neighbours_map, neighbours_append, neighbours_front}
+use Rattle.plane.proofs.ListLemmas.Lists.{neighbours_back, joint_from, down_from_last}
+use Rattle.plane.proofs.ListLemmas.Lists.{up_from_first, once_front, once_back}
 use Rattle.plane.proofs.Linear.Vectors.{rise-is}
 use Rattle.plane.proofs.Linear.Signs.{gap_at_most}
-use Rattle.plane.proofs.Runs.LiveEdges.{live_started, is_live, side_through_low, side_through_high, has_below_before, has_above_before}
+use Rattle.plane.proofs.Runs.LiveEdges.{live_started, is_live, side_through_low, side_through_high}
+use Rattle.plane.proofs.Runs.LiveEdges.{has_below_before, has_above_before}
 use Rattle.plane.proofs.Sweep.Pairs.{on_straight}
-use Rattle.plane.proofs.Sweep.Fronts.{Cut, front_cut, first_least, Passes, passes, falls, not_above_up, not_below_down}
+use Rattle.plane.proofs.Sweep.Fronts.{Cut, front_cut, first_least, Passes, passes, falls}
+use Rattle.plane.proofs.Sweep.Fronts.{not_above_up, not_below_down}
 use Rattle.plane.proofs.Sweep.Fans.{sorted_turns, front_once}
 
 -- ---- the sides of the made step
@@ -22,7 +29,8 @@ pub record Sides (E : ℕ → Edge) (s : Step) : Type 0 where
   pub ending : Each (λ e. side (E e) (point s.at) ≡ pos 0) s.ending
   pub above : Each (λ e. side (E e) (point s.at) <ℤ pos 0) s.above
 
-pub made_sides : (m : ℕ) (E : ℕ → Edge) (now : List ℕ) (s : Step) → Neighbours (FallsUp E s.at) now → Made m E now s → Sides E s
+pub made_sides : (m : ℕ) (E : ℕ → Edge) (now : List ℕ) (s : Step) → Neighbours (FallsUp E s.at) now
+    → Made m E now s → Sides E s
 made_sides m E now s h k =
     let F = FallsUp E s.at in
     let all = subst (λ xs. Neighbours F xs) k.is h in
@@ -49,11 +57,13 @@ made_sides m E now s h k =
 pub has_ending_before : (s : Step) (e : ℕ) → Has e s.ending → Has e (before s)
 has_ending_before s e k = has_back e s.below (s.ending ++ s.above) (has_front e s.ending s.above k)
 
-pub at_done : (w : ℤ) (m : ℕ) (E : ℕ → Edge) (done : List Step) (v p : Point) (coming : List Point) → Cut w m E done (v ∷ coming) → AtSome p done → sweep w (point p) <ℤ sweep w (point v)
+pub at_done : (w : ℤ) (m : ℕ) (E : ℕ → Edge) (done : List Step) (v p : Point) (coming : List Point)
+    → Cut w m E done (v ∷ coming) → AtSome p done → sweep w (point p) <ℤ sweep w (point v)
 at_done w m E done v p coming c (t, k, q) = subst (λ r. sweep w (point r) <ℤ sweep w (point v)) (sym q) (c.cut t v k (inl refl))
 
 -- a live edge through the next event ends there
-ends_there : (w : ℤ) (m : ℕ) (E : ℕ → Edge) (pts : List Point) (done : List Step) (v : Point) (coming : List Point) (e : ℕ) → Ready w m E pts → Front w m E pts done (v ∷ coming)
+ends_there : (w : ℤ) (m : ℕ) (E : ℕ → Edge) (pts : List Point) (done : List Step) (v : Point) (coming : List Point) (e : ℕ)
+    → Ready w m E pts → Front w m E pts done (v ∷ coming)
     → Clear E (live done) v → Has e (live done) → side (E e) (point v) ≡ pos 0 → (E e).high ≡ v
 ends_there w m E pts done v coming e h f clear k zero =
     let c = front_cut w m E pts done (v ∷ coming) h f in
@@ -63,7 +73,8 @@ ends_there w m E pts done v coming e h f clear k zero =
     clear e k (on_straight w (E e) (point v) (h.rises e st.0) (omega (arith, ints)) (record { line = zero; low = omega (arith, ints, l); high = omega (arith, ints, u) }))
 
 -- an edge that ends at the next event is live
-ending_live : (w : ℤ) (m : ℕ) (E : ℕ → Edge) (pts : List Point) (done : List Step) (v : Point) (coming : List Point) (e : ℕ) → Ready w m E pts → Front w m E pts done (v ∷ coming)
+ending_live : (w : ℤ) (m : ℕ) (E : ℕ → Edge) (pts : List Point) (done : List Step) (v : Point) (coming : List Point) (e : ℕ)
+    → Ready w m E pts → Front w m E pts done (v ∷ coming)
     → e < m → (E e).high ≡ v → Has e (live done)
 ending_live w m E pts done v coming e h f l q =
     let c = front_cut w m E pts done (v ∷ coming) h f in
@@ -77,7 +88,8 @@ ending_live w m E pts done v coming e h f l q =
     ])
     (λ k. let x = at_done w m E done v (E e).high coming c k in omega (arith, ints, x, at))
 
-pub next_good : (w : ℤ) (m : ℕ) (E : ℕ → Edge) (pts : List Point) (done : List Step) (s : Step) (coming : List Point) → Ready w m E pts → Front w m E pts done (s.at ∷ coming)
+pub next_good : (w : ℤ) (m : ℕ) (E : ℕ → Edge) (pts : List Point) (done : List Step) (s : Step) (coming : List Point)
+    → Ready w m E pts → Front w m E pts done (s.at ∷ coming)
     → Clear E (live done) s.at → Made m E (live done) s → Neighbours (FinePair E) s.starting → GoodStep m E s
 next_good w m E pts done s coming h f clear k fine =
     let sides = made_sides m E (live done) s (falls w m E pts done s.at coming h f) k in
@@ -111,19 +123,23 @@ next_good w m E pts done s coming h f clear k fine =
     below_not z h k = omega (arith, ints)
 
 -- ---- the sweep goes on
-strict_above : (w : ℤ) (E : ℕ → Edge) (p : Point) (a b : ℕ) → Passes w E p a b → pos 0 <ℤ side (E a) (point p) → Lies w E p a b
+strict_above : (w : ℤ) (E : ℕ → Edge) (p : Point) (a b : ℕ) → Passes w E p a b
+    → pos 0 <ℤ side (E a) (point p) → Lies w E p a b
 strict_above w E p a b (inl g) h = inl g
 strict_above w E p a b (inr (ea, eb)) h = absurd (omega (arith, ints, ea, h))
 
-strict_below : (w : ℤ) (E : ℕ → Edge) (p : Point) (a b : ℕ) → Passes w E p a b → side (E a) (point p) <ℤ pos 0 → Lies w E p a b
+strict_below : (w : ℤ) (E : ℕ → Edge) (p : Point) (a b : ℕ) → Passes w E p a b
+    → side (E a) (point p) <ℤ pos 0 → Lies w E p a b
 strict_below w E p a b (inl g) h = inl g
 strict_below w E p a b (inr (ea, eb)) h = absurd (omega (arith, ints, ea, h))
 
-lies_across : (w : ℤ) (E : ℕ → Edge) (p : Point) (a b : ℕ) → pos 0 <ℤ rise w (E a) → pos 0 <ℤ rise w (E b) → pos 0 ≤ℤ side (E a) (point p) → side (E b) (point p) ≤ℤ pos 0
+lies_across : (w : ℤ) (E : ℕ → Edge) (p : Point) (a b : ℕ) → pos 0 <ℤ rise w (E a)
+    → pos 0 <ℤ rise w (E b) → pos 0 ≤ℤ side (E a) (point p) → side (E b) (point p) ≤ℤ pos 0
     → side (E b) (point p) <ℤ side (E a) (point p) → Lies w E p a b
 lies_across w E p a b ra rb l u d = let g = gap_at_most w (E a) (E b) (point p) ra rb l u in inl (omega (arith, ints, g, d))
 
-next_order : (w : ℤ) (E : ℕ → Edge) (s : Step) → ((e : ℕ) → Has e (after s) → pos 0 <ℤ rise w (E e)) → Sides E s → ((e : ℕ) → Has e s.starting → (E e).low ≡ s.at)
+next_order : (w : ℤ) (E : ℕ → Edge) (s : Step) → ((e : ℕ) → Has e (after s) → pos 0 <ℤ rise w (E e))
+    → Sides E s → ((e : ℕ) → Has e s.starting → (E e).low ≡ s.at)
     → Neighbours (Turns E) s.starting → Neighbours (Passes w E s.at) s.below → Neighbours (Passes w E s.at) s.above → Neighbours (Lies w E s.at) (after s)
 next_order w E s up sides low turns below above =
     let R = Lies w E s.at in
@@ -151,7 +167,8 @@ next_order w E s up sides low turns below above =
     (neighbours_map (Passes w E s.at) R s.above (λ a b ka kb x. strict_below w E s.at a b x (each_has Q s.above a sides.above ka)) above))
 
 -- the edges that are live after the step
-pub known : (m : ℕ) (E : ℕ → Edge) (now : List ℕ) (s : Step) → Made m E now s → ((e : ℕ) → Has e now → e < m) → (e : ℕ) → Has e (after s) → e < m
+pub known : (m : ℕ) (E : ℕ → Edge) (now : List ℕ) (s : Step) → Made m E now s
+    → ((e : ℕ) → Has e now → e < m) → (e : ℕ) → Has e (after s) → e < m
 known m E now s k old e i =
     let was : Has e (before s) → e < m = λ j. old e (subst (λ xs. Has e xs) (sym k.is) j) in
     elim (has_three e s.below s.starting s.above i) [
@@ -163,14 +180,17 @@ known m E now s k old e i =
     ]
 
 -- the high end of an edge that is live after the step comes later
-later : (p : Point) (v : Point) (coming : List Point) → Has p (v ∷ coming) → (p ≡ v → ⊥) → Has p coming
+later : (p : Point) (v : Point) (coming : List Point) → Has p (v ∷ coming) → (p ≡ v → ⊥)
+    → Has p coming
 later p v coming (inl e) n = absurd (n e)
 later p v coming (inr k) n = k
 
-not_level : (E : ℕ → Edge) (e : ℕ) (v : Point) → (side (E e) (point v) ≡ pos 0 → ⊥) → (E e).high ≡ v → ⊥
+not_level : (E : ℕ → Edge) (e : ℕ) (v : Point) → (side (E e) (point v) ≡ pos 0 → ⊥) → (E e).high ≡ v
+    → ⊥
 not_level E e v n q = n (side_through_high E e v q)
 
-starting_late : (w : ℤ) (m : ℕ) (E : ℕ → Edge) (done : List Step) (v : Point) (coming : List Point) (e : ℕ) → Cut w m E done (v ∷ coming) → e < m → (E e).low ≡ v → Has (E e).high coming
+starting_late : (w : ℤ) (m : ℕ) (E : ℕ → Edge) (done : List Step) (v : Point) (coming : List Point) (e : ℕ)
+    → Cut w m E done (v ∷ coming) → e < m → (E e).low ≡ v → Has (E e).high coming
 starting_late w m E done v coming e c l q =
     let r = rise-is w (E e) in
     let up = c.rises e l in
@@ -182,7 +202,8 @@ starting_late w m E done v coming e c l q =
     ])
     (λ i. let x : sweep w (point (E e).high) ≡ sweep w (point v) = subst (λ p. sweep w (point (E e).high) ≡ sweep w (point p)) i refl in omega (arith, ints, r, up, at, x))
 
-next_late : (w : ℤ) (m : ℕ) (E : ℕ → Edge) (pts : List Point) (done : List Step) (s : Step) (coming : List Point) → Ready w m E pts → Front w m E pts done (s.at ∷ coming)
+next_late : (w : ℤ) (m : ℕ) (E : ℕ → Edge) (pts : List Point) (done : List Step) (s : Step) (coming : List Point)
+    → Ready w m E pts → Front w m E pts done (s.at ∷ coming)
     → Made m E (live done) s → Sides E s → (e : ℕ) → Has e (after s) → Has (E e).high coming
 next_late w m E pts done s coming h f k sides e i =
     let c = front_cut w m E pts done (s.at ∷ coming) h f in
@@ -201,12 +222,15 @@ next_late w m E pts done s coming h f k sides e i =
     below_not : (z : ℤ) → z <ℤ pos 0 → z ≡ pos 0 → ⊥
     below_not z h k = omega (arith, ints)
 
-low_upto : (w : ℤ) (m : ℕ) (E : ℕ → Edge) (done : List Step) (s : Step) (p : Point) (coming : List Point) → Cut w m E done (s.at ∷ coming) → AtSome p (s ∷ done) → sweep w (point p) ≤ℤ sweep w (point s.at)
+low_upto : (w : ℤ) (m : ℕ) (E : ℕ → Edge) (done : List Step) (s : Step) (p : Point) (coming : List Point)
+    → Cut w m E done (s.at ∷ coming) → AtSome p (s ∷ done)
+    → sweep w (point p) ≤ℤ sweep w (point s.at)
 low_upto w m E done s p coming c (t, inl k, q) = subst (λ r. sweep w (point r) ≤ℤ sweep w (point s.at)) (sym q) (subst (λ (u : Step). sweep w (point u.at) ≤ℤ sweep w (point s.at)) (sym k) (omega (arith, ints)))
 low_upto w m E done s p coming c (t, inr k, q) = let x = at_done w m E done s.at p coming c (t, k, q) in omega (arith, ints, x)
 
 -- the sweep goes on
-pub next : (w : ℤ) (m : ℕ) (E : ℕ → Edge) (pts : List Point) (done : List Step) (s : Step) (coming : List Point) → Ready w m E pts → Front w m E pts done (s.at ∷ coming)
+pub next : (w : ℤ) (m : ℕ) (E : ℕ → Edge) (pts : List Point) (done : List Step) (s : Step) (coming : List Point)
+    → Ready w m E pts → Front w m E pts done (s.at ∷ coming)
     → Clear E (live done) s.at → Made m E (live done) s → Neighbours (FinePair E) (after s) → Front w m E pts (s ∷ done) coming
 next w m E pts done s coming h f clear k fine =
     let sides = made_sides m E (live done) s (falls w m E pts done s.at coming h f) k in

@@ -1,6 +1,7 @@
 -- A sweep that comes to its end without a fault is a complete run.
 -- Then no two edges are bad.
-use Rattle.std.proofs.Common.{◌≡◌, ℕ, ◌<◌, ℤ, ◌<ℤ◌, inl, inr, List, [], ◌∷◌, refl, arith, ap, sym, ◌∙◌, subst}
+use Rattle.std.proofs.Common.{◌≡◌, ℕ, ◌<◌, ℤ, ◌<ℤ◌, inl, inr, List, [], ◌∷◌, refl, arith, ap, sym}
+use Rattle.std.proofs.Common.{◌∙◌, subst}
 use Rattle.std.proofs.lemmas.Int.{ints}
 use Rattle.plane.specs.declared.kinds.Point.{Point}
 use Rattle.plane.specs.Forms.Vectors.{point, Edge, sweep, Before}
@@ -17,7 +18,8 @@ use Rattle.plane.proofs.Runs.Meeting.{meet_in_ends}
 use Rattle.plane.proofs.Sweep.Pairs.{straight_on}
 
 -- ---- events with a weight
-pub points_rise : (w : ℤ) (ps : List Point) → Neighbours (λ p q. sweep w (point p) <ℤ sweep w (point q)) ps → RisingPoints w ps
+pub points_rise : (w : ℤ) (ps : List Point)
+    → Neighbours (λ p q. sweep w (point p) <ℤ sweep w (point q)) ps → RisingPoints w ps
 points_rise w [] h = tt
 points_rise w (p ∷ []) h = (tt, tt)
 points_rise w (p ∷ (q ∷ ps)) h =
@@ -25,7 +27,8 @@ points_rise w (p ∷ (q ∷ ps)) h =
     let l : sweep w (point p) <ℤ sweep w (point q) = h.0 in
     ((l, each_map (λ r. sweep w (point q) <ℤ sweep w (point r)) (λ r. sweep w (point p) <ℤ sweep w (point r)) ps (λ r (k : sweep w (point q) <ℤ sweep w (point r)). omega (arith, ints, l, k)) rest.0), rest)
 
-pub ready : (w : ℤ) (m : ℕ) (E : ℕ → Edge) (pts : List Point) → Weight w pts → IsEventList m E pts → Ready w m E pts
+pub ready : (w : ℤ) (m : ℕ) (E : ℕ → Edge) (pts : List Point) → Weight w pts → IsEventList m E pts
+    → Ready w m E pts
 ready w m E pts h ev = record {
   rising = points_rise w pts (neighbours_map Before (λ p q. sweep w (point p) <ℤ sweep w (point q)) pts (λ p q kp kq b. h p q kp kq b) ev.rises);
   ends = ev.ends;
@@ -52,15 +55,18 @@ nothing_live : (E : ℕ → Edge) (now : List ℕ) → ((e : ℕ) → Has e now 
 nothing_live E [] h = refl
 nothing_live E (e ∷ now) h = absurd (h e (inl refl))
 
-replays_onto : (m : ℕ) (E : ℕ → Edge) (done todo : List Step) → Replayed m E done → IsReplay m E (live done) todo → IsReplay m E [] (onto done todo)
+replays_onto : (m : ℕ) (E : ℕ → Edge) (done todo : List Step) → Replayed m E done
+    → IsReplay m E (live done) todo → IsReplay m E [] (onto done todo)
 replays_onto m E [] todo h k = k
 replays_onto m E (s ∷ done) todo h k = replays_onto m E done (s ∷ todo) h.2 (h.0, h.1, k)
 
-steps_first : (s : Step) (steps : List Step) → First (Before s.at) (points_of steps) → First (λ t. Before s.at t.at) steps
+steps_first : (s : Step) (steps : List Step) → First (Before s.at) (points_of steps)
+    → First (λ t. Before s.at t.at) steps
 steps_first s [] h = tt
 steps_first s (t ∷ steps) h = h
 
-steps_rise : (steps : List Step) → Neighbours Before (points_of steps) → Neighbours (λ s t. Before s.at t.at) steps
+steps_rise : (steps : List Step) → Neighbours Before (points_of steps)
+    → Neighbours (λ s t. Before s.at t.at) steps
 steps_rise [] h = tt
 steps_rise (s ∷ steps) h = (steps_first s steps h.0, steps_rise steps h.1)
 
@@ -74,7 +80,8 @@ point_at s [] k = absurd k
 point_at s (t ∷ steps) (inl e) = inl (ap (λ (u : Step). u.at) e)
 point_at s (t ∷ steps) (inr k) = inr (point_at s steps k)
 
-pub complete : (w : ℤ) (m : ℕ) (E : ℕ → Edge) (pts : List Point) (done : List Step) → IsEventList m E pts → Front w m E pts done [] → Run m E (onto done [])
+pub complete : (w : ℤ) (m : ℕ) (E : ℕ → Edge) (pts : List Point) (done : List Step)
+    → IsEventList m E pts → Front w m E pts done [] → Run m E (onto done [])
 complete w m E pts done ev f =
     let same : points_of (onto done []) ≡ pts = sym (trail_onto done []) ∙ f.is in
     record {
@@ -85,21 +92,26 @@ complete w m E pts done ev f =
       edges = ev.edges;
     }
 
-pub complete_swept : (w : ℤ) (m : ℕ) (E : ℕ → Edge) (pts : List Point) (done : List Step) → Weight w pts → IsEventList m E pts → Front w m E pts done [] → WeighedRun w m E (onto done [])
+pub complete_swept : (w : ℤ) (m : ℕ) (E : ℕ → Edge) (pts : List Point) (done : List Step)
+    → Weight w pts → IsEventList m E pts → Front w m E pts done [] → WeighedRun w m E (onto done [])
 complete_swept w m E pts done h ev f =
     let same : points_of (onto done []) ≡ pts = sym (trail_onto done []) ∙ f.is in
     swept w pts m E (onto done []) h (each_from (λ s. Has s.at pts) (onto done []) (λ s k. subst (λ ps. Has s.at ps) same (point_at s (onto done []) k))) (complete w m E pts done ev f)
 
 -- ---- in a run no two edges are bad
-pub run_fine : (w : ℤ) (m : ℕ) (E : ℕ → Edge) (steps : List Step) (a b : ℕ) → WeighedRun w m E steps → a < m → b < m → (a ≡ b → ⊥) → Fine (E a) (E b)
+pub run_fine : (w : ℤ) (m : ℕ) (E : ℕ → Edge) (steps : List Step) (a b : ℕ) → WeighedRun w m E steps
+    → a < m → b < m → (a ≡ b → ⊥) → Fine (E a) (E b)
 run_fine w m E steps a b h la lb differ z hz oa ob = meet_in_ends w m E steps z a b h la lb differ hz (straight_on w (E a) z (h.rises a la) hz oa) (straight_on w (E b) z (h.rises b lb) hz ob)
 
 pub fine_not_bad : (a b : Edge) → Fine a b → Bad a b → ⊥
 fine_not_bad a b fine bad = bad.no_end (fine bad.at bad.place bad.of_first bad.of_second)
 
-pub run_not_bad : (w : ℤ) (m : ℕ) (E : ℕ → Edge) (steps : List Step) (a b : ℕ) → WeighedRun w m E steps → a < m → b < m → (a ≡ b → ⊥) → Bad (E a) (E b) → ⊥
+pub run_not_bad : (w : ℤ) (m : ℕ) (E : ℕ → Edge) (steps : List Step) (a b : ℕ)
+    → WeighedRun w m E steps → a < m → b < m → (a ≡ b → ⊥) → Bad (E a) (E b) → ⊥
 run_not_bad w m E steps a b h la lb differ = fine_not_bad (E a) (E b) (run_fine w m E steps a b h la lb differ)
 
 -- no two edges are bad
-pub complete_fine : (w : ℤ) (m : ℕ) (E : ℕ → Edge) (pts : List Point) (done : List Step) (a b : ℕ) → Weight w pts → IsEventList m E pts → Front w m E pts done [] → a < m → b < m → (a ≡ b → ⊥) → Fine (E a) (E b)
+pub complete_fine : (w : ℤ) (m : ℕ) (E : ℕ → Edge) (pts : List Point) (done : List Step) (a b : ℕ)
+    → Weight w pts → IsEventList m E pts → Front w m E pts done [] → a < m → b < m → (a ≡ b → ⊥)
+    → Fine (E a) (E b)
 complete_fine w m E pts done a b h ev f = run_fine w m E (onto done []) a b (complete_swept w m E pts done h ev f)

@@ -1,5 +1,6 @@
 -- Away from a place that is not outside a half arc's circle, all stays outside; and paths that stay where P holds.
-use Rattle.std.proofs.Common.{◌≡◌, [], ◌∷◌, ℤ, pos, ◌+ℤ◌, ◌*ℤ◌, ◌<ℤ◌, ◌≤ℤ◌, refl, arith, ap, sym, ◌∙◌, subst}
+use Rattle.std.proofs.Common.{◌≡◌, [], ◌∷◌, ℤ, pos, ◌+ℤ◌, ◌*ℤ◌, ◌<ℤ◌, ◌≤ℤ◌, refl, arith, ap, sym}
+use Rattle.std.proofs.Common.{◌∙◌, subst}
 use Rattle.std.proofs.lemmas.Int.{ints, by_lt_z}
 use Rattle.plane.specs.Forms.Vectors.{Vector, Place, Same, mix}
 use Rattle.plane.specs.Forms.Arcs.{HalfArc, power}
@@ -14,7 +15,8 @@ use Rattle.plane.proofs.HalfArcs.ArcSides.{not_outside_mix}
 use Rattle.plane.proofs.Algebra.Ring.{at, plus, times, vars, ring}
 
 -- ---- paths
-pub path_more : (P Q : Vector → Type 0) → ((z : Vector) → P z → Q z) → (p q : Vector) → PathIn P p q → PathIn Q p q
+pub path_more : (P Q : Vector → Type 0) → ((z : Vector) → P z → Q z) → (p q : Vector) → PathIn P p q
+    → PathIn Q p q
 path_more P Q f _ _ (stays p q e) = stays p q e
 path_more P Q f _ _ (goes p x q X h j) = goes p x q X (λ z w. f z (h z w)) (path_more P Q f x q j)
 
@@ -39,7 +41,8 @@ times_same k v z h = record { x = one z.x z.n v.x v.n h.0 h.2; y = one z.y z.n v
 module _ (h : HalfArc) (hc : IsCap (cap h)) where
   -- ---- away from a place that is not outside
   -- z = b p + e; from z to e all is outside
-  pub away_from : (p z e m : Vector) (b s t : ℤ) → Place p → Place z → Place m → power h p ≤ℤ pos 0 → pos 0 <ℤ power h z → pos 0 ≤ℤ b → pos 0 ≤ℤ s → pos 0 ≤ℤ t
+  pub away_from : (p z e m : Vector) (b s t : ℤ) → Place p → Place z → Place m → power h p ≤ℤ pos 0
+      → pos 0 <ℤ power h z → pos 0 ≤ℤ b → pos 0 ≤ℤ s → pos 0 ≤ℤ t
       → z.x ≡ (b *ℤ p.x) +ℤ e.x → z.y ≡ (b *ℤ p.y) +ℤ e.y → z.n ≡ (b *ℤ p.n) +ℤ e.n → m ≡ mix s z t e → pos 0 <ℤ power h m
   away_from p z e m b s t P Z M below over hb hs ht ex ey en em = by_lt_z (pos 0) (power h m) (λ l. l)
       (λ (l : power h m ≤ℤ pos 0).
@@ -55,7 +58,8 @@ module _ (h : HalfArc) (hc : IsCap (cap h)) where
       let a = not_outside_same h v z V Z (times_same (s +ℤ t) z v f) k in
       absurd (omega (arith, ints, a, over)))
     where
-      one : (p z e m : ℤ) → z ≡ (b *ℤ p) +ℤ e → m ≡ (s *ℤ z) +ℤ (t *ℤ e) → ((t *ℤ b) *ℤ p) +ℤ (pos 1 *ℤ m) ≡ (s +ℤ t) *ℤ z
+      one : (p z e m : ℤ) → z ≡ (b *ℤ p) +ℤ e → m ≡ (s *ℤ z) +ℤ (t *ℤ e)
+          → ((t *ℤ b) *ℤ p) +ℤ (pos 1 *ℤ m) ≡ (s +ℤ t) *ℤ z
       one p z e m a c =
           let i = ap (λ (v : ℤ). t *ℤ v) a in
           let j = ring (times (at 0) (plus (times (at 1) (at 2)) (at 3))) (plus (times (times (at 0) (at 1)) (at 2)) (times (at 0) (at 3))) (vars (t ∷ b ∷ p ∷ e ∷ [])) refl in
@@ -63,7 +67,8 @@ module _ (h : HalfArc) (hc : IsCap (cap h)) where
           omega (arith, ints, i, j, k, c)
 
   -- z = e + c o with e not outside; from z to o all is outside
-  pub towards : (e o z m : Vector) (c s t : ℤ) → Place e → Place z → Place m → power h e ≤ℤ pos 0 → pos 0 <ℤ power h z → pos 0 ≤ℤ c → pos 0 ≤ℤ s → pos 0 ≤ℤ t
+  pub towards : (e o z m : Vector) (c s t : ℤ) → Place e → Place z → Place m → power h e ≤ℤ pos 0
+      → pos 0 <ℤ power h z → pos 0 ≤ℤ c → pos 0 ≤ℤ s → pos 0 ≤ℤ t
       → z.x ≡ e.x +ℤ (c *ℤ o.x) → z.y ≡ e.y +ℤ (c *ℤ o.y) → z.n ≡ e.n +ℤ (c *ℤ o.n) → m ≡ mix s z t o → pos 0 <ℤ power h m
   towards e o z m c s t E Z M below over hc0 hs ht ex ey en em = by_lt_z (pos 0) (power h m) (λ l. l)
       (λ (l : power h m ≤ℤ pos 0). by_lt_z (pos 0) (t +ℤ c)
@@ -84,7 +89,8 @@ module _ (h : HalfArc) (hc : IsCap (cap h)) where
       let a = not_outside_same h e z E Z (same_sym z e (times_same (pos 1) e z f)) below in
       absurd (omega (arith, ints, a, over))))
     where
-      one : (e o z m : ℤ) → z ≡ e +ℤ (c *ℤ o) → m ≡ (s *ℤ z) +ℤ (t *ℤ o) → (t *ℤ e) +ℤ (c *ℤ m) ≡ (t +ℤ (c *ℤ s)) *ℤ z
+      one : (e o z m : ℤ) → z ≡ e +ℤ (c *ℤ o) → m ≡ (s *ℤ z) +ℤ (t *ℤ o)
+          → (t *ℤ e) +ℤ (c *ℤ m) ≡ (t +ℤ (c *ℤ s)) *ℤ z
       one e o z m a b =
           let i = ap (λ (v : ℤ). t *ℤ v) a in
           let j = ap (λ (v : ℤ). c *ℤ v) b in

@@ -1,5 +1,6 @@
 -- The edges of a tube are in the tube.
-use Rattle.std.proofs.Common.{◌≡◌, ℕ, List, [], ◌∷◌, map, ℤ, pos, ◌*ℤ◌, ◌<ℤ◌, ◌⊎◌, inl, inr, refl, arith, ap, sym, ◌∙◌, subst}
+use Rattle.std.proofs.Common.{◌≡◌, ℕ, List, [], ◌∷◌, map, ℤ, pos, ◌*ℤ◌, ◌<ℤ◌, ◌⊎◌, inl, inr, refl}
+use Rattle.std.proofs.Common.{arith, ap, sym, ◌∙◌, subst}
 use Rattle.std.proofs.lemmas.Int.{ints}
 use Rattle.plane.specs.declared.kinds.Point.{Point}
 use Rattle.plane.specs.Lists.{Has}
@@ -7,12 +8,14 @@ use Rattle.plane.specs.Forms.Vectors.{Vector, Place, Between, point, Edge, rise,
 use Rattle.plane.specs.Faces.Replays.{Replay}
 use Rattle.plane.specs.Faces.Halves.{Half, under, over, edge_of}
 use Rattle.plane.specs.Faces.Labels.{Labels}
-use Rattle.plane.specs.Tubes.Windings.{arrow, Tile, round, InTile, Bay, strips, tiles, fence, bounds, InSomeTile}
+use Rattle.plane.specs.Tubes.Windings.{arrow, Tile, round, InTile, Bay, strips, tiles, fence}
+use Rattle.plane.specs.Tubes.Windings.{bounds, InSomeTile}
 use Rattle.plane.specs.Tubes.Facing.{way, IsDrawnTube}
 use Rattle.plane.proofs.Linear.Signs.{on_between, between_back}
 
 -- each bound is an arrow of a triangle
-strips_bound : (p u : Point) (ks : List Bay) (e : Edge) → Has e (fence p u ks) → ((t : Tile) × Has t (strips p u ks) × Has e (round t)) ⊎ (e ≡ arrow p u)
+strips_bound : (p u : Point) (ks : List Bay) (e : Edge) → Has e (fence p u ks)
+    → ((t : Tile) × Has t (strips p u ks) × Has e (round t)) ⊎ (e ≡ arrow p u)
 strips_bound p u [] e (inl h) = inr h
 strips_bound p u [] e (inr h) = absurd h
 strips_bound p u (k ∷ ks) e (inl h) = inl (_, inr (inl refl), inl h)
@@ -22,7 +25,8 @@ strips_bound p u (k ∷ ks) e (inr (inr h)) = elim (strips_bound k.inner k.outer
   | inr q ↦ inl (_, inr (inl refl), inr (inl q))
 ]
 
-tube_bound : (a : Point) (k : Bay) (ks : List Bay) (e : Edge) → Has e (bounds a (k ∷ ks)) → (t : Tile) × Has t (tiles a (k ∷ ks)) × Has e (round t)
+tube_bound : (a : Point) (k : Bay) (ks : List Bay) (e : Edge) → Has e (bounds a (k ∷ ks))
+    → (t : Tile) × Has t (tiles a (k ∷ ks)) × Has e (round t)
 tube_bound a k ks e (inl h) = (_, inl refl, inl h)
 tube_bound a k ks e (inr (inl h)) = (_, inl refl, inr (inr (inl h)))
 tube_bound a k ks e (inr (inr h)) = elim (strips_bound k.inner k.outer ks e h) [
@@ -31,7 +35,8 @@ tube_bound a k ks e (inr (inr h)) = elim (strips_bound k.inner k.outer ks e h) [
 ]
 
 -- a place of an arrow is in the triangle
-arrow_in : (t : Tile) (e : Edge) (z : Vector) → Has e (round t) → Between z (point e.low) (point e.high) → InTile t z
+arrow_in : (t : Tile) (e : Edge) (z : Vector) → Has e (round t)
+    → Between z (point e.low) (point e.high) → InTile t z
 arrow_in t e z (inl q) h =
     let b = subst (λ (f : Edge). Between z (point f.low) (point f.high)) q h in
     let s = b.some in
@@ -87,12 +92,15 @@ way_in f x [] h = absurd h
 way_in f x (y ∷ xs) (inl e) = inl (ap f e)
 way_in f x (y ∷ xs) (inr h) = inr (way_in f x xs h)
 
-way_between : (w : ℤ) (E : ℕ → Edge) (h : Half) (z : Vector) → Between z (point (E (edge_of h)).low) (point (E (edge_of h)).high) → Between z (point (way E h).low) (point (way E h).high)
+way_between : (w : ℤ) (E : ℕ → Edge) (h : Half) (z : Vector)
+    → Between z (point (E (edge_of h)).low) (point (E (edge_of h)).high)
+    → Between z (point (way E h).low) (point (way E h).high)
 way_between w E (over e) z b = b
 way_between w E (under e) z b = between_back z _ _ b
 
 -- a place of an edge of the tube is in the tube
-pub wall_in : (r : Replay) (lab : Labels) (t : ℕ) (a : Point) (b : Bay) (bs : List Bay) (hs : List Half) → IsDrawnTube r lab t a b bs hs → (h : Half) → Has h hs → (z : Vector) → Place z
+pub wall_in : (r : Replay) (lab : Labels) (t : ℕ) (a : Point) (b : Bay) (bs : List Bay) (hs : List Half)
+    → IsDrawnTube r lab t a b bs hs → (h : Half) → Has h hs → (z : Vector) → Place z
     → pos 0 <ℤ rise r.weight (r.edge (edge_of h)) → On r.weight (r.edge (edge_of h)) z → InSomeTile (tiles a (b ∷ bs)) z
 wall_in r lab t a b bs hs tube h m z Z up on =
     let e = way r.edge h in

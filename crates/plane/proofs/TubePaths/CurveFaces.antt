@@ -1,5 +1,6 @@
 -- Over a run with tubes and links that fall to roots, each place off the curves is outer or joined to a point.
-use Rattle.std.proofs.Common.{◌≡◌, ℕ, suc, ◌<◌, pos, ◌<ℤ◌, refl, arith, sym, ◌∙◌, ◌⊎◌, inl, inr, subst}
+use Rattle.std.proofs.Common.{◌≡◌, ℕ, suc, ◌<◌, pos, ◌<ℤ◌, refl, arith, sym, ◌∙◌, ◌⊎◌, inl, inr}
+use Rattle.std.proofs.Common.{subst}
 use Rattle.plane.specs.Lists.{Has}
 use Rattle.plane.specs.Forms.Vectors.{Vector, Place}
 use Rattle.plane.specs.Faces.Replays.{Replay, IsOffEdges}
@@ -8,7 +9,8 @@ use Rattle.plane.specs.Faces.Halves.{Half, mark, twin, Beside, IsMatched}
 use Rattle.plane.specs.Faces.Labels.{Labels}
 use Rattle.plane.specs.Faces.Classes.{Touches, Lead, AreLeads}
 use Rattle.plane.specs.CurveRuns.Extended.{Tubes, InTubeAt, AreTubes, HasLabel}
-use Rattle.plane.proofs.TubePaths.PieceWords.{Side, inner_side, outer_side, IsOnSide, side_label, AreSides, CurvePath, IsCurveOuter}
+use Rattle.plane.proofs.TubePaths.PieceWords.{Side, inner_side, outer_side, IsOnSide, side_label}
+use Rattle.plane.proofs.TubePaths.PieceWords.{AreSides, CurvePath, IsCurveOuter}
 use Rattle.plane.proofs.TubePaths.PieceWords as paths
 use Rattle.plane.proofs.Strips.OneStrip.{linked_join}
 use Rattle.plane.proofs.Strips.Columns.{cell_is}
@@ -18,7 +20,9 @@ use Rattle.plane.proofs.LabelLemmas.HalfLabels.{linked_label}
 use Rattle.plane.proofs.Turning.CellWalls.{wall, beside_fits}
 use Rattle.plane.proofs.Turning.InnerClasses.{rooted}
 use Rattle.plane.proofs.Windings.Whole.{IsWhole}
-use Rattle.plane.proofs.TubePaths.WaysOut.{Outside, IsBeside, path_join, path_back, beside_label, tube_label_of, label_tube, way_out, joined_path, linked_path}
+use Rattle.plane.proofs.TubePaths.WaysOut.{Outside, IsBeside, path_join, path_back, beside_label}
+use Rattle.plane.proofs.TubePaths.WaysOut.{tube_label_of, label_tube, way_out, joined_path}
+use Rattle.plane.proofs.TubePaths.WaysOut.{linked_path}
 
 module _ (r : Replay) (whole : IsWhole r) (lab : Labels) (matched : IsMatched r lab) (T : Tubes) (Meets : ℕ → Vector → Vector → Type 0) (tubes : AreTubes r lab T Meets) (sides : AreSides r lab T Meets) where
   abbrev Out : Vector → Type 0
@@ -29,7 +33,8 @@ module _ (r : Replay) (whole : IsWhole r) (lab : Labels) (matched : IsMatched r 
   corner_outside q Q off k c l i =
       (tubes.tube c l).faced.some_label (sym (tube_label_of r whole lab matched T Meets tubes sides c l q Q off i) ∙ linked_label r whole.run whole.law lab matched (sector r q) corner k)
 
-  pub linked_curve_outer : pos 0 <ℤ r.weight → (p : Vector) → Place p → IsOffEdges r p → Linked r (sector r p) corner → IsCurveOuter r T Meets p
+  pub linked_curve_outer : pos 0 <ℤ r.weight → (p : Vector) → Place p → IsOffEdges r p
+      → Linked r (sector r p) corner → IsCurveOuter r T Meets p
   linked_curve_outer heavy p P off k b =
       let g = linked_outer r whole.run whole.law heavy p P off k b in
       (g.0, g.1, joined_path r whole lab matched T Meets tubes sides p g.0 g.2 P g.1 off (corner_outside p P off k), g.3)
@@ -42,7 +47,8 @@ module _ (r : Replay) (whole : IsWhole r) (lab : Labels) (matched : IsMatched r 
     pub label : label_of lab r (sector r o) ≡ l
     pub path : CurvePath r T Meets z o
 
-  side_seat : (c : ℕ) → c < T.count → (s : Side) (z : Vector) → Place z → InTubeAt T c z → IsOnSide T c s z → (o : Vector) × IsSeat z (side_label T c s) o
+  side_seat : (c : ℕ) → c < T.count → (s : Side) (z : Vector) → Place z → InTubeAt T c z
+      → IsOnSide T c s z → (o : Vector) × IsSeat z (side_label T c s) o
   side_seat c l s z Z i k =
       let w = sides.wall c l s in
       let o = way_out r whole lab matched T Meets tubes sides c l s w.0 w.1 z Z i k in (
@@ -68,7 +74,9 @@ module _ (r : Replay) (whole : IsWhole r) (lab : Labels) (matched : IsMatched r 
       abbrev Ends : Vector → Type 0
       Ends z = IsCurveOuter r T Meets z ⊎ ((j : ℕ) × (j < n) × CurvePath r T Meets z (spot j))
 
-      to_point : (z : Vector) → Place z → IsOffEdges r z → Out z → (g : Half) → ((c : Sector) → IsSector r c → Beside r g c → Linked r (sector r z) c) → (j : ℕ) → j < n → Bounds j g → CurvePath r T Meets z (spot j)
+      to_point : (z : Vector) → Place z → IsOffEdges r z → Out z → (g : Half)
+          → ((c : Sector) → IsSector r c → Beside r g c → Linked r (sector r z) c) → (j : ℕ) → j < n
+          → Bounds j g → CurvePath r T Meets z (spot j)
       to_point z Z off out g linked j l b =
           let o = reach j l g b in
           path_join r whole lab matched T Meets tubes sides z o.0 (spot j)
@@ -94,7 +102,8 @@ module _ (r : Replay) (whole : IsWhole r) (lab : Labels) (matched : IsMatched r 
           ]
 
       -- each labelled place is outer or joined to a point
-      pub place_filled : (z : Vector) (l : ℕ) → Place z → HasLabel r lab T z l → IsCurveOuter r T Meets z ⊎ ((j : ℕ) × (j < n) × CurvePath r T Meets z (spot j))
+      pub place_filled : (z : Vector) (l : ℕ) → Place z → HasLabel r lab T z l
+          → IsCurveOuter r T Meets z ⊎ ((j : ℕ) × (j < n) × CurvePath r T Meets z (spot j))
       place_filled z l Z h =
           let o = seat z l Z h in
           elim (outside_ends o.0 o.1.place o.1.off o.1.outside) [

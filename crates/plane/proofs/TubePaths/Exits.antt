@@ -1,5 +1,6 @@
 -- Across an edge into the cell beyond it, away from all other edges.
-use Rattle.std.proofs.Common.{◌≡◌, ℕ, ◌<◌, ℤ, pos, ◌+ℤ◌, ◌*ℤ◌, ◌-ℤ◌, ◌<ℤ◌, ◌≤ℤ◌, [], ◌∷◌, refl, arith, ap, sym, ◌∙◌, inl, inr, subst}
+use Rattle.std.proofs.Common.{◌≡◌, ℕ, ◌<◌, ℤ, pos, ◌+ℤ◌, ◌*ℤ◌, ◌-ℤ◌, ◌<ℤ◌, ◌≤ℤ◌, [], ◌∷◌, refl}
+use Rattle.std.proofs.Common.{arith, ap, sym, ◌∙◌, inl, inr, subst}
 use Rattle.std.proofs.lemmas.Int.{ints}
 use Rattle.plane.specs.Forms.Vectors.{Vector, Place, Same, Between, mix, side, On}
 use Rattle.plane.specs.Faces.Replays.{Replay, IsOffEdges}
@@ -25,7 +26,8 @@ pub record IsExit (r : Replay) (h : Half) (x o : Vector) : Type 0 where
   pub on : On r.weight (r.edge (edge_of h)) x
   pub off : IsOffEdges r o
   pub beside : Beside r (twin h) (sector r o)
-  pub only : (z : Vector) → IsOnWay x o z → (f : ℕ) → f < r.edges → On r.weight (r.edge f) z → f ≡ edge_of h
+  pub only : (z : Vector) → IsOnWay x o z → (f : ℕ) → f < r.edges → On r.weight (r.edge f) z
+      → f ≡ edge_of h
   pub leaves : (z : Vector) (w : IsOnWay x o z) → pos 0 <ℤ w.t → IsFree r z o
 
 -- a mix with the second weight 0 is the first place
@@ -41,7 +43,8 @@ same_start s t x o e = record { x = one s t x.x x.n o.x o.n e; y = one s t x.y x
 pub way_between : (p q z : Vector) → IsOnWay p q z → Between z p q
 way_between p q z w = subst (λ (v : Vector). Between v p q) (sym w.is) (record { s = w.s; t = w.t; s_least = w.s_least; t_least = w.t_least; some = w.some; is = record { x = refl; y = refl } })
 
-not_zero : (s t u v : ℤ) → pos 0 ≤ℤ s → pos 0 ≤ℤ t → pos 0 <ℤ (s +ℤ t) → pos 0 <ℤ u → (v ≡ pos 0 → ⊥) → (s *ℤ (u *ℤ v)) +ℤ (t *ℤ v) ≡ pos 0 → ⊥
+not_zero : (s t u v : ℤ) → pos 0 ≤ℤ s → pos 0 ≤ℤ t → pos 0 <ℤ (s +ℤ t) → pos 0 <ℤ u
+    → (v ≡ pos 0 → ⊥) → (s *ℤ (u *ℤ v)) +ℤ (t *ℤ v) ≡ pos 0 → ⊥
 not_zero s t u v hs ht some hu n e =
     let a = weight_at_most s u hs hu in
     let i = ring (plus (times (at 0) (times (at 2) (at 3))) (times (at 1) (at 3))) (times (plus (times (at 0) (at 2)) (at 1)) (at 3)) (vars (s ∷ t ∷ u ∷ v ∷ [])) refl in
@@ -59,7 +62,9 @@ module _ (r : Replay) (run : IsRun r) (law : IsLawful r) where
     Q = cross.q_place
 
     -- from the crossing place x to an end o of the segment
-    exit_to : (h : Half) (x o : Vector) → edge_of h ≡ e → IsOnWay p q x → IsOnWay p q o → Place o → IsOffEdges r o → On r.weight (r.edge e) x → (side (r.edge e) o ≡ pos 0 → ⊥) → Beside r (twin h) (sector r o) → IsExit r h x o
+    exit_to : (h : Half) (x o : Vector) → edge_of h ≡ e → IsOnWay p q x → IsOnWay p q o → Place o
+        → IsOffEdges r o → On r.weight (r.edge e) x → (side (r.edge e) o ≡ pos 0 → ⊥)
+        → Beside r (twin h) (sector r o) → IsExit r h x o
     exit_to h x o name wx wo O off on n beside = record {
       x_place = X;
       o_place = O;
@@ -76,7 +81,8 @@ module _ (r : Replay) (run : IsRun r) (law : IsLawful r) where
         longer : (z : Vector) → IsOnWay x o z → IsOnWay p q z
         longer z w = subst (λ (v : Vector). IsOnWay p q v) (sym w.is) (way_mix p q x o w.s w.t w.s_least w.t_least w.some wx wo)
 
-        only : (z : Vector) → IsOnWay x o z → (f : ℕ) → f < r.edges → On r.weight (r.edge f) z → f ≡ e
+        only : (z : Vector) → IsOnWay x o z → (f : ℕ) → f < r.edges → On r.weight (r.edge f) z
+            → f ≡ e
         only z w f l k = elim (decide_number f e) [
           | inl i ↦ i
           | inr i ↦ (let y = longer z w in absurd (cross.clear f l i record { z = z; place = way_place p q z P Q y; between = way_between p q z y; on = k }))

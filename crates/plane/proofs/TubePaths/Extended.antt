@@ -1,5 +1,7 @@
 -- A segment that hits no curve keeps the label of its places.
-use Rattle.std.proofs.Common.{◌≡◌, ℕ, zero, suc, ◌+◌, ◌-◌, ◌<◌, ◌≤◌, List, [], ◌∷◌, ◌++◌, length, ℤ, pos, ◌+ℤ◌, ◌*ℤ◌, ◌-ℤ◌, ◌<ℤ◌, ◌≤ℤ◌, ◌⊎◌, inl, inr, refl, arith, ap, sym, ◌∙◌, subst}
+use Rattle.std.proofs.Common.{◌≡◌, ℕ, zero, suc, ◌+◌, ◌-◌, ◌<◌, ◌≤◌, List, [], ◌∷◌, ◌++◌, length, ℤ}
+use Rattle.std.proofs.Common.{pos, ◌+ℤ◌, ◌*ℤ◌, ◌-ℤ◌, ◌<ℤ◌, ◌≤ℤ◌, ◌⊎◌, inl, inr, refl, arith, ap}
+use Rattle.std.proofs.Common.{sym, ◌∙◌, subst}
 use Rattle.std.proofs.lemmas.Int.{ints, by_lt_z}
 use Rattle.plane.specs.Lists.{Has}
 use Rattle.plane.specs.Forms.Vectors.{Vector, Place, mix, side, sweep, On}
@@ -11,24 +13,28 @@ use Rattle.plane.specs.Faces.Labels.{Labels, last_label}
 use Rattle.plane.specs.Faces.Cells.{label_of}
 use Rattle.plane.specs.Tubes.Windings.{tiles}
 use Rattle.plane.specs.Tubes.Facing.{IsDrawnTube}
-use Rattle.plane.specs.CurveRuns.Extended.{Tubes, InTubeAt, AtArcEnd, IsWall, AreTubes, HasLabel, IsOnWay, IsFreeOfCurves}
+use Rattle.plane.specs.CurveRuns.Extended.{Tubes, InTubeAt, AtArcEnd, IsWall, AreTubes, HasLabel}
+use Rattle.plane.specs.CurveRuns.Extended.{IsOnWay, IsFreeOfCurves}
 use Rattle.plane.proofs.Algebra.Ring.{at, num, plus, minus, times, vars, ring}
 use Rattle.plane.proofs.ListLemmas.Lists.{has_append}
 use Rattle.plane.proofs.Linear.Vectors.{side-mix}
 use Rattle.plane.proofs.Linear.Signs.{mix_place}
 use Rattle.plane.proofs.Strips.OneStrip.{strip_is}
 use Rattle.plane.proofs.Strips.OnSweepLine.{IsLevel}
-use Rattle.plane.proofs.Strips.ToTheRight.{IsClosed, closed_strip, meet, meet_level, level_closed, level_strip}
+use Rattle.plane.proofs.Strips.ToTheRight.{IsClosed, closed_strip, meet, meet_level, level_closed}
+use Rattle.plane.proofs.Strips.ToTheRight.{level_strip}
 use Rattle.plane.proofs.Windings.Under.{by_order}
 use Rattle.plane.proofs.Windings.TubeCells.{in_tube}
 use Rattle.plane.proofs.Windings.Whole.{IsWhole}
 use Rattle.plane.proofs.Windings.Enters.{look_fitting, look_below}
 use Rattle.plane.proofs.Windings.CommonPlaces.{decide_on, decide_number, common_place}
-use Rattle.plane.proofs.Windings.Closures.{WeakOrder, AllRise, weak_order, weak_first, weak_rest, IsClose, close_some}
+use Rattle.plane.proofs.Windings.Closures.{WeakOrder, AllRise, weak_order, weak_first, weak_rest}
+use Rattle.plane.proofs.Windings.Closures.{IsClose, close_some}
 use Rattle.plane.proofs.Windings.Limits.{close_in_tube, close_label, decide_in_some}
 use Rattle.plane.proofs.Windings.Touching.{IsTouched, touched}
 use Rattle.plane.proofs.TubePaths.Bounding.{wall_in}
-use Rattle.plane.proofs.Windings.Ways.{way_mix, way_start, way_end, way_place, closed_mix, close_mix, front_in, half_or_twin}
+use Rattle.plane.proofs.Windings.Ways.{way_mix, way_start, way_end, way_place, closed_mix}
+use Rattle.plane.proofs.Windings.Ways.{close_mix, front_in, half_or_twin}
 
 chain : (a b c : ℕ) → a ≡ b → b ≡ c → a ≡ c
 chain a b c x y = x ∙ y
@@ -41,12 +47,19 @@ IsAtWall lab T c h z = ((mark lab (twin h) ≡ T.inner c) × (T.form c z <ℤ po
 -- Edges on it are the tubes'; no place of it is in two tubes or on a circle in its tube; each place of it on an edge of a tube is strictly
 -- on the side of the circle that the edge's outer label tells; and in a tube it stays on its side.
 pub record IsKeeping (r : Replay) (lab : Labels) (T : Tubes) (p q : Vector) : Type 0 where
-  pub tube : (c : ℕ) → c < T.count → IsDrawnTube r lab (T.label c) (T.first c) (T.bay c) (T.bays c) (T.halves c)
-  pub straights : (z : Vector) → IsOnWay p q z → (e : ℕ) → e < r.edges → On r.weight (r.edge e) z → (c : ℕ) × (c < T.count) × (h : Half) × Has h (T.halves c) × (edge_of h ≡ e)
-  pub one : (c d : ℕ) (z : Vector) → c < T.count → d < T.count → IsOnWay p q z → InTubeAt T c z → InTubeAt T d z → c ≡ d
-  pub walls : (c : ℕ) (z : Vector) (h : Half) → c < T.count → IsOnWay p q z → Has h (T.halves c) → On r.weight (r.edge (edge_of h)) z → IsAtWall lab T c h z
-  pub circle : (c : ℕ) (z : Vector) → c < T.count → IsOnWay p q z → InTubeAt T c z → T.form c z ≡ pos 0 → ⊥
-  pub kept : (c : ℕ) (u v : Vector) → c < T.count → IsOnWay p q u → IsOnWay p q v → ((s t : ℤ) → pos 0 ≤ℤ s → pos 0 ≤ℤ t → pos 0 <ℤ (s +ℤ t) → InTubeAt T c (mix s u t v)) → T.form c u <ℤ pos 0 → pos 0 <ℤ T.form c v → ⊥
+  pub tube : (c : ℕ) → c < T.count
+      → IsDrawnTube r lab (T.label c) (T.first c) (T.bay c) (T.bays c) (T.halves c)
+  pub straights : (z : Vector) → IsOnWay p q z → (e : ℕ) → e < r.edges → On r.weight (r.edge e) z
+      → (c : ℕ) × (c < T.count) × (h : Half) × Has h (T.halves c) × (edge_of h ≡ e)
+  pub one : (c d : ℕ) (z : Vector) → c < T.count → d < T.count → IsOnWay p q z → InTubeAt T c z
+      → InTubeAt T d z → c ≡ d
+  pub walls : (c : ℕ) (z : Vector) (h : Half) → c < T.count → IsOnWay p q z → Has h (T.halves c)
+      → On r.weight (r.edge (edge_of h)) z → IsAtWall lab T c h z
+  pub circle : (c : ℕ) (z : Vector) → c < T.count → IsOnWay p q z → InTubeAt T c z
+      → T.form c z ≡ pos 0 → ⊥
+  pub kept : (c : ℕ) (u v : Vector) → c < T.count → IsOnWay p q u → IsOnWay p q v
+      → ((s t : ℤ) → pos 0 ≤ℤ s → pos 0 ≤ℤ t → pos 0 <ℤ (s +ℤ t) → InTubeAt T c (mix s u t v))
+      → T.form c u <ℤ pos 0 → pos 0 <ℤ T.form c v → ⊥
 
 -- ---- the walk
 module _ (r : Replay) (whole : IsWhole r) (lab : Labels) (matched : IsMatched r lab) (T : Tubes) (p q : Vector) (P : Place p) (Q : Place q) (keeps : IsKeeping r lab T p q) where
@@ -74,7 +87,9 @@ module _ (r : Replay) (whole : IsWhole r) (lab : Labels) (matched : IsMatched r 
   -- ---- two places in the closure of one cell
   module _ (k : ℕ) (lower upper : List ℕ) where
     -- where the cell's label is no tube's, it is the place's label
-    plain_label : (z : Vector) (l : ℕ) → IsOnWay p q z → IsClose r k lower upper z → ((c : ℕ) → c < T.count → T.label c ≡ last_label lab 0 lower → ⊥) → HasLabel r lab T z l → l ≡ last_label lab 0 lower
+    plain_label : (z : Vector) (l : ℕ) → IsOnWay p q z → IsClose r k lower upper z
+        → ((c : ℕ) → c < T.count → T.label c ≡ last_label lab 0 lower → ⊥) → HasLabel r lab T z l
+        → l ≡ last_label lab 0 lower
     plain_label z l w close other (inr h) = h.2 ∙ close_label r whole lab matched k lower upper z (way_place p q z P Q w) h.1 close
     plain_label z l w close other (inl h) = elim (look_below (λ f. On r.weight (r.edge f) z) r.edges (λ f. decide_on r.weight (r.edge f) z)) [
       | inl f ↦ on_edge (touched r whole lab matched k lower upper z (way_place p q z P Q w) close f.0 f.1 f.2)
@@ -87,11 +102,13 @@ module _ (r : Replay) (whole : IsWhole r) (lab : Labels) (matched : IsMatched r 
         Z : Place z
         Z = way_place p q z P Q w
 
-        at_wall : (g : Half) → mark lab (twin g) ≡ last_label lab 0 lower → IsAtWall lab T h.0 g z → l ≡ last_label lab 0 lower
+        at_wall : (g : Half) → mark lab (twin g) ≡ last_label lab 0 lower → IsAtWall lab T h.0 g z
+            → l ≡ last_label lab 0 lower
         at_wall g e (inl v) = elim h.3 [ inl x ↦ x.1 ∙ sym v.0 ∙ e | inr x ↦ (let y = x.0 in let low = v.1 in absurd (omega (arith, ints, y, low))) ]
         at_wall g e (inr v) = elim h.3 [ inl x ↦ (let y = x.0 in let high = v.1 in absurd (omega (arith, ints, y, high))) | inr x ↦ x.1 ∙ sym v.0 ∙ e ]
 
-        on_edge : IsTouched r whole lab matched z (last_label lab 0 lower) → l ≡ last_label lab 0 lower
+        on_edge : IsTouched r whole lab matched z (last_label lab 0 lower)
+            → l ≡ last_label lab 0 lower
         on_edge t =
             let s = keeps.straights z w (edge_of t.half) t.fits t.on in
             let on2 : On r.weight (r.edge (edge_of s.2)) z = subst (λ (d : ℕ). On r.weight (r.edge d) z) (sym s.4) t.on in
@@ -105,11 +122,15 @@ module _ (r : Replay) (whole : IsWhole r) (lab : Labels) (matched : IsMatched r 
             ]
 
     -- in a tube the place's side tells its label
-    tube_side : (c : ℕ) (z : Vector) (l : ℕ) → c < T.count → IsOnWay p q z → InTubeAt T c z → HasLabel r lab T z l → ((T.form c z <ℤ pos 0) × (l ≡ T.inner c)) ⊎ ((pos 0 <ℤ T.form c z) × (l ≡ T.outer c))
+    tube_side : (c : ℕ) (z : Vector) (l : ℕ) → c < T.count → IsOnWay p q z → InTubeAt T c z
+        → HasLabel r lab T z l
+        → ((T.form c z <ℤ pos 0) × (l ≡ T.inner c)) ⊎ ((pos 0 <ℤ T.form c z) × (l ≡ T.outer c))
     tube_side c z l lc w i (inl h) = subst (λ (d : ℕ). ((T.form d z <ℤ pos 0) × (l ≡ T.inner d)) ⊎ ((pos 0 <ℤ T.form d z) × (l ≡ T.outer d))) (keeps.one h.0 c z h.1 lc w h.2 i) h.3
     tube_side c z l lc w i (inr h) = absurd (h.0 c lc i)
 
-    same_close : (u v : Vector) (l m : ℕ) → IsOnWay p q u → IsOnWay p q v → IsClose r k lower upper u → IsClose r k lower upper v → HasLabel r lab T u l → HasLabel r lab T v m → l ≡ m
+    same_close : (u v : Vector) (l m : ℕ) → IsOnWay p q u → IsOnWay p q v
+        → IsClose r k lower upper u → IsClose r k lower upper v → HasLabel r lab T u l
+        → HasLabel r lab T v m → l ≡ m
     same_close u v l m wu wv cu cv hu hv = elim (look_below (λ c. T.label c ≡ last_label lab 0 lower) T.count (λ c. decide_number (T.label c) (last_label lab 0 lower))) [
       | inr n ↦ plain_label u l wu cu (λ c lc e. n (c, lc, e)) hu ∙ sym (plain_label v m wv cv (λ c lc e. n (c, lc, e)) hv)
       | inl c ↦ sides c.0 c.1 c.2 (tube_side c.0 u l c.1 wu (inside c.0 c.1 c.2 u U cu) hu) (tube_side c.0 v m c.1 wv (inside c.0 c.1 c.2 v V cv) hv)
@@ -121,10 +142,12 @@ module _ (r : Replay) (whole : IsWhole r) (lab : Labels) (matched : IsMatched r 
         V : Place v
         V = way_place p q v P Q wv
 
-        inside : (c : ℕ) → c < T.count → T.label c ≡ last_label lab 0 lower → (z : Vector) → Place z → IsClose r k lower upper z → InTubeAt T c z
+        inside : (c : ℕ) → c < T.count → T.label c ≡ last_label lab 0 lower → (z : Vector) → Place z
+            → IsClose r k lower upper z → InTubeAt T c z
         inside c lc e z Z close = close_in_tube r whole lab matched (T.label c) (T.first c) (T.bay c) (T.bays c) (T.halves c) (keeps.tube c lc) k lower upper z Z close (sym e)
 
-        sides : (c : ℕ) → c < T.count → T.label c ≡ last_label lab 0 lower → ((T.form c u <ℤ pos 0) × (l ≡ T.inner c)) ⊎ ((pos 0 <ℤ T.form c u) × (l ≡ T.outer c))
+        sides : (c : ℕ) → c < T.count → T.label c ≡ last_label lab 0 lower
+            → ((T.form c u <ℤ pos 0) × (l ≡ T.inner c)) ⊎ ((pos 0 <ℤ T.form c u) × (l ≡ T.outer c))
             → ((T.form c v <ℤ pos 0) × (m ≡ T.inner c)) ⊎ ((pos 0 <ℤ T.form c v) × (m ≡ T.outer c)) → l ≡ m
         sides c lc e (inl a) (inl b) = a.1 ∙ sym b.1
         sides c lc e (inr a) (inr b) = a.1 ∙ sym b.1
@@ -136,7 +159,9 @@ module _ (r : Replay) (whole : IsWhole r) (lab : Labels) (matched : IsMatched r 
             b.0 a.0)
 
   -- ---- within one closed strip, from cell to cell
-  climb : (k : ℕ) (upper lower : List ℕ) (u v : Vector) (l m : ℕ) → IsOnWay p q u → IsOnWay p q v → IsClose r k lower upper u → IsClosed r k v → ((e : ℕ) → Has e lower → pos 0 ≤ℤ side (r.edge e) v)
+  climb : (k : ℕ) (upper lower : List ℕ) (u v : Vector) (l m : ℕ) → IsOnWay p q u → IsOnWay p q v
+      → IsClose r k lower upper u → IsClosed r k v
+      → ((e : ℕ) → Has e lower → pos 0 ≤ℤ side (r.edge e) v)
       → HasLabel r lab T u l → HasLabel r lab T v m → l ≡ m
   climb k [] lower u v l m wu wv cu cv low hu hv = same_close k lower [] u v l m wu wv cu (record { fits = cu.fits; closed = cv; is = cu.is; beneath = low; over = λ e i. absurd i }) hu hv
   climb k (e ∷ upper) lower u v l m wu wv cu cv low hu hv = by_lt_z (pos 0) (side (r.edge e) v) (cross (λ z n w c f h. climb k upper (lower ++ (e ∷ [])) z v n m w wv c cv f h hv)) stay
@@ -153,7 +178,8 @@ module _ (r : Replay) (whole : IsWhole r) (lab : Labels) (matched : IsMatched r 
       order_at : (z : Vector) → Place z → IsClosed r k z → WeakOrder r z (lower ++ (e ∷ upper))
       order_at z Z c = subst (λ (es : List ℕ). WeakOrder r z es) cu.is (weak_order r whole.run whole.law k z cu.fits Z c)
 
-      over_all : (z : Vector) → Place z → IsClosed r k z → side (r.edge e) z ≤ℤ pos 0 → (d : ℕ) → Has d (e ∷ upper) → side (r.edge d) z ≤ℤ pos 0
+      over_all : (z : Vector) → Place z → IsClosed r k z → side (r.edge e) z ≤ℤ pos 0 → (d : ℕ)
+          → Has d (e ∷ upper) → side (r.edge d) z ≤ℤ pos 0
       over_all z Z c h d (inl i) = subst (λ (x : ℕ). side (r.edge x) z ≤ℤ pos 0) (sym i) h
       over_all z Z c h d (inr i) = weak_rest r z lower e upper rises (order_at z Z c) h d i
 
@@ -164,7 +190,9 @@ module _ (r : Replay) (whole : IsWhole r) (lab : Labels) (matched : IsMatched r 
       regroup_list [] ys = refl
       regroup_list (x ∷ xs) ys = ap (λ (es : List ℕ). x ∷ es) (regroup_list xs ys)
 
-      with_last : (z : Vector) → ((d : ℕ) → Has d lower → pos 0 ≤ℤ side (r.edge d) z) → pos 0 ≤ℤ side (r.edge e) z → (d : ℕ) → Has d (lower ++ (e ∷ [])) → pos 0 ≤ℤ side (r.edge d) z
+      with_last : (z : Vector) → ((d : ℕ) → Has d lower → pos 0 ≤ℤ side (r.edge d) z)
+          → pos 0 ≤ℤ side (r.edge e) z → (d : ℕ) → Has d (lower ++ (e ∷ []))
+          → pos 0 ≤ℤ side (r.edge d) z
       with_last z f h d i = elim (has_append d lower (e ∷ []) i) [
         | inl j ↦ f d j
         | inr j ↦ elim j [ inl x ↦ subst (λ (y : ℕ). pos 0 ≤ℤ side (r.edge y) z) (sym x) h | inr x ↦ absurd x ]
@@ -196,7 +224,8 @@ module _ (r : Replay) (whole : IsWhole r) (lab : Labels) (matched : IsMatched r 
           (with_last v low (omega (arith, ints, h))) n.1 in
           chain l n.0 m one two
 
-  strip_keeps : (k : ℕ) (u v : Vector) (l m : ℕ) → k ≤ r.steps → IsOnWay p q u → IsOnWay p q v → IsClosed r k u → IsClosed r k v → HasLabel r lab T u l → HasLabel r lab T v m → l ≡ m
+  strip_keeps : (k : ℕ) (u v : Vector) (l m : ℕ) → k ≤ r.steps → IsOnWay p q u → IsOnWay p q v
+      → IsClosed r k u → IsClosed r k v → HasLabel r lab T u l → HasLabel r lab T v m → l ≡ m
   strip_keeps k u v l m fits wu wv cu cv hu hv =
       let a = close_some r whole.run whole.law k u fits (way_place p q u P Q wu) cu in
       let b = close_some r whole.run whole.law k v fits (way_place p q v P Q wv) cv in
@@ -206,7 +235,8 @@ module _ (r : Replay) (whole : IsWhole r) (lab : Labels) (matched : IsMatched r 
       (λ (h : length b.0 ≤ length a.0). sym (climb k b.1 b.0 v u m l wv wu b.2 cu (λ e i. a.2.beneath e (front_in b.0 b.1 a.0 a.1 (sym ab) h e i)) hv hu))
 
   -- ---- from strip to strip
-  keeps_right : (d k n : ℕ) (u v : Vector) (l m : ℕ) → n ≡ k + d → IsOnWay p q u → IsOnWay p q v → IsStrip r k u → IsStrip r n v → HasLabel r lab T u l → HasLabel r lab T v m → l ≡ m
+  keeps_right : (d k n : ℕ) (u v : Vector) (l m : ℕ) → n ≡ k + d → IsOnWay p q u → IsOnWay p q v
+      → IsStrip r k u → IsStrip r n v → HasLabel r lab T u l → HasLabel r lab T v m → l ≡ m
   keeps_right zero k n u v l m e wu wv a b hu hv =
       let f : n ≡ k = omega arith in
       strip_keeps k u v l m a.fits wu wv (closed_strip r k u a) (closed_strip r k v (subst (λ (j : ℕ). IsStrip r j v) f b)) hu hv
@@ -244,14 +274,16 @@ module _ (r : Replay) (whole : IsWhole r) (lab : Labels) (matched : IsMatched r 
   not_end : (c : ℕ) (z : Vector) → c < T.count → IsOnWay p q z → AtArcEnd T c z → ⊥
   not_end c z l w h = free.arcs c l z z w w (tubes.ends c l z (way_place p q z P Q w) h)
 
-  one_tube : (c d : ℕ) (z : Vector) → c < T.count → d < T.count → IsOnWay p q z → InTubeAt T c z → InTubeAt T d z → c ≡ d
+  one_tube : (c d : ℕ) (z : Vector) → c < T.count → d < T.count → IsOnWay p q z → InTubeAt T c z
+      → InTubeAt T d z → c ≡ d
   one_tube c d z lc ld w hc hd = elim (decide_number c d) [
     | inl e ↦ e
     | inr n ↦ absurd (not_end c z lc w (common_place r whole lab matched (T.label c) (T.first c) (T.bay c) (T.bays c) (T.halves c) (T.label d) (T.first d) (T.bay d) (T.bays d) (T.halves d)
         (tubes.tube c lc) (tubes.tube d ld) (tubes.labels c d lc ld n) (tubes.apart c d lc ld n) (tubes.clean c lc) z (way_place p q z P Q w) hc hd))
   ]
 
-  wall_side : (c : ℕ) (z : Vector) (h : Half) → c < T.count → IsOnWay p q z → IsWall r lab T c h → On r.weight (r.edge (edge_of h)) z → IsAtWall lab T c h z
+  wall_side : (c : ℕ) (z : Vector) (h : Half) → c < T.count → IsOnWay p q z → IsWall r lab T c h
+      → On r.weight (r.edge (edge_of h)) z → IsAtWall lab T c h z
   wall_side c z h l w (inl v) on = elim (v.1 z (way_place p q z P Q w) on) [ inl low ↦ inl (v.0, low) | inr end ↦ absurd (not_end c z l w end) ]
   wall_side c z h l w (inr v) on = elim (v.1 z (way_place p q z P Q w) on) [ inl high ↦ inr (v.0, high) | inr end ↦ absurd (not_end c z l w end) ]
 

@@ -1,5 +1,6 @@
 -- At an end of a half arc where no other curve's edge ends, the two edges of its tube have one label outside.
-use Rattle.std.proofs.Common.{◌≡◌, ℕ, suc, ◌+◌, ◌<◌, Bool, true, false, List, [], ◌∷◌, ◌++◌, map, length, ℤ, ◌⊎◌, inl, inr, refl, arith, ap, sym, ◌∙◌, subst}
+use Rattle.std.proofs.Common.{◌≡◌, ℕ, suc, ◌+◌, ◌<◌, Bool, true, false, List, [], ◌∷◌, ◌++◌, map}
+use Rattle.std.proofs.Common.{length, ℤ, ◌⊎◌, inl, inr, refl, arith, ap, sym, ◌∙◌, subst}
 use Rattle.std.proofs.lemmas.Int.{ints}
 use Rattle.plane.specs.declared.kinds.Point.{Point}
 use Rattle.plane.specs.declared.kinds.Curve.{Curve}
@@ -19,14 +20,19 @@ use Rattle.plane.specs.Tubes.Windings.{bounds}
 use Rattle.plane.specs.Tubes.Facing.{way, IsDrawnTube}
 use Rattle.plane.specs.CurveRuns.Extended.{Tubes, AreTubes}
 use Rattle.plane.proofs.TubePaths.PieceWords.{AreSides}
-use Rattle.plane.specs.CurveRuns.TubedRuns.{inner, outer, Owned, chain, inner_corners, outer_corners, owned, IsTubedRun, AreTubeLabels, third_is_left, inward, first_edge, tube_start, tube_bays, tube_edges, first_bay, later_bays, tube_label, tubes, MeetsArc}
+use Rattle.plane.specs.CurveRuns.TubedRuns.{inner, outer, Owned, chain, inner_corners}
+use Rattle.plane.specs.CurveRuns.TubedRuns.{outer_corners, owned, IsTubedRun, AreTubeLabels}
+use Rattle.plane.specs.CurveRuns.TubedRuns.{third_is_left, inward, first_edge, tube_start}
+use Rattle.plane.specs.CurveRuns.TubedRuns.{tube_bays, tube_edges, first_bay, later_bays}
+use Rattle.plane.specs.CurveRuns.TubedRuns.{tube_label, tubes, MeetsArc}
 use Rattle.plane.proofs.Turning.OneSide.{some_beside}
 use Rattle.plane.proofs.Turning.CellWalls.{connected_linked}
 use Rattle.plane.proofs.LabelLemmas.HalfLabels.{linked_label}
 use Rattle.plane.proofs.Windings.Ways.{half_or_twin}
 use Rattle.plane.proofs.Windings.Whole.{IsWhole, swept_whole}
 use Rattle.plane.proofs.Turning.HalfWays.{edge_twin, twin_twin, way_flat, way_one, next_two}
-use Rattle.plane.proofs.OneTube.TubeArrows.{starts_one, arrives_one, origin_way, origin_twin, once_half}
+use Rattle.plane.proofs.OneTube.TubeArrows.{starts_one, arrives_one, origin_way, origin_twin}
+use Rattle.plane.proofs.OneTube.TubeArrows.{once_half}
 use Rattle.plane.proofs.ListLemmas.Lists.{has_map}
 use Rattle.plane.proofs.TubedRuns.TubeBounds.{IsAmong}
 use Rattle.plane.proofs.TubedRuns.EdgeNumbers.{IsFrom}
@@ -38,18 +44,23 @@ use Rattle.plane.proofs.TubePaths.TubedSides.{are_sides}
 use Rattle.plane.proofs.TubePaths.WaysOut.{cell_label}
 
 -- ---- the first and the last edge of each chain
-inner_first : (f : ℕ → Owned) (i s : ℕ) (p : Point) (b : Bay) (bs : List Bay) → IsFrom f s (chain i inner p (inner_corners (b ∷ bs))) → (f s).from ≡ p
+inner_first : (f : ℕ → Owned) (i s : ℕ) (p : Point) (b : Bay) (bs : List Bay)
+    → IsFrom f s (chain i inner p (inner_corners (b ∷ bs))) → (f s).from ≡ p
 inner_first f i s p b bs h = ap (λ (o : Owned). o.from) h.0
 
-outer_first : (f : ℕ → Owned) (i s : ℕ) (p e : Point) (bs : List Bay) → IsFrom f s (chain i outer p (outer_corners bs ++ e ∷ [])) → (f s).from ≡ p
+outer_first : (f : ℕ → Owned) (i s : ℕ) (p e : Point) (bs : List Bay)
+    → IsFrom f s (chain i outer p (outer_corners bs ++ e ∷ [])) → (f s).from ≡ p
 outer_first f i s p e [] h = ap (λ (o : Owned). o.from) h.0
 outer_first f i s p e (b ∷ bs) h = ap (λ (o : Owned). o.from) h.0
 
-inner_end : (f : ℕ → Owned) (i s : ℕ) (p : Point) (b : Bay) (bs : List Bay) → IsFrom f s (chain i inner p (inner_corners (b ∷ bs))) → (f (s + length bs)).to ≡ last_inner b.inner bs
+inner_end : (f : ℕ → Owned) (i s : ℕ) (p : Point) (b : Bay) (bs : List Bay)
+    → IsFrom f s (chain i inner p (inner_corners (b ∷ bs)))
+    → (f (s + length bs)).to ≡ last_inner b.inner bs
 inner_end f i s p b [] h = ap (λ (n : ℕ). (f n).to) (omega arith) ∙ ap (λ (o : Owned). o.to) h.0
 inner_end f i s p b (d ∷ bs) h = ap (λ (n : ℕ). (f n).to) (omega arith) ∙ inner_end f i (suc s) b.inner d bs h.1
 
-outer_end : (f : ℕ → Owned) (i s : ℕ) (p e : Point) (bs : List Bay) → IsFrom f s (chain i outer p (outer_corners bs ++ e ∷ [])) → (f (s + length bs)).to ≡ e
+outer_end : (f : ℕ → Owned) (i s : ℕ) (p e : Point) (bs : List Bay)
+    → IsFrom f s (chain i outer p (outer_corners bs ++ e ∷ [])) → (f (s + length bs)).to ≡ e
 outer_end f i s p e [] h = ap (λ (n : ℕ). (f n).to) (omega arith) ∙ ap (λ (o : Owned). o.to) h.0
 outer_end f i s p e (b ∷ bs) h = ap (λ (n : ℕ). (f n).to) (omega arith) ∙ outer_end f i (suc s) b.outer e bs h.1
 
@@ -181,11 +192,15 @@ module _ (w : ℤ) (d : Plan) (bays : ℕ → List Bay) (m : ℕ) (E : ℕ → E
     told : mark lab (twin (within x)) ≡ mark lab (twin (within y)) → inside i ≡ outside i
     told e = sym (ap inside ox.0) ∙ sym (L.inner_chain x lx ox.1) ∙ e ∙ L.outer_chain y ly oy.1 ∙ ap outside oy.0
 
-    at_from : (b : Bool) → way E (within x) ≡ inward b inner (F x).from (F x).to → way E (within y) ≡ inward b outer (F y).from (F y).to → (F x).from ≡ v → (F y).from ≡ v → inside i ≡ outside i
+    at_from : (b : Bool) → way E (within x) ≡ inward b inner (F x).from (F x).to
+        → way E (within y) ≡ inward b outer (F y).from (F y).to → (F x).from ≡ v → (F y).from ≡ v
+        → inside i ≡ outside i
     at_from false wx wy ex ey = told (one_label (within y) (within x) my mx (ap (λ (e : Edge). e.high) wy ∙ ey) (ap (λ (e : Edge). e.low) wx ∙ ex))
     at_from true wx wy ex ey = told (sym (one_label (within x) (within y) mx my (ap (λ (e : Edge). e.high) wx ∙ ex) (ap (λ (e : Edge). e.low) wy ∙ ey)))
 
-    at_to : (b : Bool) → way E (within x) ≡ inward b inner (F x).from (F x).to → way E (within y) ≡ inward b outer (F y).from (F y).to → (F x).to ≡ v → (F y).to ≡ v → inside i ≡ outside i
+    at_to : (b : Bool) → way E (within x) ≡ inward b inner (F x).from (F x).to
+        → way E (within y) ≡ inward b outer (F y).from (F y).to → (F x).to ≡ v → (F y).to ≡ v
+        → inside i ≡ outside i
     at_to false wx wy ex ey = told (sym (one_label (within x) (within y) mx my (ap (λ (e : Edge). e.high) wx ∙ ex) (ap (λ (e : Edge). e.low) wy ∙ ey)))
     at_to true wx wy ex ey = told (one_label (within y) (within x) my mx (ap (λ (e : Edge). e.high) wy ∙ ey) (ap (λ (e : Edge). e.low) wx ∙ ex))
 

@@ -8,7 +8,8 @@ use Rattle.plane.specs.Faces.Cells.{sector, IsFree}
 use Rattle.plane.specs.Faces.Halves.{Half, edge_of, IsMatched}
 use Rattle.plane.specs.Faces.Labels.{Labels}
 use Rattle.plane.specs.Tubes.Windings.{tiles}
-use Rattle.plane.specs.CurveRuns.Extended.{Tubes, InTubeAt, AtArcEnd, AreTubes, IsOnWay, IsFreeOfCurves}
+use Rattle.plane.specs.CurveRuns.Extended.{Tubes, InTubeAt, AtArcEnd, AreTubes, IsOnWay}
+use Rattle.plane.specs.CurveRuns.Extended.{IsFreeOfCurves}
 use Rattle.plane.proofs.Linear.Clear.{clear_start, on_same}
 use Rattle.plane.proofs.Strips.ToTheRight.{off_start, off_end}
 use Rattle.plane.proofs.Strips.OneStrip.{segment_linked}
@@ -31,7 +32,8 @@ module _ (r : Replay) (whole : IsWhole r) (lab : Labels) (matched : IsMatched r 
       no_end : (z : Vector) → IsOnWay p q z → AtArcEnd T c z → ⊥
       no_end z w h = misses z z w w (tubes.ends c fits z (way_place p q z P Q w) h)
 
-      own_edge : (z : Vector) → IsOnWay p q z → (e : ℕ) → e < r.edges → On r.weight (r.edge e) z → (h : Half) × Has h (T.halves c) × (edge_of h ≡ e)
+      own_edge : (z : Vector) → IsOnWay p q z → (e : ℕ) → e < r.edges → On r.weight (r.edge e) z
+          → (h : Half) × Has h (T.halves c) × (edge_of h ≡ e)
       own_edge z w e l on = elim (look Half (λ h. edge_of h ≡ e) (T.halves c) (λ h. decide_number (edge_of h) e)) [
         | inl h ↦ h
         | inr n ↦ elim (look_below (λ j. Same z (point (r.step j).at)) r.steps (λ j. decide_same z (point (r.step j).at))) [
@@ -43,7 +45,8 @@ module _ (r : Replay) (whole : IsWhole r) (lab : Labels) (matched : IsMatched r 
           Z : Place z
           Z = way_place p q z P Q w
 
-          at_event : (j : ℕ) → j < r.steps → Same z (point (r.step j).at) → (h : Half) × Has h (T.halves c) × (edge_of h ≡ e)
+          at_event : (j : ℕ) → j < r.steps → Same z (point (r.step j).at)
+              → (h : Half) × Has h (T.halves c) × (edge_of h ≡ e)
           at_event j k s =
               let corner = event_corner r whole lab matched (T.label c) (T.first c) (T.bay c) (T.bays c) (T.halves c) (tubes.tube c fits) j k (in_some_same (tiles (T.first c) (T.bay c ∷ T.bays c)) z (point (r.step j).at) Z s (within z w)) in
               elim ((tubes.clean c fits).clean j k corner) [
@@ -68,7 +71,8 @@ module _ (r : Replay) (whole : IsWhole r) (lab : Labels) (matched : IsMatched r 
       }
 
     -- off the edges, from a place in no tube
-    pub outside_free : IsFree r p q → ((c : ℕ) → c < T.count → InTubeAt T c p → ⊥) → IsFreeOfCurves r T Meets p q
+    pub outside_free : IsFree r p q → ((c : ℕ) → c < T.count → InTubeAt T c p → ⊥)
+        → IsFreeOfCurves r T Meets p q
     outside_free free none = record {
       straights = λ z w e l on. absurd (free e l (hit z w e on));
       arcs = λ c l u v a b meets.
@@ -82,7 +86,8 @@ module _ (r : Replay) (whole : IsWhole r) (lab : Labels) (matched : IsMatched r 
           none c l ((in_tube r whole.run whole.law whole.once lab matched (T.label c) (T.first c) (T.bay c) (T.bays c) (T.halves c) t p P (off_start r p i.0 P part)).1 (label ∙ at_z));
     }
       where
-        hit : (z : Vector) → IsOnWay p q z → (e : ℕ) → On r.weight (r.edge e) z → HitsEdge r.weight p q (r.edge e)
+        hit : (z : Vector) → IsOnWay p q z → (e : ℕ) → On r.weight (r.edge e) z
+            → HitsEdge r.weight p q (r.edge e)
         hit z w e on = record {
           z = z;
           place = way_place p q z P Q w;

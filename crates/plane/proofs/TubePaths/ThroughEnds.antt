@@ -1,12 +1,14 @@
 -- A segment that hits one half arc alone, outside whose two chains stands one label: all its places have that label.
-use Rattle.std.proofs.Common.{◌≡◌, ℕ, ◌<◌, ℤ, pos, negsuc, ◌<ℤ◌, ◌⊎◌, inl, inr, refl, arith, ap, sym, ◌∙◌, subst}
+use Rattle.std.proofs.Common.{◌≡◌, ℕ, ◌<◌, ℤ, pos, negsuc, ◌<ℤ◌, ◌⊎◌, inl, inr, refl, arith, ap}
+use Rattle.std.proofs.Common.{sym, ◌∙◌, subst}
 use Rattle.std.proofs.lemmas.Int.{ints}
 use Rattle.plane.specs.Lists.{Has}
 use Rattle.plane.specs.Forms.Vectors.{Vector, Place, On}
 use Rattle.plane.specs.Faces.Replays.{Replay}
 use Rattle.plane.specs.Faces.Halves.{Half, edge_of, IsMatched}
 use Rattle.plane.specs.Faces.Labels.{Labels}
-use Rattle.plane.specs.CurveRuns.Extended.{Tubes, InTubeAt, AtArcEnd, IsWall, AreTubes, HasLabel, IsOnWay}
+use Rattle.plane.specs.CurveRuns.Extended.{Tubes, InTubeAt, AtArcEnd, IsWall, AreTubes, HasLabel}
+use Rattle.plane.specs.CurveRuns.Extended.{IsOnWay}
 use Rattle.plane.proofs.Windings.CommonPlaces.{decide_number, common_place}
 use Rattle.plane.proofs.Windings.Whole.{IsWhole}
 use Rattle.plane.proofs.Windings.Ways.{way_place}
@@ -14,8 +16,10 @@ use Rattle.plane.proofs.TubePaths.Extended.{IsAtWall, IsKeeping, label_along}
 
 -- the segment hits no straight and no half arc but that of tube c
 pub record IsFreeBut (r : Replay) (T : Tubes) (Meets : ℕ → Vector → Vector → Type 0) (c : ℕ) (p q : Vector) : Type 0 where
-  pub straights : (z : Vector) → IsOnWay p q z → (e : ℕ) → e < r.edges → On r.weight (r.edge e) z → (d : ℕ) × (d < T.count) × (h : Half) × Has h (T.halves d) × (edge_of h ≡ e)
-  pub arcs : (d : ℕ) → d < T.count → (d ≡ c → ⊥) → (u v : Vector) → IsOnWay p q u → IsOnWay p q v → Meets d u v → ⊥
+  pub straights : (z : Vector) → IsOnWay p q z → (e : ℕ) → e < r.edges → On r.weight (r.edge e) z
+      → (d : ℕ) × (d < T.count) × (h : Half) × Has h (T.halves d) × (edge_of h ≡ e)
+  pub arcs : (d : ℕ) → d < T.count → (d ≡ c → ⊥) → (u v : Vector) → IsOnWay p q u → IsOnWay p q v
+      → Meets d u v → ⊥
 
 module _ (r : Replay) (whole : IsWhole r) (lab : Labels) (matched : IsMatched r lab) (T : Tubes) (Meets : ℕ → Vector → Vector → Type 0) (tubes : AreTubes r lab T Meets) (c : ℕ) (l : c < T.count) where
   -- a common place of the tube and of another one on the segment would be an end of the other half arc
@@ -23,12 +27,14 @@ module _ (r : Replay) (whole : IsWhole r) (lab : Labels) (matched : IsMatched r 
     not_end : (d : ℕ) (z : Vector) → d < T.count → (d ≡ c → ⊥) → IsOnWay p q z → AtArcEnd T d z → ⊥
     not_end d z k n w h = free.arcs d k n z z w w (tubes.ends d k z (way_place p q z P Q w) h)
 
-    parted : (d e : ℕ) (z : Vector) → d < T.count → e < T.count → (d ≡ e → ⊥) → (d ≡ c → ⊥) → IsOnWay p q z → InTubeAt T d z → InTubeAt T e z → ⊥
+    parted : (d e : ℕ) (z : Vector) → d < T.count → e < T.count → (d ≡ e → ⊥) → (d ≡ c → ⊥)
+        → IsOnWay p q z → InTubeAt T d z → InTubeAt T e z → ⊥
     parted d e z ld le n other w hd he = not_end d z ld other w
         (common_place r whole lab matched (T.label d) (T.first d) (T.bay d) (T.bays d) (T.halves d) (T.label e) (T.first e) (T.bay e) (T.bays e) (T.halves e)
         (tubes.tube d ld) (tubes.tube e le) (tubes.labels d e ld le n) (tubes.apart d e ld le n) (tubes.clean d ld) z (way_place p q z P Q w) hd he)
 
-    pub one_tube : (d e : ℕ) (z : Vector) → d < T.count → e < T.count → IsOnWay p q z → InTubeAt T d z → InTubeAt T e z → d ≡ e
+    pub one_tube : (d e : ℕ) (z : Vector) → d < T.count → e < T.count → IsOnWay p q z
+        → InTubeAt T d z → InTubeAt T e z → d ≡ e
     one_tube d e z ld le w hd he = elim (decide_number d e) [
       | inl k ↦ k
       | inr n ↦ elim (decide_number d c) [
@@ -91,7 +97,8 @@ module _ (r : Replay) (whole : IsWhole r) (lab : Labels) (matched : IsMatched r 
     )
 
     module _ (p q : Vector) (P : Place p) (Q : Place q) (free : IsFreeBut r T Meets c p q) where
-      wall_side : (d : ℕ) (z : Vector) (h : Half) → d < T.count → IsOnWay p q z → IsWall r lab T d h → On r.weight (r.edge (edge_of h)) z → (d ≡ c) ⊎ (d ≡ c → ⊥) → IsAtWall lab U d h z
+      wall_side : (d : ℕ) (z : Vector) (h : Half) → d < T.count → IsOnWay p q z → IsWall r lab T d h
+          → On r.weight (r.edge (edge_of h)) z → (d ≡ c) ⊎ (d ≡ c → ⊥) → IsAtWall lab U d h z
       wall_side d z h k w (inl v) on (inl e) = inl (v.0, own_low d z e)
       wall_side d z h k w (inr v) on (inl e) = inl (v.0 ∙ ap T.outer e ∙ sym equal ∙ sym (ap T.inner e), own_low d z e)
       wall_side d z h k w (inl v) on (inr n) = elim (v.1 z (way_place p q z P Q w) on) [

@@ -1,5 +1,6 @@
 -- The part of a tube inside the circle is one piece, and so is the part outside it: paths over the corners of the triangles.
-use Rattle.std.proofs.Common.{◌≡◌, List, [], ◌∷◌, ℤ, pos, ◌+ℤ◌, ◌*ℤ◌, ◌<ℤ◌, ◌≤ℤ◌, inl, inr, refl, arith, ap, sym, subst}
+use Rattle.std.proofs.Common.{◌≡◌, List, [], ◌∷◌, ℤ, pos, ◌+ℤ◌, ◌*ℤ◌, ◌<ℤ◌, ◌≤ℤ◌, inl, inr, refl}
+use Rattle.std.proofs.Common.{arith, ap, sym, subst}
 use Rattle.std.proofs.lemmas.Int.{ints, by_lt_z}
 use Rattle.plane.specs.declared.kinds.Point.{Point}
 use Rattle.plane.specs.Lists.{Each, Has}
@@ -18,7 +19,8 @@ use Rattle.plane.proofs.TubePaths.WaysOut.{way_back, way_within}
 use Rattle.plane.proofs.TubePaths.Exits.{same_start, way_between}
 use Rattle.plane.proofs.Linear.Clear.{mix_back}
 use Rattle.plane.proofs.HalfArcs.ArcSides.{outside_same, not_outside_mix, inside_both, triangle_way}
-use Rattle.plane.proofs.TubePaths.AwayFrom.{path_more, path_on, path_turned, Times, times_same, away_from, towards}
+use Rattle.plane.proofs.TubePaths.AwayFrom.{path_more, path_on, path_turned, Times, times_same}
+use Rattle.plane.proofs.TubePaths.AwayFrom.{away_from, towards}
 
 -- ---- corners
 corner_a : (t : Tile) → InTile t (point t.a)
@@ -68,12 +70,14 @@ module _ (h : HalfArc) (hc : IsCap (cap h)) where
   abbrev pub Without : List Tile → Vector → Type 0
   Without ts z = InSomeTile ts z × (pos 0 <ℤ power h z)
 
-  step_in : (t : Tile) (ts : List Tile) (p q : Vector) → Has t ts → Place p → Place q → InTile t p → InTile t q → power h p <ℤ pos 0 → power h q <ℤ pos 0 → PathIn (Within ts) p q
+  step_in : (t : Tile) (ts : List Tile) (p q : Vector) → Has t ts → Place p → Place q → InTile t p
+      → InTile t q → power h p <ℤ pos 0 → power h q <ℤ pos 0 → PathIn (Within ts) p q
   step_in t ts p q m P Q i k a b = goes p q q Q
       (λ z w. ((t, m, triangle_way t p q z P Q i k w), subst (λ (v : Vector). power h v <ℤ pos 0) (sym w.is) (inside_both h w.s p w.t q hc P Q w.s_least w.t_least w.some a b)))
       (stays q q refl)
 
-  step_out : (t : Tile) (ts : List Tile) (p q : Vector) → Has t ts → Place p → Place q → InTile t p → InTile t q → ((z : Vector) → IsOnWay p q z → pos 0 <ℤ power h z) → PathIn (Without ts) p q
+  step_out : (t : Tile) (ts : List Tile) (p q : Vector) → Has t ts → Place p → Place q → InTile t p
+      → InTile t q → ((z : Vector) → IsOnWay p q z → pos 0 <ℤ power h z) → PathIn (Without ts) p q
   step_out t ts p q m P Q i k f = goes p q q Q (λ z w. ((t, m, triangle_way t p q z P Q i k w), f z w)) (stays q q refl)
 
   -- ---- inside
@@ -83,7 +87,8 @@ module _ (h : HalfArc) (hc : IsCap (cap h)) where
   AreInside (b ∷ []) = Unit {0}
   AreInside (b ∷ (d ∷ ds)) = (power h (point b.inner) <ℤ pos 0) × AreInside (d ∷ ds)
 
-  head_in : (p u : Point) (k : Bay) (ks : List Bay) → power h (point p) <ℤ pos 0 → (z : Vector) → Place z → Within (strips p u (k ∷ ks)) z
+  head_in : (p u : Point) (k : Bay) (ks : List Bay) → power h (point p) <ℤ pos 0 → (z : Vector)
+      → Place z → Within (strips p u (k ∷ ks)) z
       → (InSomeTile (strips k.inner k.outer ks) z → PathIn (Within (strips p u (k ∷ ks))) z (point p)) → PathIn (Within (strips p u (k ∷ ks))) z (point p)
   head_in p u k ks b z Z i rest = elim i.0.1 [
     | inl e ↦ step_in (record { a = u; b = p; c = k.outer }) (strips p u (k ∷ ks)) z (point p) (inl refl) Z (place_point p) (subst (λ (t : Tile). InTile t z) e i.0.2) (corner_b (record { a = u; b = p; c = k.outer })) i.1 b
@@ -93,7 +98,9 @@ module _ (h : HalfArc) (hc : IsCap (cap h)) where
     ]
   ]
 
-  strips_in : (p u : Point) (ks : List Bay) → AreInside ks → power h (point p) <ℤ pos 0 → (z : Vector) → Place z → Within (strips p u ks) z → PathIn (Within (strips p u ks)) z (point p)
+  strips_in : (p u : Point) (ks : List Bay) → AreInside ks → power h (point p) <ℤ pos 0
+      → (z : Vector) → Place z → Within (strips p u ks) z
+      → PathIn (Within (strips p u ks)) z (point p)
   strips_in p u [] f b z Z i = absurd i.0.1
   strips_in p u (k ∷ []) f b z Z i = head_in p u k [] b z Z i (λ s. absurd s.1)
   strips_in p u (k ∷ (d ∷ ds)) f b z Z i = head_in p u k (d ∷ ds) b z Z i (λ s.
@@ -104,7 +111,9 @@ module _ (h : HalfArc) (hc : IsCap (cap h)) where
       (path_more (Within rest) (Within (t1 ∷ (t2 ∷ rest))) (λ v j. (later t1 (t2 ∷ rest) v (later t2 rest v j.0), j.1)) z (point k.inner) (strips_in k.inner k.outer (d ∷ ds) f.1 f.0 z Z (s, i.1)))
       (step_in t2 (t1 ∷ (t2 ∷ rest)) (point k.inner) (point p) (inr (inl refl)) (place_point k.inner) (place_point p) (corner_b t2) (corner_a t2) f.0 b))
 
-  pub inner_piece : (a : Point) (k : Bay) (ks : List Bay) → AreInside (k ∷ ks) → (p q : Vector) → Place p → Place q → Within (tiles a (k ∷ ks)) p → Within (tiles a (k ∷ ks)) q → PathIn (Within (tiles a (k ∷ ks))) p q
+  pub inner_piece : (a : Point) (k : Bay) (ks : List Bay) → AreInside (k ∷ ks) → (p q : Vector)
+      → Place p → Place q → Within (tiles a (k ∷ ks)) p → Within (tiles a (k ∷ ks)) q
+      → PathIn (Within (tiles a (k ∷ ks))) p q
   inner_piece a k [] f p q P Q i j = step_in t (t ∷ []) p q (inl refl) P Q (only p i.0) (only q j.0) i.1 j.1
     where
       t : Tile
@@ -130,7 +139,9 @@ module _ (h : HalfArc) (hc : IsCap (cap h)) where
       ]
 
   -- ---- outside
-  outer_edge : (u o : Point) → RunsOutside h u o → pos 0 <ℤ power h (point u) → pos 0 <ℤ power h (point o) → (z : Vector) → IsOnWay (point u) (point o) z → pos 0 <ℤ power h z
+  outer_edge : (u o : Point) → RunsOutside h u o → pos 0 <ℤ power h (point u)
+      → pos 0 <ℤ power h (point o) → (z : Vector) → IsOnWay (point u) (point o) z
+      → pos 0 <ℤ power h z
   outer_edge u o out a b z w = subst (λ (v : Vector). pos 0 <ℤ power h v) (sym w.is) (by_lt_z (pos 0) w.s
       (λ (k : pos 0 <ℤ w.s). by_lt_z (pos 0) w.t
       (λ (l : pos 0 <ℤ w.t). (out w.s w.t k l).0)
@@ -153,10 +164,12 @@ module _ (h : HalfArc) (hc : IsCap (cap h)) where
   mean_in : (t : Tile) (z : Vector) (i : InTile t z) → InTile t (mean_of t z i)
   mean_in t z i = record { of_a = i.of_a; of_b = i.of_b; of_c = i.of_c; a_least = i.a_least; b_least = i.b_least; c_least = i.c_least; some = i.some; is = same_refl (mean_of t z i) }
 
-  same_way_out : (p q : Vector) → Place p → Place q → Same p q → pos 0 <ℤ power h q → (z : Vector) → IsOnWay p q z → pos 0 <ℤ power h z
+  same_way_out : (p q : Vector) → Place p → Place q → Same p q → pos 0 <ℤ power h q → (z : Vector)
+      → IsOnWay p q z → pos 0 <ℤ power h z
   same_way_out p q P Q e k z w = let Z = way_place p q z P Q w in outside_same h q z Q Z (same_sym z q (between_same p q z P Q e (way_between p q z w))) k
 
-  to_mean : (t : Tile) (ts : List Tile) (z : Vector) → Has t ts → Place z → (i : InTile t z) → pos 0 <ℤ power h z → PathIn (Without ts) z (mean_of t z i)
+  to_mean : (t : Tile) (ts : List Tile) (z : Vector) → Has t ts → Place z → (i : InTile t z)
+      → pos 0 <ℤ power h z → PathIn (Without ts) z (mean_of t z i)
   to_mean t ts z m Z i k = step_out t ts z (mean_of t z i) m Z i.some i (mean_in t z i) (same_way_out z (mean_of t z i) Z i.some i.is (outside_same h z (mean_of t z i) Z i.some i.is k))
 
   -- from a place of the triangle u p o with p not outside, over the edge u o, to u
@@ -197,7 +210,8 @@ module _ (h : HalfArc) (hc : IsCap (cap h)) where
       over_v : pos 0 <ℤ power h v
       over_v = outside_same h z v Z V i.is k
 
-      alone : (r a s b t c : ℤ) → r ≡ pos 0 → t ≡ pos 0 → ((r *ℤ a) +ℤ (s *ℤ b)) +ℤ (t *ℤ c) ≡ s *ℤ b
+      alone : (r a s b t c : ℤ) → r ≡ pos 0 → t ≡ pos 0
+          → ((r *ℤ a) +ℤ (s *ℤ b)) +ℤ (t *ℤ c) ≡ s *ℤ b
       alone r a s b t c e f = let x = ap (λ (w : ℤ). w *ℤ a) e in let y = ap (λ (w : ℤ). w *ℤ c) f in omega (arith, ints, x, y)
 
   -- from a place of the triangle p q o with p and q not outside to o
@@ -233,13 +247,16 @@ module _ (h : HalfArc) (hc : IsCap (cap h)) where
       over_v : pos 0 <ℤ power h v
       over_v = outside_same h z v Z V i.is k
 
-      alone : (r a s b t c : ℤ) → r ≡ pos 0 → s ≡ pos 0 → ((r *ℤ a) +ℤ (s *ℤ b)) +ℤ (t *ℤ c) ≡ t *ℤ c
+      alone : (r a s b t c : ℤ) → r ≡ pos 0 → s ≡ pos 0
+          → ((r *ℤ a) +ℤ (s *ℤ b)) +ℤ (t *ℤ c) ≡ t *ℤ c
       alone r a s b t c e f = let x = ap (λ (w : ℤ). w *ℤ a) e in let y = ap (λ (w : ℤ). w *ℤ b) f in omega (arith, ints, x, y)
 
   abbrev pub NotOutside : Bay → Type 0
   NotOutside b = power h (point b.inner) ≤ℤ pos 0
 
-  strips_out : (p u e : Point) (ks : List Bay) → OuterChain (RunsOutside h) u e ks → Each (IsOuterCorner h) ks → Each NotOutside ks → power h (point p) ≤ℤ pos 0 → pos 0 <ℤ power h (point u)
+  strips_out : (p u e : Point) (ks : List Bay) → OuterChain (RunsOutside h) u e ks
+      → Each (IsOuterCorner h) ks → Each NotOutside ks → power h (point p) ≤ℤ pos 0
+      → pos 0 <ℤ power h (point u)
       → (z : Vector) → Place z → Without (strips p u ks) z → PathIn (Without (strips p u ks)) z (point u)
   strips_out p u e [] chain corners below b over z Z i = absurd i.0.1
   strips_out p u e (k ∷ ks) chain corners below b over z Z i =
@@ -259,7 +276,9 @@ module _ (h : HalfArc) (hc : IsCap (cap h)) where
         ]
       ]
 
-  pub outer_piece : (a e : Point) (k : Bay) (ks : List Bay) → OuterChain (RunsOutside h) a e (k ∷ ks) → Each (IsOuterCorner h) (k ∷ ks) → Each NotOutside (k ∷ ks) → power h (point a) ≤ℤ pos 0
+  pub outer_piece : (a e : Point) (k : Bay) (ks : List Bay)
+      → OuterChain (RunsOutside h) a e (k ∷ ks) → Each (IsOuterCorner h) (k ∷ ks)
+      → Each NotOutside (k ∷ ks) → power h (point a) ≤ℤ pos 0
       → (p q : Vector) → Place p → Place q → Without (tiles a (k ∷ ks)) p → Without (tiles a (k ∷ ks)) q → PathIn (Without (tiles a (k ∷ ks))) p q
   outer_piece a e k ks chain corners below b p q P Q i j = path_on (Without all) p hub q (to_hub p P i) (path_turned (Without all) q hub Q (to_hub q Q j))
     where

@@ -1,5 +1,7 @@
 -- The edges of one half arc's tube in a run over the edge list: their numbers, its ends and its places.
-use Rattle.std.proofs.Common.{◌≡◌, ℕ, suc, ◌+◌, ◌-◌, ◌<◌, ◌≤◌, Bool, true, false, cond, List, [], ◌∷◌, ◌++◌, length, get_or, ◌⊎◌, ◌↔◌, inl, inr, refl, arith, ap, sym, ◌∙◌, subst}
+use Rattle.std.proofs.Common.{◌≡◌, ℕ, suc, ◌+◌, ◌-◌, ◌<◌, ◌≤◌, Bool, true, false, cond, List, []}
+use Rattle.std.proofs.Common.{◌∷◌, ◌++◌, length, get_or, ◌⊎◌, ◌↔◌, inl, inr, refl, arith, ap, sym}
+use Rattle.std.proofs.Common.{◌∙◌, subst}
 use Rattle.plane.specs.declared.kinds.Point.{Point}
 use Rattle.plane.specs.declared.kinds.Curve.{Curve}
 use Rattle.plane.specs.declared.kinds.CurveKind.{CurveKind}
@@ -13,8 +15,14 @@ use Rattle.plane.specs.Tubes.Bays.{Bay, IsTube, OnInner, OnOuter, AtEnds}
 use Rattle.plane.specs.Tubes.Bays as one
 use Rattle.plane.specs.Tubes.Windings.{tiles, InSomeTile}
 use Rattle.plane.specs.Tubes.Facing.{tip}
-use Rattle.plane.specs.CurveRuns.TubedRuns.{whole, inner, outer, Owned, chain, inner_corners, outer_corners, edges_of, no_edge, owned, IsOfTube, IsTubedRun, third_is_left, first_edge, tube_start, tube_bays, first_bay, later_bays}
-use Rattle.plane.proofs.TubedRuns.EdgeNumbers.{IsFrom, from_front, from_back, from_at, group_at, group_fits, group_of, IsIn, chain_length, chain_owner, inner_length, arc_length, arc_inner, arc_outer}
+use Rattle.plane.specs.CurveRuns.TubedRuns.{whole, inner, outer, Owned, chain, inner_corners}
+use Rattle.plane.specs.CurveRuns.TubedRuns.{outer_corners, edges_of, no_edge, owned, IsOfTube}
+use Rattle.plane.specs.CurveRuns.TubedRuns.{IsTubedRun, third_is_left, first_edge, tube_start}
+use Rattle.plane.specs.CurveRuns.TubedRuns.{tube_bays, first_bay, later_bays}
+use Rattle.plane.proofs.TubedRuns.EdgeNumbers.{IsFrom, from_front, from_back, from_at, group_at}
+use Rattle.plane.proofs.TubedRuns.EdgeNumbers.{group_fits, group_of, IsIn, chain_length}
+use Rattle.plane.proofs.TubedRuns.EdgeNumbers.{chain_owner, inner_length, arc_length, arc_inner}
+use Rattle.plane.proofs.TubedRuns.EdgeNumbers.{arc_outer}
 use Rattle.plane.proofs.OneTube.BackwardBays.{last_inner, last_is}
 use Rattle.plane.proofs.TubedRuns.TubeBounds.{IsAmong}
 use Rattle.plane.proofs.OneTube.TurnedTubes.{turned_tip, turned_places}
@@ -22,7 +30,8 @@ use Rattle.plane.proofs.TubedRuns.OwnedEdges.{no_curve}
 use Rattle.plane.proofs.TubedRuns.TubeNumbers.{whole_range}
 
 -- each of a curve's edges is its curve's
-pub edge_curve : (kd : CurveKind) (c : Curve) (bs : List Bay) (j k : ℕ) → k < length (edges_of j kd c bs) → (get_or (edges_of j kd c bs) k no_edge).curve ≡ j
+pub edge_curve : (kd : CurveKind) (c : Curve) (bs : List Bay) (j k : ℕ)
+    → k < length (edges_of j kd c bs) → (get_or (edges_of j kd c bs) k no_edge).curve ≡ j
 edge_curve kind.Straight c bs j k l = (chain_owner j whole c.from (c.to ∷ []) k (let a = chain_length j whole c.from (c.to ∷ []) in omega (arith, a, l))).0
 edge_curve kind.HalfArc c bs j k l = elim (whole_range 0 (length bs) (length bs) k (omega arith) (omega arith, let a = arc_length j c bs in omega (arith, a, l))) [
   | inl h ↦ (let a = h.1 in (arc_inner j c bs k (omega (arith, a))).0)
@@ -40,7 +49,8 @@ module _ (d : Plan) (bays : ℕ → List Bay) (m : ℕ) (E : ℕ → Edge) (step
   first i = first_edge bays 0 d.curves i
 
   -- an edge of a group is its curve's
-  pub group_curve : (x : ℕ) (g : IsIn bays no_curve 0 d.curves x) → g.curve ≡ g.index → (f x).curve ≡ g.index
+  pub group_curve : (x : ℕ) (g : IsIn bays no_curve 0 d.curves x) → g.curve ≡ g.index
+      → (f x).curve ≡ g.index
   group_curve x g n =
       let e : f x ≡ get_or (edges_of g.curve (curve d g.index).kind (curve d g.index) (bays g.curve)) g.place no_edge =
       ap f g.is ∙ from_at f (first g.index) g.place _ (group_at bays no_curve 0 d.curves g.index g.curve g.fits g.number) g.there in
@@ -78,7 +88,8 @@ module _ (d : Plan) (bays : ℕ → List Bay) (m : ℕ) (E : ℕ → Edge) (step
         (let a = chain_length i inner c.from (inner_corners bs) in let b = inner_length bs in omega (arith, a, b)) group
 
     -- an edge of the tube, by its number
-    pub inner_owner : (x : ℕ) → IsAmong x (first i) (length bs) → ((f x).curve ≡ i) × ((f x).part ≡ inner)
+    pub inner_owner : (x : ℕ) → IsAmong x (first i) (length bs)
+        → ((f x).curve ≡ i) × ((f x).part ≡ inner)
     inner_owner x h =
         let a = h.0 in
         let b = h.1 in
@@ -87,7 +98,8 @@ module _ (d : Plan) (bays : ℕ → List Bay) (m : ℕ) (E : ℕ → Edge) (step
         let o = arc_inner i c bs k (omega (arith, a, b)) in
         (ap (λ (y : Owned). y.curve) e ∙ o.0, ap (λ (y : Owned). y.part) e ∙ o.1)
 
-    pub outer_owner : (x : ℕ) → IsAmong x (first i + length bs) (suc (length bs)) → ((f x).curve ≡ i) × ((f x).part ≡ outer)
+    pub outer_owner : (x : ℕ) → IsAmong x (first i + length bs) (suc (length bs))
+        → ((f x).curve ≡ i) × ((f x).part ≡ outer)
     outer_owner x h =
         let a = h.0 in
         let b = h.1 in
@@ -126,7 +138,8 @@ module _ (d : Plan) (bays : ℕ → List Bay) (m : ℕ) (E : ℕ → Edge) (step
     pub some_bay : (b : Bay) × (rest : List Bay) × (bs ≡ b ∷ rest)
     some_bay = by_list bs t.some refl
       where
-        by_list : (ks : List Bay) → one.IsSome ks → bs ≡ ks → (b : Bay) × (rest : List Bay) × (bs ≡ b ∷ rest)
+        by_list : (ks : List Bay) → one.IsSome ks → bs ≡ ks
+            → (b : Bay) × (rest : List Bay) × (bs ≡ b ∷ rest)
         by_list [] h e = absurd h
         by_list (k ∷ ks) h e = (k, ks, e)
 
@@ -134,7 +147,8 @@ module _ (d : Plan) (bays : ℕ → List Bay) (m : ℕ) (E : ℕ → Edge) (step
     ends_at = to_bounds some_bay.0 some_bay.1 some_bay.2
 
     -- what holds of tubes with a first bay holds of this one
-    pub with_bay : (P : List Bay → Type 0) → ((b : Bay) (rest : List Bay) → bs ≡ b ∷ rest → P (b ∷ rest)) → P bs
+    pub with_bay : (P : List Bay → Type 0)
+        → ((b : Bay) (rest : List Bay) → bs ≡ b ∷ rest → P (b ∷ rest)) → P bs
     with_bay P h = subst P (sym some_bay.2) (h some_bay.0 some_bay.1 some_bay.2)
 
     -- each chain has an edge
@@ -154,24 +168,30 @@ module _ (d : Plan) (bays : ℕ → List Bay) (m : ℕ) (E : ℕ → Edge) (step
     its_tip = with_bay (λ ks. tip (first_bay (tube_bays c ks)) (later_bays (tube_bays c ks)) ≡ cond (third_is_left c) c.from c.to)
         (λ b rest e. turned_tip (third_is_left c) c.from c.to b rest (subst (λ (ks : List Bay). last_inner c.from ks ≡ c.to) e ends_at))
 
-    either_end : (left : Bool) (P : Point → Type 0) → P c.from ⊎ P c.to → P (cond left c.to c.from) ⊎ P (cond left c.from c.to)
+    either_end : (left : Bool) (P : Point → Type 0) → P c.from ⊎ P c.to
+        → P (cond left c.to c.from) ⊎ P (cond left c.from c.to)
     either_end false P h = h
     either_end true P (inl h) = inr h
     either_end true P (inr h) = inl h
 
-    either_back : (left : Bool) (P : Point → Type 0) → P (cond left c.to c.from) ⊎ P (cond left c.from c.to) → P c.from ⊎ P c.to
+    either_back : (left : Bool) (P : Point → Type 0)
+        → P (cond left c.to c.from) ⊎ P (cond left c.from c.to) → P c.from ⊎ P c.to
     either_back false P h = h
     either_back true P (inl h) = inr h
     either_back true P (inr h) = inl h
 
     -- its ends are those of the tube
-    pub at_ends : (P : Point → Type 0) → P c.from ⊎ P c.to → P (tube_start c) ⊎ P (tip (first_bay (tube_bays c bs)) (later_bays (tube_bays c bs)))
+    pub at_ends : (P : Point → Type 0) → P c.from ⊎ P c.to
+        → P (tube_start c) ⊎ P (tip (first_bay (tube_bays c bs)) (later_bays (tube_bays c bs)))
     at_ends P h = elim (either_end (third_is_left c) P h) [ inl k ↦ inl k | inr k ↦ inr (subst P (sym its_tip) k) ]
 
-    pub ends_at_arc : (P : Point → Type 0) → P (tube_start c) ⊎ P (tip (first_bay (tube_bays c bs)) (later_bays (tube_bays c bs))) → P c.from ⊎ P c.to
+    pub ends_at_arc : (P : Point → Type 0)
+        → P (tube_start c) ⊎ P (tip (first_bay (tube_bays c bs)) (later_bays (tube_bays c bs)))
+        → P c.from ⊎ P c.to
     ends_at_arc P h = either_back (third_is_left c) P (elim h [ inl k ↦ inl k | inr k ↦ inr (subst P its_tip k) ])
 
     -- ---- places
-    pub its_places : (z : Vector) → InSomeTile (tiles (tube_start c) (first_bay (tube_bays c bs) ∷ later_bays (tube_bays c bs))) z ↔ one.InTube c.from bs z
+    pub its_places : (z : Vector)
+        → InSomeTile (tiles (tube_start c) (first_bay (tube_bays c bs) ∷ later_bays (tube_bays c bs))) z ↔ one.InTube c.from bs z
     its_places z = with_bay (λ ks. InSomeTile (tiles (tube_start c) (first_bay (tube_bays c ks) ∷ later_bays (tube_bays c ks))) z ↔ one.InTube c.from ks z)
         (λ b rest e. turned_places (third_is_left c) c.from c.to b rest z (subst (λ (ks : List Bay). last_inner c.from ks ≡ c.to) e ends_at))

@@ -1,5 +1,6 @@
 -- The edges of a curve come before those of curves of greater numbers.
-use Rattle.std.proofs.Common.{◌≡◌, ℕ, zero, suc, ◌+◌, ◌<◌, ◌≤◌, List, [], ◌∷◌, length, get_or, arith, ap}
+use Rattle.std.proofs.Common.{◌≡◌, ℕ, zero, suc, ◌+◌, ◌<◌, ◌≤◌, List, [], ◌∷◌, length, get_or}
+use Rattle.std.proofs.Common.{arith, ap}
 use Rattle.plane.specs.declared.kinds.Curve.{Curve}
 use Rattle.plane.specs.Forms.Vectors.{Edge}
 use Rattle.plane.specs.Rule.Plans.{Plan}
@@ -10,7 +11,8 @@ use Rattle.plane.proofs.TubedRuns.EdgeNumbers.{group_of}
 use Rattle.plane.proofs.TubedRuns.OwnedEdges.{no_curve}
 use Rattle.plane.proofs.TubedRuns.ArcEdges.{group_curve}
 
-first_rises : (bays : ℕ → List Bay) (none : Curve) (j : ℕ) (cs : List Curve) (i k n : ℕ) → i < k → k < length cs → n ≡ j + i
+first_rises : (bays : ℕ → List Bay) (none : Curve) (j : ℕ) (cs : List Curve) (i k n : ℕ) → i < k
+    → k < length cs → n ≡ j + i
     → (first_edge bays j cs i + length (edges_of n (get_or cs i none).kind (get_or cs i none) (bays n))) ≤ first_edge bays j cs k
 first_rises bays none j [] i k n l h e = absurd (omega arith)
 first_rises bays none j (c ∷ cs) i zero n l h e = absurd (omega arith)
@@ -22,7 +24,8 @@ first_rises bays none j (c ∷ cs) (suc i) (suc k) n l h e =
     omega (arith, g)
 
 module _ (d : Plan) (bays : ℕ → List Bay) (m : ℕ) (E : ℕ → Edge) (steps : List Step) (is : IsTubedRun d bays m E steps) where
-  pub edge_before : (x e : ℕ) → x < m → e < m → (owned d bays x).curve < (owned d bays e).curve → x < e
+  pub edge_before : (x e : ℕ) → x < m → e < m → (owned d bays x).curve < (owned d bays e).curve
+      → x < e
   edge_before x e lx le l =
       let c = is.count in
       let a = group_of bays no_curve 0 d.curves x (omega (arith, c, lx)) in

@@ -7,7 +7,8 @@ use Rattle.plane.specs.Rule.Plans.{Plan}
 use Rattle.plane.specs.Faces.Halves.{Half, under, over, edge_of, twin}
 use Rattle.plane.specs.Tubes.Facing.{way}
 use Rattle.plane.specs.Tubes.Bays.{Bay}
-use Rattle.plane.specs.CurveRuns.TubedRuns.{Part, whole, inner, outer, owned, owner, IsOfTube, third_is_left, FacesTube, runs_on, half_within}
+use Rattle.plane.specs.CurveRuns.TubedRuns.{Part, whole, inner, outer, owned, owner, IsOfTube}
+use Rattle.plane.specs.CurveRuns.TubedRuns.{third_is_left, FacesTube, runs_on, half_within}
 use Rattle.plane.specs.CurveRuns.FacedTubes.{on_one_side, tube_tag, faced}
 use Rattle.plane.proofs.Windings.Ways.{half_or_twin}
 use Rattle.plane.proofs.TubedRuns.FacingHalves.{side_edge}
@@ -29,7 +30,8 @@ no_tag (over e) (over f) = refl
 no_suc : (n c : ℕ) → n ≡ 0 → n ≡ suc c → ⊥
 no_suc n c e f = omega (arith, e, f)
 
-tag_same : (g h : Half) (n c : ℕ) → edge_of g ≡ edge_of h → on_one_side g h n ≡ suc c → (g ≡ h) × (n ≡ suc c)
+tag_same : (g h : Half) (n c : ℕ) → edge_of g ≡ edge_of h → on_one_side g h n ≡ suc c
+    → (g ≡ h) × (n ≡ suc c)
 tag_same (under e) (under f) n c q t = (ap (λ (x : ℕ). under x) q, t)
 tag_same (over e) (over f) n c q t = (ap (λ (x : ℕ). over x) q, t)
 tag_same (under e) (over f) n c q t = absurd (no_suc 0 c refl t)
@@ -59,10 +61,12 @@ module _ (d : Plan) (bays : ℕ → List Bay) (E : ℕ → Edge) where
   pub edge_within : (e : ℕ) → edge_of (within e) ≡ e
   edge_within e = side_edge (third_is_left (owner d bays e)) (owned d bays e).part (runs_on (owner d bays e) (E e)) e
 
-  faced_at : (h : Half) (e : ℕ) → edge_of h ≡ e → faced d bays E h ≡ on_one_side h (within e) (tag e)
+  faced_at : (h : Half) (e : ℕ) → edge_of h ≡ e
+      → faced d bays E h ≡ on_one_side h (within e) (tag e)
   faced_at h e q = ap (λ (x : ℕ). on_one_side h (within x) (tag x)) q
 
-  pub faced_within : (e : ℕ) → IsOfTube (owned d bays e).part → faced d bays E (within e) ≡ suc (owned d bays e).curve
+  pub faced_within : (e : ℕ) → IsOfTube (owned d bays e).part
+      → faced d bays E (within e) ≡ suc (owned d bays e).curve
   faced_within e o = faced_at (within e) e (edge_within e) ∙ self_tag (within e) (tag e) ∙ part_tag (owned d bays e).part (owned d bays e).curve o
 
   pub faced_twin : (e : ℕ) → faced d bays E (twin (within e)) ≡ 0
@@ -83,7 +87,8 @@ module _ (d : Plan) (bays : ℕ → List Bay) (E : ℕ → Edge) where
       let p = tag_part (owned d bays (edge_of h)).part (owned d bays (edge_of h)).curve c t.1 in
       record { part = p.0; curve = p.1; is = t.0 }
 
-  pub not_faced : (h : Half) → IsOfTube (owned d bays (edge_of h)).part → faced d bays E h ≡ 0 → h ≡ twin (within (edge_of h))
+  pub not_faced : (h : Half) → IsOfTube (owned d bays (edge_of h)).part → faced d bays E h ≡ 0
+      → h ≡ twin (within (edge_of h))
   not_faced h o e = elim (half_or_twin (within (edge_of h)) h (edge_within (edge_of h))) [
     | inr q ↦ q
     | inl q ↦ absurd (no_suc (faced d bays E h) (owned d bays (edge_of h)).curve e (ap (faced d bays E) q ∙ faced_within (edge_of h) o))
@@ -94,14 +99,16 @@ module _ (d : Plan) (bays : ℕ → List Bay) (E : ℕ → Edge) where
   before_differs p q (inl l) e = let x = ap (λ (v : Point). v.x) e in omega (arith, ints, x, l)
   before_differs p q (inr l) e = let y = ap (λ (v : Point). v.y) e in let k = l.1 in omega (arith, ints, y, k)
 
-  way_back : (g : Half) → Before (E (edge_of g)).low (E (edge_of g)).high → way E (twin g) ≡ way E g → ⊥
+  way_back : (g : Half) → Before (E (edge_of g)).low (E (edge_of g)).high → way E (twin g) ≡ way E g
+      → ⊥
   way_back g b q = before_differs (E (edge_of g)).low (E (edge_of g)).high b (both g q)
     where
       both : (g : Half) → way E (twin g) ≡ way E g → (E (edge_of g)).low ≡ (E (edge_of g)).high
       both (over e) q = sym (ap (λ (x : Edge). x.low) q)
       both (under e) q = ap (λ (x : Edge). x.low) q
 
-  pub one_faces : (e : ℕ) (g h : Half) → Before (E e).low (E e).high → FacesTube d bays E e g → FacesTube d bays E e h → h ≡ g
+  pub one_faces : (e : ℕ) (g h : Half) → Before (E e).low (E e).high → FacesTube d bays E e g
+      → FacesTube d bays E e h → h ≡ g
   one_faces e g h b fg fh = elim (half_or_twin g h (fg.edge ∙ sym fh.edge)) [
     | inl q ↦ q
     | inr q ↦ absurd (way_back g (subst (λ (x : ℕ). Before (E x).low (E x).high) (sym fg.edge) b) (sym (ap (way E) q) ∙ fh.left ∙ sym fg.left))

@@ -1,5 +1,6 @@
 -- Whose the edges of a run over an edge list are: each straight has one edge, each other edge is of the tube of a half arc.
-use Rattle.std.proofs.Common.{◌≡◌, ℕ, ◌+◌, ◌-◌, ◌<◌, ◌≤◌, List, length, get_or, ◌⊎◌, inl, inr, pos, arith, ap, sym, ◌∙◌, subst}
+use Rattle.std.proofs.Common.{◌≡◌, ℕ, ◌+◌, ◌-◌, ◌<◌, ◌≤◌, List, length, get_or, ◌⊎◌, inl, inr, pos}
+use Rattle.std.proofs.Common.{arith, ap, sym, ◌∙◌, subst}
 use Rattle.plane.specs.declared.kinds.Curve.{Curve}
 use Rattle.plane.specs.declared.kinds.CurveKind.{CurveKind}
 use Rattle.plane.specs.declared.kinds.CurveKind.TheVariants as kind
@@ -8,9 +9,11 @@ use Rattle.plane.specs.Forms.Segments.{IsEdgeOf}
 use Rattle.plane.specs.Rule.Plans.{Plan, curve, straight}
 use Rattle.plane.specs.Runs.Steps.{Step}
 use Rattle.plane.specs.Tubes.Bays.{Bay}
-use Rattle.plane.specs.CurveRuns.TubedRuns.{whole, Owned, edges_of, no_edge, owned, Connects, IsOfTube, IsTubedRun, first_edge}
+use Rattle.plane.specs.CurveRuns.TubedRuns.{whole, Owned, edges_of, no_edge, owned, Connects}
+use Rattle.plane.specs.CurveRuns.TubedRuns.{IsOfTube, IsTubedRun, first_edge}
 use Rattle.plane.proofs.Windings.Under.{by_order}
-use Rattle.plane.proofs.TubedRuns.EdgeNumbers.{from_at, group_at, group_fits, group_of, arc_length, arc_inner, arc_outer}
+use Rattle.plane.proofs.TubedRuns.EdgeNumbers.{from_at, group_at, group_fits, group_of, arc_length}
+use Rattle.plane.proofs.TubedRuns.EdgeNumbers.{arc_inner, arc_outer}
 use Rattle.plane.proofs.TubedRuns.HalfArcLists.{decide_kind}
 
 abbrev pub no_curve : Curve
@@ -50,7 +53,9 @@ module _ (d : Plan) (bays : ℕ → List Bay) (m : ℕ) (E : ℕ → Edge) (step
   }
 
   -- edge x, from its place among those of its curve
-  place_is : (x i k : ℕ) → i < length d.curves → k < length (edges_of i (curve d i).kind (curve d i) (bays i)) → x ≡ first_edge bays 0 d.curves i + k
+  place_is : (x i k : ℕ) → i < length d.curves
+      → k < length (edges_of i (curve d i).kind (curve d i) (bays i))
+      → x ≡ first_edge bays 0 d.curves i + k
       → f x ≡ get_or (edges_of i (curve d i).kind (curve d i) (bays i)) k no_edge
   place_is x i k l h e = ap f e ∙ from_at f (first_edge bays 0 d.curves i) k _ (group_at bays no_curve 0 d.curves i i l (omega arith)) h
 
@@ -64,7 +69,10 @@ module _ (d : Plan) (bays : ℕ → List Bay) (m : ℕ) (E : ℕ → Edge) (step
       let there = subst (λ (y : ℕ). g.place < length (edges_of y (curve d g.index).kind (curve d g.index) (bays y))) n g.there in
       by_kind g.index g.place g.fits there g.is (place_is x g.index g.place g.fits there g.is) (decide_kind (curve d g.index).kind)
     where
-      of_arc : (i k : ℕ) → i < length d.curves → (curve d i).kind ≡ kind.HalfArc → k < length (edges_of i kind.HalfArc (curve d i) (bays i)) → x ≡ first_edge bays 0 d.curves i + k → f x ≡ get_or (edges_of i kind.HalfArc (curve d i) (bays i)) k no_edge → IsOfArc x
+      of_arc : (i k : ℕ) → i < length d.curves → (curve d i).kind ≡ kind.HalfArc
+          → k < length (edges_of i kind.HalfArc (curve d i) (bays i))
+          → x ≡ first_edge bays 0 d.curves i + k
+          → f x ≡ get_or (edges_of i kind.HalfArc (curve d i) (bays i)) k no_edge → IsOfArc x
       of_arc i k fits bent there at q =
           let size = arc_length i (curve d i) (bays i) in
           by_order k (length (bays i))
@@ -77,7 +85,10 @@ module _ (d : Plan) (bays : ℕ → List Bay) (m : ℕ) (E : ℕ → Edge) (step
           let p = q ∙ ap (λ (y : ℕ). get_or (edges_of i kind.HalfArc (curve d i) (bays i)) y no_edge) e in
           record { index = i; fits = fits; number = ap (λ (y : Owned). y.curve) p ∙ o.0; bent = bent; part = subst IsOfTube (sym (ap (λ (y : Owned). y.part) p ∙ o.1)) tt; from = omega (arith, at); below = omega (arith, at, there) })
 
-      by_kind : (i k : ℕ) → i < length d.curves → k < length (edges_of i (curve d i).kind (curve d i) (bays i)) → x ≡ first_edge bays 0 d.curves i + k → f x ≡ get_or (edges_of i (curve d i).kind (curve d i) (bays i)) k no_edge
+      by_kind : (i k : ℕ) → i < length d.curves
+          → k < length (edges_of i (curve d i).kind (curve d i) (bays i))
+          → x ≡ first_edge bays 0 d.curves i + k
+          → f x ≡ get_or (edges_of i (curve d i).kind (curve d i) (bays i)) k no_edge
           → ((curve d i).kind ≡ kind.Straight) ⊎ ((curve d i).kind ≡ kind.HalfArc) → IsOfStraight x ⊎ IsOfArc x
       by_kind i k fits there at q (inl e) =
           let zero : k ≡ 0 = zero_place k (subst (λ (kd : CurveKind). k < length (edges_of i kd (curve d i) (bays i))) e there) in
@@ -86,7 +97,8 @@ module _ (d : Plan) (bays : ℕ → List Bay) (m : ℕ) (E : ℕ → Edge) (step
           inr (of_arc i k fits e (subst (λ (kd : CurveKind). k < length (edges_of i kd (curve d i) (bays i))) e there) at (q ∙ ap (λ (kd : CurveKind). get_or (edges_of i kd (curve d i) (bays i)) k no_edge) e))
 
   -- each straight has its edge
-  pub straight_edge : (i : ℕ) → i < length d.curves → (curve d i).kind ≡ kind.Straight → (x : ℕ) × (x < m) × ((f x).curve ≡ i) × IsEdgeOf (E x) (curve d i) × ((f x).part ≡ whole)
+  pub straight_edge : (i : ℕ) → i < length d.curves → (curve d i).kind ≡ kind.Straight
+      → (x : ℕ) × (x < m) × ((f x).curve ≡ i) × IsEdgeOf (E x) (curve d i) × ((f x).part ≡ whole)
   straight_edge i l e =
       let x = first_edge bays 0 d.curves i in
       let fits = group_fits bays no_curve 0 d.curves i i l (omega arith) in

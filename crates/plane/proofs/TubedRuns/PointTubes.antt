@@ -1,6 +1,7 @@
 -- Where a place lies in a run with tubes and labels: on its least edge it is on that edge's curve and on none of a lesser number, and
 -- in a cell the label of the lower edge tells the tube.
-use Rattle.std.proofs.Common.{◌≡◌, ℕ, zero, suc, ◌+◌, ◌<◌, ◌≤◌, List, [], ◌∷◌, length, ℤ, pos, ◌<ℤ◌, ◌≤ℤ◌, ◌⊎◌, inl, inr, refl, arith, ap, sym, ◌∙◌, subst}
+use Rattle.std.proofs.Common.{◌≡◌, ℕ, zero, suc, ◌+◌, ◌<◌, ◌≤◌, List, [], ◌∷◌, length, ℤ, pos, ◌<ℤ◌}
+use Rattle.std.proofs.Common.{◌≤ℤ◌, ◌⊎◌, inl, inr, refl, arith, ap, sym, ◌∙◌, subst}
 use Rattle.std.proofs.lemmas.Int.{ints, by_lt_z}
 use Rattle.plane.specs.declared.kinds.Point.{Point}
 use Rattle.plane.specs.declared.kinds.CurveKind.TheVariants as kind
@@ -23,7 +24,8 @@ use Rattle.plane.specs.Tubes.Bays.{Bay}
 use Rattle.plane.specs.Tubes.Bays as one
 use Rattle.plane.specs.Tubes.Windings.{tiles}
 use Rattle.plane.specs.CurveRuns.Extended.{Tubes, InTubeAt, AreTubes}
-use Rattle.plane.specs.CurveRuns.TubedRuns.{whole, owned, IsOfTube, IsTubedRun, AreTubeLabels, half_within, tube_label, arc_at, tubes, MeetsArc}
+use Rattle.plane.specs.CurveRuns.TubedRuns.{whole, owned, IsOfTube, IsTubedRun, AreTubeLabels}
+use Rattle.plane.specs.CurveRuns.TubedRuns.{half_within, tube_label, arc_at, tubes, MeetsArc}
 use Rattle.plane.specs.CurveRuns.FacedTubes.{faced, IsFirstOn, LiesInTube}
 use Rattle.plane.proofs.Linear.EdgePlaces.{place_point}
 use Rattle.plane.proofs.Covers.SamePlace.{same_sym}
@@ -42,7 +44,8 @@ use Rattle.plane.proofs.TubedRuns.HalfArcLists.{decide_kind}
 use Rattle.plane.proofs.TubedRuns.FacingHalves.{faces}
 use Rattle.plane.proofs.TubedRuns.OwnedEdges.{owner_is, straight_edge}
 use Rattle.plane.proofs.Settling.SettledEdges.{low_on, high_on}
-use Rattle.plane.proofs.TubedRuns.RunTubes.{are_tubes, arc_bent, edge_in_tube, tube_owner, tube_places}
+use Rattle.plane.proofs.TubedRuns.RunTubes.{are_tubes, arc_bent, edge_in_tube, tube_owner}
+use Rattle.plane.proofs.TubedRuns.RunTubes.{tube_places}
 use Rattle.plane.proofs.TubedRuns.TubedCurves.{tube_of, hits_bent}
 use Rattle.plane.proofs.TubedRuns.TubedOff.{from_tube, in_its_tube, label_off}
 use Rattle.plane.proofs.TubedRuns.FacedTubes.{IsFaced, faced_is, not_faced, one_faces}
@@ -59,7 +62,8 @@ some_before es zero l = inl refl
 some_before es (suc i) l = inr (some_at es i (omega (arith, l)))
 
 -- the half arc of an edge of a tube
-pub edge_arc : (d : Plan) (bays : ℕ → List Bay) (m : ℕ) (E : ℕ → Edge) (steps : List Step) → IsTubedRun d bays m E steps → (e : ℕ) → e < m → IsOfTube (owned d bays e).part
+pub edge_arc : (d : Plan) (bays : ℕ → List Bay) (m : ℕ) (E : ℕ → Edge) (steps : List Step)
+    → IsTubedRun d bays m E steps → (e : ℕ) → e < m → IsOfTube (owned d bays e).part
     → ((owned d bays e).curve < length d.curves) × ((curve d (owned d bays e).curve).kind ≡ kind.HalfArc)
 edge_arc d bays m E steps is e l o = elim (owner_is d bays m E steps is e l) [
   | inl s ↦ absurd (subst IsOfTube s.part o)
@@ -86,7 +90,9 @@ module _ (w : ℤ) (d : Plan) (bays : ℕ → List Bay) (m : ℕ) (E : ℕ → E
 
   module _ (z : Vector) (Z : Place z) where
     -- where an edge of another curve meets a tube, an edge of the tube meets it
-    touched : (c : ℕ) → c < T.count → (e : ℕ) → e < m → ((owned d bays e).curve ≡ arc_at d c → ⊥) → On w (E e) z → InTubeAt T c z → (x : ℕ) × (x < m) × ((owned d bays x).curve ≡ arc_at d c) × On w (E x) z
+    touched : (c : ℕ) → c < T.count → (e : ℕ) → e < m → ((owned d bays e).curve ≡ arc_at d c → ⊥)
+        → On w (E e) z → InTubeAt T c z
+        → (x : ℕ) × (x < m) × ((owned d bays x).curve ≡ arc_at d c) × On w (E x) z
     touched c lc e le n on inner = elim (look_below (λ k. Same z (point (r.step k).at)) r.steps (λ k. decide_same z (point (r.step k).at))) [
       | inr none ↦ absurd (edge_outside r run_whole lab L.matched (T.label c) (T.first c) (T.bay c) (T.bays c) (T.halves c) (all.tube c lc) e z le not_its Z (λ k l s. none (k, l, s)) on inner)
       | inl s ↦
@@ -100,7 +106,8 @@ module _ (w : ℤ) (d : Plan) (bays : ℕ → List Bay) (m : ℕ) (E : ℕ → E
         not_its h k q = n (ap (λ (y : ℕ). (owned d bays y).curve) (sym q) ∙ tube_owner w d bays m E steps lab within inside outside swept is L c lc h k)
 
     -- on its least edge a place is on no curve of a lesser number
-    least : (e : ℕ) → e < m → On w (E e) z → ((x : ℕ) → x < e → On w (E x) z → ⊥) → (j : ℕ) → j < (owned d bays e).curve → j < length d.curves → IsOn (curve d j) z → ⊥
+    least : (e : ℕ) → e < m → On w (E e) z → ((x : ℕ) → x < e → On w (E x) z → ⊥) → (j : ℕ)
+        → j < (owned d bays e).curve → j < length d.curves → IsOn (curve d j) z → ⊥
     least e le on first j lj fits there = elim (decide_kind (curve d j).kind) [
       | inl k ↦
           let x = straight_edge d bays m E steps is j fits k in
@@ -111,13 +118,15 @@ module _ (w : ℤ) (d : Plan) (bays : ℕ → List Bay) (m : ℕ) (E : ℕ → E
           first x.0 (edge_before d bays m E steps is x.0 e x.1 le (below x.0 (x.2 ∙ c.2))) x.3
     ]
       where
-        below : (x : ℕ) → (owned d bays x).curve ≡ j → (owned d bays x).curve < (owned d bays e).curve
+        below : (x : ℕ) → (owned d bays x).curve ≡ j
+            → (owned d bays x).curve < (owned d bays e).curve
         below x q = omega (arith, q, lj)
 
         differ : (owned d bays e).curve ≡ j → ⊥
         differ q = omega (arith, q, lj)
 
-    pub straight_first : (e : ℕ) → e < m → (owned d bays e).part ≡ whole → On w (E e) z → ((x : ℕ) → x < e → On w (E x) z → ⊥) → IsFirstOn d (owned d bays e).curve z
+    pub straight_first : (e : ℕ) → e < m → (owned d bays e).part ≡ whole → On w (E e) z
+        → ((x : ℕ) → x < e → On w (E x) z → ⊥) → IsFirstOn d (owned d bays e).curve z
     straight_first e le p on first = elim (owner_is d bays m E steps is e le) [
       | inr a ↦ absurd (subst IsOfTube p a.part)
       | inl s ↦
@@ -130,21 +139,27 @@ module _ (w : ℤ) (d : Plan) (bays : ℕ → List Bay) (m : ℕ) (E : ℕ → E
     ]
 
     -- ---- in a tube
-    on_arc : (c : ℕ) → c < T.count → InTubeAt T c z → power (arc (curve d (arc_at d c))) z ≡ pos 0 → IsOn (curve d (arc_at d c)) z
+    on_arc : (c : ℕ) → c < T.count → InTubeAt T c z → power (arc (curve d (arc_at d c))) z ≡ pos 0
+        → IsOn (curve d (arc_at d c)) z
     on_arc c lc inner y =
         (hits_alone (curve d (arc_at d c)) z Z).0 (hits_bent w d bays m E steps lab within inside outside swept is L (arc_at d c) z z (arc_bent w d bays m E steps lab within inside outside swept is L c lc) (all.circle c lc z Z inner y))
 
-    off_arc : (c : ℕ) → c < T.count → InTubeAt T c z → (power (arc (curve d (arc_at d c))) z ≡ pos 0 → ⊥) → IsOff d z
+    off_arc : (c : ℕ) → c < T.count → InTubeAt T c z
+        → (power (arc (curve d (arc_at d c))) z ≡ pos 0 → ⊥) → IsOff d z
     off_arc c lc inner n = from_tube w d bays m E steps lab within inside outside swept is L z Z c lc inner (by_lt_z (power (arc (curve d (arc_at d c))) z) (pos 0) (λ l. inl l)
         (λ (k : pos 0 ≤ℤ power (arc (curve d (arc_at d c))) z). by_lt_z (pos 0) (power (arc (curve d (arc_at d c))) z) (λ l. inr l) (λ (j : power (arc (curve d (arc_at d c))) z ≤ℤ pos 0). absurd (n (omega (arith, ints, k, j))))))
 
-    on_tube : (e : ℕ) → e < m → (c : ℕ) → c < T.count → (owned d bays e).curve ≡ arc_at d c → On w (E e) z → InTubeAt T c z
+    on_tube : (e : ℕ) → e < m → (c : ℕ) → c < T.count → (owned d bays e).curve ≡ arc_at d c
+        → On w (E e) z → InTubeAt T c z
     on_tube e le c lc q on =
         let h = edge_in_tube w d bays m E steps lab within inside outside swept is L c lc e le q in
         wall_in r lab (T.label c) (T.first c) (T.bay c) (T.bays c) (T.halves c) (all.tube c lc) (within e) h.0 z Z (subst (λ (x : ℕ). pos 0 <ℤ rise w (E x)) (sym h.1) (swept.rises e le)) (subst (λ (x : ℕ). On w (E x) z) (sym h.1) on)
 
   -- a point in the tube of half arc i
-  lies : (i : ℕ) → i < length d.curves → (curve d i).kind ≡ kind.HalfArc → (v : Point) → ((c : ℕ) → c < T.count → arc_at d c ≡ i → InTubeAt T c (point v)) → ((j : ℕ) → j < i → j < length d.curves → IsOn (curve d j) (point v) → ⊥) → LiesInTube d bays i v
+  lies : (i : ℕ) → i < length d.curves → (curve d i).kind ≡ kind.HalfArc → (v : Point)
+      → ((c : ℕ) → c < T.count → arc_at d c ≡ i → InTubeAt T c (point v))
+      → ((j : ℕ) → j < i → j < length d.curves → IsOn (curve d j) (point v) → ⊥)
+      → LiesInTube d bays i v
   lies i fits bent v inner lesser =
       let c = tube_of w d bays m E steps lab within inside outside swept is L i fits bent in
       let there = inner c.0 c.1 c.2 in
@@ -161,7 +176,9 @@ module _ (w : ℤ) (d : Plan) (bays : ℕ → List Bay) (m : ℕ) (E : ℕ → E
         off = λ n. off_arc (point v) V c.0 c.1 there (λ y. n (subst (λ (n : ℕ). power (arc (curve d n)) (point v) ≡ pos 0) c.2 y));
       }
 
-  pub tube_first : (e : ℕ) → e < m → IsOfTube (owned d bays e).part → (v : Point) → On w (E e) (point v) → ((x : ℕ) → x < e → On w (E x) (point v) → ⊥) → LiesInTube d bays (owned d bays e).curve v
+  pub tube_first : (e : ℕ) → e < m → IsOfTube (owned d bays e).part → (v : Point)
+      → On w (E e) (point v) → ((x : ℕ) → x < e → On w (E x) (point v) → ⊥)
+      → LiesInTube d bays (owned d bays e).curve v
   tube_first e le o v on first =
       let a = edge_arc d bays m E steps is e le o in
       lies (owned d bays e).curve a.0 a.1 v (λ c lc q. on_tube (point v) (place_point v) e le c lc (sym q) on) (λ j l fits there. least (point v) (place_point v) e le on first j l fits there)
@@ -242,7 +259,8 @@ module _ (w : ℤ) (d : Plan) (bays : ℕ → List Bay) (m : ℕ) (E : ℕ → E
         | inr y ↦ subst (λ (n : ℕ). n ≤ length d.points) (sym (cell_label y.0 y.1)) (region_most y.0 (fits_edge y.0 y.1) (t y.0 y.1))
       ]
         where
-          zero_most : label_of lab r (sector r z) ≡ 0 → label_of lab r (sector r z) ≤ length d.points
+          zero_most : label_of lab r (sector r z) ≡ 0
+              → label_of lab r (sector r z) ≤ length d.points
           zero_most y = omega (arith, y)
 
       too_great : (n a l : ℕ) → l ≡ suc (n + a) → l ≤ n → ⊥
@@ -254,7 +272,8 @@ module _ (w : ℤ) (d : Plan) (bays : ℕ → List Bay) (m : ℕ) (E : ℕ → E
       pub cell_off : IsOff d z
       cell_off = label_off w d bays m E steps lab within inside outside swept is L z Z (label_of lab r (sector r z)) (inr (no_tube, q.0, refl))
 
-      pub cell_outside : (j : ℕ) → j < length d.curves → (curve d j).kind ≡ kind.HalfArc → one.InTube (curve d j).from (bays j) z → ⊥
+      pub cell_outside : (j : ℕ) → j < length d.curves → (curve d j).kind ≡ kind.HalfArc
+          → one.InTube (curve d j).from (bays j) z → ⊥
       cell_outside j fits bent inner =
           let c = tube_of w d bays m E steps lab within inside outside swept is L j fits bent in
           no_tube c.0 c.1 ((tube_places w d bays m E steps lab within inside outside swept is L c.0 c.1 z).1 (subst (λ (n : ℕ). one.InTube (curve d n).from (bays n) z) (sym c.2) inner))

@@ -1,5 +1,6 @@
 -- A complete run over the edge list of a drawing with tubes, and labels as a certificate's rules ask, make tubes of the run.
-use Rattle.std.proofs.Common.{◌≡◌, ℕ, suc, ◌+◌, ◌<◌, ◌≤◌, List, [], ◌∷◌, ◌++◌, map, length, ℤ, pos, ◌<ℤ◌, ◌⊎◌, ◌↔◌, inl, inr, refl, arith, ap, sym, ◌∙◌, subst}
+use Rattle.std.proofs.Common.{◌≡◌, ℕ, suc, ◌+◌, ◌<◌, ◌≤◌, List, [], ◌∷◌, ◌++◌, map, length, ℤ, pos}
+use Rattle.std.proofs.Common.{◌<ℤ◌, ◌⊎◌, ◌↔◌, inl, inr, refl, arith, ap, sym, ◌∙◌, subst}
 use Rattle.plane.specs.declared.kinds.Point.{Point}
 use Rattle.plane.specs.declared.kinds.Curve.{Curve}
 use Rattle.plane.specs.declared.kinds.CurveKind.TheVariants as kind
@@ -19,7 +20,11 @@ use Rattle.plane.specs.Tubes.Bays as one
 use Rattle.plane.specs.Tubes.Windings.{IsLeftTile, tiles, bounds, IsTiled}
 use Rattle.plane.specs.Tubes.Facing.{way, IsDrawnTube, IsClean, tip}
 use Rattle.plane.specs.CurveRuns.Extended.{Tubes, IsOnWay, InTubeAt, AtArcEnd, AreTubes}
-use Rattle.plane.specs.CurveRuns.TubedRuns.{Part, whole, inner, outer, Owned, chain, inner_corners, outer_corners, owned, Connects, IsOfTube, IsTubedRun, tube_label, third_is_left, AreTubeLabels, arc_at, first_edge, tube_start, tube_bays, tube_edges, first_bay, later_bays, tubes, MeetsArc}
+use Rattle.plane.specs.CurveRuns.TubedRuns.{Part, whole, inner, outer, Owned, chain, inner_corners}
+use Rattle.plane.specs.CurveRuns.TubedRuns.{outer_corners, owned, Connects, IsOfTube, IsTubedRun}
+use Rattle.plane.specs.CurveRuns.TubedRuns.{tube_label, third_is_left, AreTubeLabels, arc_at}
+use Rattle.plane.specs.CurveRuns.TubedRuns.{first_edge, tube_start, tube_bays, tube_edges}
+use Rattle.plane.specs.CurveRuns.TubedRuns.{first_bay, later_bays, tubes, MeetsArc}
 use Rattle.plane.proofs.Linear.Signs.{on_between, between_back}
 use Rattle.plane.proofs.Runs.Numbered.{swept_run}
 use Rattle.plane.proofs.Windings.Under.{by_order}
@@ -33,7 +38,8 @@ use Rattle.plane.proofs.Windings.SteepTiles.{tiled}
 use Rattle.plane.proofs.OneTube.TurnedTubes.{turned_left}
 use Rattle.plane.proofs.TubedRuns.HalfArcLists.{IsArcOf, arc_of, arcs_rise}
 use Rattle.plane.proofs.TubedRuns.OwnedEdges.{no_curve}
-use Rattle.plane.proofs.TubedRuns.TubeNumbers.{whole_range, tube_among, among_tube, on_inner, on_outer}
+use Rattle.plane.proofs.TubedRuns.TubeNumbers.{whole_range, tube_among, among_tube, on_inner}
+use Rattle.plane.proofs.TubedRuns.TubeNumbers.{on_outer}
 use Rattle.plane.proofs.TubedRuns.ArcEdges as edges
 use Rattle.plane.proofs.TubedRuns.TubedEdges as bound
 use Rattle.plane.proofs.TubedRuns.TubedHits.{end_hits, circle_hits, side_kept, arc_covered}
@@ -73,10 +79,12 @@ module _ (w : ℤ) (d : Plan) (bays : ℕ → List Bay) (m : ℕ) (E : ℕ → E
     outer_from : IsFrom f (first i + length bs) (chain i outer c.from (outer_corners bs ++ c.to ∷ []))
     outer_from = edges.outer_from d bays m E steps is i l bent
 
-    inner_owner : (x : ℕ) → IsAmong x (first i) (length bs) → ((f x).curve ≡ i) × ((f x).part ≡ inner)
+    inner_owner : (x : ℕ) → IsAmong x (first i) (length bs)
+        → ((f x).curve ≡ i) × ((f x).part ≡ inner)
     inner_owner = edges.inner_owner d bays m E steps is i l bent
 
-    outer_owner : (x : ℕ) → IsAmong x (first i + length bs) (suc (length bs)) → ((f x).curve ≡ i) × ((f x).part ≡ outer)
+    outer_owner : (x : ℕ) → IsAmong x (first i + length bs) (suc (length bs))
+        → ((f x).curve ≡ i) × ((f x).part ≡ outer)
     outer_owner = edges.outer_owner d bays m E steps is i l bent
 
     its_curve : (x : ℕ) → IsAmong x (first i) size → (f x).curve ≡ i
@@ -94,10 +102,12 @@ module _ (w : ℤ) (d : Plan) (bays : ℕ → List Bay) (m : ℕ) (E : ℕ → E
     ends_at : last_inner c.from bs ≡ c.to
     ends_at = edges.ends_at d bays m E steps is i l bent
 
-    with_bay : (P : List Bay → Type 0) → ((b : Bay) (rest : List Bay) → bs ≡ b ∷ rest → P (b ∷ rest)) → P bs
+    with_bay : (P : List Bay → Type 0)
+        → ((b : Bay) (rest : List Bay) → bs ≡ b ∷ rest → P (b ∷ rest)) → P bs
     with_bay = edges.with_bay d bays m E steps is i l bent
 
-    at_ends : (P : Point → Type 0) → P c.from ⊎ P c.to → P (tube_start c) ⊎ P (tip (first_bay (tube_bays c bs)) (later_bays (tube_bays c bs)))
+    at_ends : (P : Point → Type 0) → P c.from ⊎ P c.to
+        → P (tube_start c) ⊎ P (tip (first_bay (tube_bays c bs)) (later_bays (tube_bays c bs)))
     at_ends = edges.at_ends d bays m E steps is i l bent
 
     edge_at : (x : ℕ) → IsAmong x (first i) size → edge_of (within x) ≡ x
@@ -110,7 +120,8 @@ module _ (w : ℤ) (d : Plan) (bays : ℕ → List Bay) (m : ℕ) (E : ℕ → E
     halves = map within numbers
 
     -- the half-edges of the tube
-    half_from : (ns : List ℕ) (h : Half) → Has h (map within ns) → (x : ℕ) × Has x ns × (h ≡ within x)
+    half_from : (ns : List ℕ) (h : Half) → Has h (map within ns)
+        → (x : ℕ) × Has x ns × (h ≡ within x)
     half_from = bound.half_from d bays m E steps within is L.faces i l bent
 
     half_in : (ns : List ℕ) (x : ℕ) → Has x ns → Has (within x) (map within ns)
@@ -142,7 +153,9 @@ module _ (w : ℤ) (d : Plan) (bays : ℕ → List Bay) (m : ℕ) (E : ℕ → E
     label_only : (h : Half) → edge_of h < m → mark lab h ≡ tube_label d i → Has h halves
     label_only h k e = by_part (f (edge_of h)).part refl
       where
-        straight_side : (g : Half) → (lab.below (edge_of g) ≤ length d.points) × (lab.above (edge_of g) ≤ length d.points) → mark lab g ≤ length d.points
+        straight_side : (g : Half)
+            → (lab.below (edge_of g) ≤ length d.points) × (lab.above (edge_of g) ≤ length d.points)
+            → mark lab g ≤ length d.points
         straight_side (under n) p = p.0
         straight_side (over n) p = p.1
 
@@ -177,7 +190,9 @@ module _ (w : ℤ) (d : Plan) (bays : ℕ → List Bay) (m : ℕ) (E : ℕ → E
     pub its_clean : IsClean r (tube_start c) (first_bay (tube_bays c bs)) (later_bays (tube_bays c bs)) halves
     its_clean = record { clean = λ k l h. by_end k l h.0 h.1 h.2 (decide_point (r.step k).at c.from) (decide_point (r.step k).at c.to) }
       where
-        by_end : (k : ℕ) → k < r.steps → (h : Half) → Has h halves → IsEnd (E (edge_of h)) (r.step k).at → Decided ((r.step k).at ≡ c.from) → Decided ((r.step k).at ≡ c.to)
+        by_end : (k : ℕ) → k < r.steps → (h : Half) → Has h halves
+            → IsEnd (E (edge_of h)) (r.step k).at → Decided ((r.step k).at ≡ c.from)
+            → Decided ((r.step k).at ≡ c.to)
             → ((r.step k).at ≡ tube_start c) ⊎ (((r.step k).at ≡ tip (first_bay (tube_bays c bs)) (later_bays (tube_bays c bs))) ⊎ ((e : ℕ) → e < m → IsEnd (E e) (r.step k).at → (g : Half) × Has g halves × (edge_of g ≡ e)))
         by_end k l h n on (inl e) other = elim (at_ends (λ p. (r.step k).at ≡ p) (inl e)) [ inl x ↦ inl x | inr x ↦ inr (inl x) ]
         by_end k l h n on (inr u) (inl e) = elim (at_ends (λ p. (r.step k).at ≡ p) (inr e)) [ inl x ↦ inl x | inr x ↦ inr (inl x) ]
@@ -196,18 +211,21 @@ module _ (w : ℤ) (d : Plan) (bays : ℕ → List Bay) (m : ℕ) (E : ℕ → E
               ]
             ]))
 
-    pub facing : (x : ℕ) → x < m → (f x).curve ≡ i → Has (within x) halves × (edge_of (within x) ≡ x)
+    pub facing : (x : ℕ) → x < m → (f x).curve ≡ i
+        → Has (within x) halves × (edge_of (within x) ≡ x)
     facing = bound.facing d bays m E steps within is L.faces i l bent
 
     -- the curve of a half-edge of the tube
     half_curve : (h : Half) → Has h halves → (f (edge_of h)).curve ≡ i
     half_curve = bound.half_curve d bays m E steps within is L.faces i l bent
 
-    joined_between : (e : Edge) (p q : Point) (z : Vector) → Connects e p q → Between z (point e.low) (point e.high) → Between z (point p) (point q)
+    joined_between : (e : Edge) (p q : Point) (z : Vector) → Connects e p q
+        → Between z (point e.low) (point e.high) → Between z (point p) (point q)
     joined_between e p q z (inl h) b = subst (λ (x : Point). Between z (point x) (point q)) h.0 (subst (λ (x : Point). Between z (point e.low) (point x)) h.1 b)
     joined_between e p q z (inr h) b = between_back z _ _ (subst (λ (x : Point). Between z (point x) (point p)) h.0 (subst (λ (x : Point). Between z (point e.low) (point x)) h.1 b))
 
-    edge_place : (x : ℕ) → x < m → (z : Vector) → Place z → On w (E x) z → Between z (point (f x).from) (point (f x).to)
+    edge_place : (x : ℕ) → x < m → (z : Vector) → Place z → On w (E x) z
+        → Between z (point (f x).from) (point (f x).to)
     edge_place x k z Z on = joined_between (E x) (f x).from (f x).to z (is.edge x k) (on_between w (E x) z (run.rise x k) Z on)
 
     abbrev AtEnd : Vector → Type 0
@@ -224,7 +242,8 @@ module _ (w : ℤ) (d : Plan) (bays : ℕ → List Bay) (m : ℕ) (E : ℕ → E
     abbrev pub OuterWall : Half → Type 0
     OuterWall h = (mark lab (twin h) ≡ outside i) × ((z : Vector) → Place z → On w (E (edge_of h)) z → (pos 0 <ℤ power (arc c) z) ⊎ AtEnd z)
 
-    inner_at : (x : ℕ) → IsAmong x (first i) size → IsAmong x (first i) (length bs) → InnerWall (within x)
+    inner_at : (x : ℕ) → IsAmong x (first i) size → IsAmong x (first i) (length bs)
+        → InnerWall (within x)
     inner_at x a k = (
       L.inner_chain x (below_m x a) (inner_owner x k).1 ∙ ap inside (its_curve x a),
       λ z Z on. elim (inner_place (arc c) bs z t Z (on_inner f i (first i) x c.from bs z inner_from k (edge_place x (below_m x a) z Z (subst (λ (n : ℕ). On w (E n) z) (edge_at x a) on)))) [
@@ -233,7 +252,8 @@ module _ (w : ℤ) (d : Plan) (bays : ℕ → List Bay) (m : ℕ) (E : ℕ → E
       ],
     )
 
-    outer_at : (x : ℕ) → IsAmong x (first i) size → IsAmong x (first i + length bs) (suc (length bs)) → OuterWall (within x)
+    outer_at : (x : ℕ) → IsAmong x (first i) size
+        → IsAmong x (first i + length bs) (suc (length bs)) → OuterWall (within x)
     outer_at x a k = (
       L.outer_chain x (below_m x a) (outer_owner x k).1 ∙ ap outside (its_curve x a),
       λ z Z on. elim (outer_place (arc c) bs z t Z (on_outer f i (first i + length bs) x c.from c.to bs z outer_from k (edge_place x (below_m x a) z Z (subst (λ (n : ℕ). On w (E n) z) (edge_at x a) on)))) [
@@ -242,7 +262,9 @@ module _ (w : ℤ) (d : Plan) (bays : ℕ → List Bay) (m : ℕ) (E : ℕ → E
       ],
     )
 
-    wall_at : (x : ℕ) → IsAmong x (first i) size → IsAmong x (first i) (length bs) ⊎ IsAmong x (first i + length bs) (suc (length bs)) → Wall (within x)
+    wall_at : (x : ℕ) → IsAmong x (first i) size
+        → IsAmong x (first i) (length bs) ⊎ IsAmong x (first i + length bs) (suc (length bs))
+        → Wall (within x)
     wall_at x a (inl k) = inl (inner_at x a k)
     wall_at x a (inr k) = inr (outer_at x a k)
 
@@ -319,19 +341,24 @@ module _ (w : ℤ) (d : Plan) (bays : ℕ → List Bay) (m : ℕ) (E : ℕ → E
       one_number n a b e = omega (arith, e)
 
   -- an edge of the half arc's faces the tube, and no others do
-  pub edge_in_tube : (c : ℕ) → c < T.count → (x : ℕ) → x < m → (f x).curve ≡ arc_at d c → Has (within x) (T.halves c) × (edge_of (within x) ≡ x)
+  pub edge_in_tube : (c : ℕ) → c < T.count → (x : ℕ) → x < m → (f x).curve ≡ arc_at d c
+      → Has (within x) (T.halves c) × (edge_of (within x) ≡ x)
   edge_in_tube c l x k e = facing (arc_at d c) (arc_fits c l) (arc_bent c l) x k e
 
-  pub tube_owner : (c : ℕ) → c < T.count → (h : Half) → Has h (T.halves c) → (f (edge_of h)).curve ≡ arc_at d c
+  pub tube_owner : (c : ℕ) → c < T.count → (h : Half) → Has h (T.halves c)
+      → (f (edge_of h)).curve ≡ arc_at d c
   tube_owner c l h k = half_curve (arc_at d c) (arc_fits c l) (arc_bent c l) h k
 
-  pub tubes_cover : (c : ℕ) → c < T.count → (u v : Vector) → Place u → Place v → MeetsArc d c u v → (z : Vector) × IsOnWay u v z × InTubeAt T c z
+  pub tubes_cover : (c : ℕ) → c < T.count → (u v : Vector) → Place u → Place v → MeetsArc d c u v
+      → (z : Vector) × IsOnWay u v z × InTubeAt T c z
   tubes_cover c l u v U V h = arc_covered d bays m E steps is (arc_at d c) (arc_fits c l) (arc_bent c l) u v U V h
 
   -- an end of tube c is one of its half arc
-  pub arc_end : (c : ℕ) → c < T.count → (z : Vector) → AtArcEnd T c z → Same z (point (curve d (arc_at d c)).from) ⊎ Same z (point (curve d (arc_at d c)).to)
+  pub arc_end : (c : ℕ) → c < T.count → (z : Vector) → AtArcEnd T c z
+      → Same z (point (curve d (arc_at d c)).from) ⊎ Same z (point (curve d (arc_at d c)).to)
   arc_end c l z h = edges.ends_at_arc d bays m E steps is (arc_at d c) (arc_fits c l) (arc_bent c l) (λ p. Same z (point p)) h
 
   -- the places of tube c are those of the triangles of its half arc's tube
-  pub tube_places : (c : ℕ) → c < T.count → (z : Vector) → InTubeAt T c z ↔ one.InTube (curve d (arc_at d c)).from (bays (arc_at d c)) z
+  pub tube_places : (c : ℕ) → c < T.count → (z : Vector)
+      → InTubeAt T c z ↔ one.InTube (curve d (arc_at d c)).from (bays (arc_at d c)) z
   tube_places c l z = edges.its_places d bays m E steps is (arc_at d c) (arc_fits c l) (arc_bent c l) z

@@ -1,5 +1,6 @@
 -- Where a point lies in a settled run, by its least edge or by its cell, and what label it has; the weight in a replay may be any.
-use Rattle.std.proofs.Common.{◌≡◌, ℕ, suc, ◌<◌, List, [], ◌∷◌, length, ℤ, pos, ◌<ℤ◌, inl, inr, refl, arith}
+use Rattle.std.proofs.Common.{◌≡◌, ℕ, suc, ◌<◌, List, [], ◌∷◌, length, ℤ, pos, ◌<ℤ◌, inl, inr, refl}
+use Rattle.std.proofs.Common.{arith}
 use Rattle.plane.specs.declared.kinds.Point.{Point}
 use Rattle.plane.specs.declared.kinds.CurveKind.TheVariants as kind
 use Rattle.plane.specs.Lists.{Each, Has}
@@ -18,7 +19,8 @@ use Rattle.plane.specs.Faces.PlacedPoints.{IsLocated}
 use Rattle.plane.specs.CurveRuns.RegionPoints.{HasRegion}
 use Rattle.plane.specs.CurveRuns.Extended.{HasLabel}
 use Rattle.plane.specs.Tubes.Bays.{Bay, InTube}
-use Rattle.plane.specs.CurveRuns.TubedRuns.{whole, owned, IsOfTube, IsTubedRun, AreTubeLabels, half_within, tubes}
+use Rattle.plane.specs.CurveRuns.TubedRuns.{whole, owned, IsOfTube, IsTubedRun, AreTubeLabels}
+use Rattle.plane.specs.CurveRuns.TubedRuns.{half_within, tubes}
 use Rattle.plane.specs.CurveRuns.Levels.{AreWide, IsSettledRun}
 use Rattle.plane.specs.CurveRuns.FacedTubes.{faced, blank_labels, IsFirstOn, LiesInTube}
 use Rattle.plane.proofs.ListLemmas.Lists.{each_has}
@@ -77,24 +79,32 @@ module _ (d : Plan) (bays : ℕ → List Bay) (m : ℕ) (E : ℕ → Edge) (step
       here : IsLocated r v k i
       here = located_to w u.weight m E steps v k i p
 
-      pub in_cell : (e c : ℕ) → AtBefore ((replay w m E steps).list k) i e → faced d bays E (over e) ≡ suc c → LiesInTube d bays c v
+      pub in_cell : (e c : ℕ) → AtBefore ((replay w m E steps).list k) i e
+          → faced d bays E (over e) ≡ suc c → LiesInTube d bays c v
       in_cell e c b t = points.cell_lies u.weight d bays m E steps lab within none none u.swept is L u.points v k i u.heavy (u.known v (inl refl)) (event_known m E steps (v ∷ []) u) here e b c t
 
-      pub in_cell_only : (e c j : ℕ) → AtBefore ((replay w m E steps).list k) i e → faced d bays E (over e) ≡ suc c → j < length d.curves → IsOn (curve d j) (point v) → j ≡ c
+      pub in_cell_only : (e c j : ℕ) → AtBefore ((replay w m E steps).list k) i e
+          → faced d bays E (over e) ≡ suc c → j < length d.curves → IsOn (curve d j) (point v)
+          → j ≡ c
       in_cell_only e c j b t fits on = points.cell_only u.weight d bays m E steps lab within none none u.swept is L u.points v k i u.heavy (u.known v (inl refl)) (event_known m E steps (v ∷ []) u) here e b c t j fits on
 
-      pub off_curves : ((e : ℕ) → AtBefore ((replay w m E steps).list k) i e → faced d bays E (over e) ≡ 0) → IsOff d (point v)
+      pub off_curves : ((e : ℕ) → AtBefore ((replay w m E steps).list k) i e → faced d bays E (over e) ≡ 0)
+          → IsOff d (point v)
       off_curves t = points.cell_off u.weight d bays m E steps lab within none none u.swept is L u.points v k i u.heavy (u.known v (inl refl)) (event_known m E steps (v ∷ []) u) here t
 
-      pub in_no_tube : ((e : ℕ) → AtBefore ((replay w m E steps).list k) i e → faced d bays E (over e) ≡ 0) → (j : ℕ) → j < length d.curves → (curve d j).kind ≡ kind.HalfArc → InTube (curve d j).from (bays j) (point v) → ⊥
+      pub in_no_tube : ((e : ℕ) → AtBefore ((replay w m E steps).list k) i e → faced d bays E (over e) ≡ 0)
+          → (j : ℕ) → j < length d.curves → (curve d j).kind ≡ kind.HalfArc
+          → InTube (curve d j).from (bays j) (point v) → ⊥
       in_no_tube t j fits bent inner = points.cell_outside u.weight d bays m E steps lab within none none u.swept is L u.points v k i u.heavy (u.known v (inl refl)) (event_known m E steps (v ∷ []) u) here t j fits bent inner
 
 -- ---- P'
 module _ (w : ℤ) (d : Plan) (bays : ℕ → List Bay) (m : ℕ) (E : ℕ → Edge) (steps : List Step) (lab : Labels) (inside outside : ℕ → ℕ) where
-  pub border_region : (v : Point) (k : ℕ) → IsLocated (replay w m E steps) v k 0 → HasRegion d bays (replay w m E steps) lab inside outside v 0
+  pub border_region : (v : Point) (k : ℕ) → IsLocated (replay w m E steps) v k 0
+      → HasRegion d bays (replay w m E steps) lab inside outside v 0
   border_region v k p = inl (record { strip = k; index = 0; located = p; label = refl; region = omega arith })
 
-  pub tube_region : (c : ℕ) (v : Point) → LiesInTube d bays c v → (power (arc (curve d c)) (point v) <ℤ pos 0 → HasRegion d bays (replay w m E steps) lab inside outside v (inside c))
+  pub tube_region : (c : ℕ) (v : Point) → LiesInTube d bays c v
+      → (power (arc (curve d c)) (point v) <ℤ pos 0 → HasRegion d bays (replay w m E steps) lab inside outside v (inside c))
       × (pos 0 <ℤ power (arc (curve d c)) (point v) → HasRegion d bays (replay w m E steps) lab inside outside v (outside c))
   tube_region c v h = (
     (λ l. inr (record { number = c; fits = h.there; bent = h.bent; holds = h.holds; side = inl (l, refl) })),
@@ -114,7 +124,9 @@ module _ (w : ℤ) (d : Plan) (bays : ℕ → List Bay) (m : ℕ) (E : ℕ → E
     fits e b = beside_fits (replay run_at.weight m E steps) of_whole.run of_whole.law (over e) (record { strip = k; index = i })
         (located_is (replay run_at.weight m E steps) of_whole.run of_whole.law k i v (located_to w run_at.weight m E steps v k i p)) b
 
-    pub cell_region : (e : ℕ) → AtBefore ((replay w m E steps).list k) i e → faced d bays E (over e) ≡ 0 → HasRegion d bays (replay w m E steps) lab inside outside v (lab.above e)
+    pub cell_region : (e : ℕ) → AtBefore ((replay w m E steps).list k) i e
+        → faced d bays E (over e) ≡ 0
+        → HasRegion d bays (replay w m E steps) lab inside outside v (lab.above e)
     cell_region e b t = inl (record {
       strip = k;
       index = i;
@@ -123,7 +135,9 @@ module _ (w : ℤ) (d : Plan) (bays : ℕ → List Bay) (m : ℕ) (E : ℕ → E
       region = points.region_most run_at.weight d bays m E steps lab within inside outside run_at.swept is (labels_to w run_at.weight d bays m E steps lab within inside outside L) e (fits e b) t;
     })
 
-  pub has_label : (pts : List Point) (v : Point) (l : ℕ) → WeighedRun w m E steps → Weight w pts → Has v pts → Each (λ s. Has s.at pts) steps → HasRegion d bays (replay w m E steps) lab inside outside v l
+  pub has_label : (pts : List Point) (v : Point) (l : ℕ) → WeighedRun w m E steps → Weight w pts
+      → Has v pts → Each (λ s. Has s.at pts) steps
+      → HasRegion d bays (replay w m E steps) lab inside outside v l
       → HasLabel (replay w m E steps) lab (tubes d bays within inside outside) (point v) l
   has_label pts v l swept heavy known events h =
       region_label w d bays m E steps lab within inside outside swept is L pts v l heavy known (λ j n. each_has (λ s. Has s.at pts) steps ((replay w m E steps).step j) events (has_nth steps j n)) h

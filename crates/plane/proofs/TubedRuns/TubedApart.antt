@@ -19,7 +19,8 @@ use Rattle.plane.specs.Tubes.Bays.{Bay}
 use Rattle.plane.specs.Tubes.Bays as one
 use Rattle.plane.specs.Tubes.Windings.{tiles}
 use Rattle.plane.specs.CurveRuns.Extended.{Tubes, InTubeAt, AtArcEnd, AreTubes}
-use Rattle.plane.specs.CurveRuns.TubedRuns.{owned, IsTubedRun, AreTubeLabels, arc_at, tubes, MeetsArc}
+use Rattle.plane.specs.CurveRuns.TubedRuns.{owned, IsTubedRun, AreTubeLabels, arc_at, tubes}
+use Rattle.plane.specs.CurveRuns.TubedRuns.{MeetsArc}
 use Rattle.plane.proofs.Covers.CurveEdges.{controls_from}
 use Rattle.plane.proofs.Covers.StraightCovers.{flat, in_flat, flat_covers, straights_apart_is}
 use Rattle.plane.proofs.FaceLemmas.Drawn.{on_edge}
@@ -45,7 +46,8 @@ apart_back c d a = record {
 }
 
 -- an end of the edge of a straight is a control point
-end_control : (e : Edge) (c : Curve) (p : Point) (z : Vector) → IsEdgeOf e c → IsEnd e p → Same z (point p) → IsControl c z
+end_control : (e : Edge) (c : Curve) (p : Point) (z : Vector) → IsEdgeOf e c → IsEnd e p
+    → Same z (point p) → IsControl c z
 end_control e c p z (inl h) (inl k) s = inl (subst (λ (x : Point). Same z (point x)) (sym k ∙ h.0) s)
 end_control e c p z (inl h) (inr k) s = inr (subst (λ (x : Point). Same z (point x)) (sym k ∙ h.1) s)
 end_control e c p z (inr h) (inl k) s = inr (subst (λ (x : Point). Same z (point x)) (sym k ∙ h.0) s)
@@ -66,15 +68,19 @@ module _ (w : ℤ) (d : Plan) (bays : ℕ → List Bay) (m : ℕ) (E : ℕ → E
   all = are_tubes w d bays m E steps lab within inside outside swept is L
 
   -- a place in the triangles of a half arc is in its tube
-  to_tube : (i c : ℕ) → c < T.count → arc_at d c ≡ i → (z : Vector) → InSome (triangles (curve d i).from (bays i)) z → InTubeAt T c z
+  to_tube : (i c : ℕ) → c < T.count → arc_at d c ≡ i → (z : Vector)
+      → InSome (triangles (curve d i).from (bays i)) z → InTubeAt T c z
   to_tube i c l e z h = (tube_places w d bays m E steps lab within inside outside swept is L c l z).1
       (subst (λ (j : ℕ). one.InTube (curve d j).from (bays j) z) (sym e) ((triangle_places (curve d i).from (bays i) z).0 h))
 
-  end_of : (i c : ℕ) → c < T.count → arc_at d c ≡ i → (z : Vector) → AtArcEnd T c z → IsControl (curve d i) z
+  end_of : (i c : ℕ) → c < T.count → arc_at d c ≡ i → (z : Vector) → AtArcEnd T c z
+      → IsControl (curve d i) z
   end_of i c l e z h = subst (λ (j : ℕ). IsControl (curve d j) z) e (arc_end w d bays m E steps lab within inside outside swept is L c l z h)
 
   -- ---- two straights
-  two_straights : (i j : ℕ) → i < length d.curves → j < length d.curves → (i ≡ j → ⊥) → (curve d i).kind ≡ kind.Straight → (curve d j).kind ≡ kind.Straight → Apart (curve d i) (curve d j)
+  two_straights : (i j : ℕ) → i < length d.curves → j < length d.curves → (i ≡ j → ⊥)
+      → (curve d i).kind ≡ kind.Straight → (curve d j).kind ≡ kind.Straight
+      → Apart (curve d i) (curve d j)
   two_straights i j li lj n ei ej =
       let x = straight_edge d bays m E steps is i li ei in
       let y = straight_edge d bays m E steps is j lj ej in
@@ -85,7 +91,9 @@ module _ (w : ℤ) (d : Plan) (bays : ℕ → List Bay) (m : ℕ) (E : ℕ → E
 
   -- ---- a straight and a half arc
   module _ (i j : ℕ) (li : i < length d.curves) (lj : j < length d.curves) (n : i ≡ j → ⊥) (ei : (curve d i).kind ≡ kind.Straight) (ej : (curve d j).kind ≡ kind.HalfArc) where
-    pub straight_arc : (x c : ℕ) → x < m → (owned d bays x).curve ≡ i → IsEdgeOf (E x) (curve d i) → c < T.count → arc_at d c ≡ j → (z : Vector) → Place z → On w (E x) z → InTubeAt T c z → IsControl (curve d i) z × IsControl (curve d j) z
+    pub straight_arc : (x c : ℕ) → x < m → (owned d bays x).curve ≡ i → IsEdgeOf (E x) (curve d i)
+        → c < T.count → arc_at d c ≡ j → (z : Vector) → Place z → On w (E x) z → InTubeAt T c z
+        → IsControl (curve d i) z × IsControl (curve d j) z
     straight_arc x c lx ox edge lc at_c z Z on in_c =
         elim (look_below (λ k. Same z (point (r.step k).at)) r.steps (λ k. decide_same z (point (r.step k).at))) [
           | inr none ↦ absurd (edge_outside r whole lab L.matched (T.label c) (T.first c) (T.bay c) (T.bays c) (T.halves c) (all.tube c lc) x z lx not_its Z (λ k l s. none (k, l, s)) on in_c)
@@ -122,12 +130,15 @@ module _ (w : ℤ) (d : Plan) (bays : ℕ → List Bay) (m : ℕ) (E : ℕ → E
         }
 
   -- ---- two half arcs
-  pub one_end : (i c e : ℕ) → c < T.count → e < T.count → (c ≡ e → ⊥) → arc_at d c ≡ i → (z : Vector) → Place z → InTubeAt T c z → InTubeAt T e z → IsControl (curve d i) z
+  pub one_end : (i c e : ℕ) → c < T.count → e < T.count → (c ≡ e → ⊥) → arc_at d c ≡ i
+      → (z : Vector) → Place z → InTubeAt T c z → InTubeAt T e z → IsControl (curve d i) z
   one_end i c e lc le n q z Z hc he = end_of i c lc q z
       (common_place r whole lab L.matched (T.label c) (T.first c) (T.bay c) (T.bays c) (T.halves c) (T.label e) (T.first e) (T.bay e) (T.bays e) (T.halves e)
       (all.tube c lc) (all.tube e le) (all.labels c e lc le n) (all.apart c e lc le n) (all.clean c lc) z Z hc he)
 
-  two_arcs : (i j : ℕ) → i < length d.curves → j < length d.curves → (i ≡ j → ⊥) → (curve d i).kind ≡ kind.HalfArc → (curve d j).kind ≡ kind.HalfArc → Apart (curve d i) (curve d j)
+  two_arcs : (i j : ℕ) → i < length d.curves → j < length d.curves → (i ≡ j → ⊥)
+      → (curve d i).kind ≡ kind.HalfArc → (curve d j).kind ≡ kind.HalfArc
+      → Apart (curve d i) (curve d j)
   two_arcs i j li lj n ei ej =
       let c = tube_of w d bays m E steps lab within inside outside swept is L i li ei in
       let e = tube_of w d bays m E steps lab within inside outside swept is L j lj ej in
@@ -143,7 +154,8 @@ module _ (w : ℤ) (d : Plan) (bays : ℕ → List Bay) (m : ℕ) (E : ℕ → E
             (one_end i c.0 e.0 c.1 e.1 differ c.2 z Z hc he, one_end j e.0 c.0 e.1 c.1 (λ q. differ (sym q)) e.2 z Z he hc);
       }
 
-  pub curves_apart : (i j : ℕ) → i < length d.curves → j < length d.curves → (i ≡ j → ⊥) → Apart (curve d i) (curve d j)
+  pub curves_apart : (i j : ℕ) → i < length d.curves → j < length d.curves → (i ≡ j → ⊥)
+      → Apart (curve d i) (curve d j)
   curves_apart i j li lj n = elim (decide_kind (curve d i).kind) [
     | inl ei ↦ elim (decide_kind (curve d j).kind) [
       | inl ej ↦ two_straights i j li lj n ei ej

@@ -1,5 +1,6 @@
 -- A drawing with half arcs and a run over its edge list: a segment hits no curve exactly where it is free of curves in the run.
-use Rattle.std.proofs.Common.{◌≡◌, ℕ, ◌<◌, List, length, ℤ, ◌↔◌, inl, inr, refl, arith, ap, sym, ◌∙◌, subst}
+use Rattle.std.proofs.Common.{◌≡◌, ℕ, ◌<◌, List, length, ℤ, ◌↔◌, inl, inr, refl, arith, ap, sym}
+use Rattle.std.proofs.Common.{◌∙◌, subst}
 use Rattle.plane.specs.declared.kinds.CurveKind.{CurveKind}
 use Rattle.plane.specs.declared.kinds.CurveKind.TheVariants as kind
 use Rattle.plane.specs.Forms.Vectors.{Vector, Place, Same, Between, mix, Edge}
@@ -15,7 +16,8 @@ use Rattle.plane.specs.Faces.Halves.{Half}
 use Rattle.plane.specs.Faces.Labels.{Labels}
 use Rattle.plane.specs.Tubes.Bays.{Bay}
 use Rattle.plane.specs.CurveRuns.Extended.{Tubes, IsOnWay, IsFreeOfCurves}
-use Rattle.plane.specs.CurveRuns.TubedRuns.{IsTubedRun, AreTubeLabels, arc_at, tubes, MeetsArc, owned}
+use Rattle.plane.specs.CurveRuns.TubedRuns.{IsTubedRun, AreTubeLabels, arc_at, tubes, MeetsArc}
+use Rattle.plane.specs.CurveRuns.TubedRuns.{owned}
 use Rattle.plane.proofs.Runs.Numbered.{swept_run}
 use Rattle.plane.proofs.Linear.Clear.{on_same}
 use Rattle.plane.proofs.FaceLemmas.Drawn.{hits_curve, hits_edge}
@@ -39,7 +41,8 @@ part_between p q u v z a b k =
     record { s = w.s; t = w.t; s_least = w.s_least; t_least = w.t_least; some = w.some; is = subst (λ (x : Vector). Same z x) w.is k.is }
 
 -- a segment hits a half arc where a part of it does
-pub part_hits : (h : HalfArc) (p q u v : Vector) → Place p → Place q → IsOnWay p q u → IsOnWay p q v → HitsHalfArc h u v → HitsHalfArc h p q
+pub part_hits : (h : HalfArc) (p q u v : Vector) → Place p → Place q → IsOnWay p q u → IsOnWay p q v
+    → HitsHalfArc h u v → HitsHalfArc h p q
 part_hits h p q u v P Q a b k =
     let x = hits_arc h u v (way_place p q u P Q a) (way_place p q v P Q b) k in
     hits_half_arc h p q P Q (record {
@@ -67,13 +70,16 @@ module _ (w : ℤ) (d : Plan) (bays : ℕ → List Bay) (m : ℕ) (E : ℕ → E
   run = swept_run w m E steps swept
 
   -- the tube of a half arc
-  pub tube_of : (i : ℕ) → i < length d.curves → (curve d i).kind ≡ kind.HalfArc → (c : ℕ) × (c < T.count) × (arc_at d c ≡ i)
+  pub tube_of : (i : ℕ) → i < length d.curves → (curve d i).kind ≡ kind.HalfArc
+      → (c : ℕ) × (c < T.count) × (arc_at d c ≡ i)
   tube_of i l e = let k = arc_listed no_curve 0 d.curves i l e in (k.0, k.1, let a = k.2 in omega (arith, a))
 
-  pub hits_bent : (i : ℕ) (p q : Vector) → (curve d i).kind ≡ kind.HalfArc → HitsHalfArc (arc (curve d i)) p q → Hits (curve d i) p q
+  pub hits_bent : (i : ℕ) (p q : Vector) → (curve d i).kind ≡ kind.HalfArc
+      → HitsHalfArc (arc (curve d i)) p q → Hits (curve d i) p q
   hits_bent i p q e h = subst (λ (k : CurveKind). HitsKind k (curve d i) p q) (sym e) h
 
-  pub bent_hits : (i : ℕ) (p q : Vector) → (curve d i).kind ≡ kind.HalfArc → Hits (curve d i) p q → HitsHalfArc (arc (curve d i)) p q
+  pub bent_hits : (i : ℕ) (p q : Vector) → (curve d i).kind ≡ kind.HalfArc → Hits (curve d i) p q
+      → HitsHalfArc (arc (curve d i)) p q
   bent_hits i p q e h = subst (λ (k : CurveKind). HitsKind k (curve d i) p q) e h
 
   module _ (p q : Vector) (P : Place p) (Q : Place q) where

@@ -1,5 +1,6 @@
 -- The bounds of the tubes in a run over the edge list of a drawing: the half-edges that face a tube, in the order of its bounds. No label is asked.
-use Rattle.std.proofs.Common.{◌≡◌, ℕ, suc, ◌+◌, ◌<◌, List, [], ◌∷◌, ◌++◌, map, length, inl, inr, refl, ap, sym, ◌∙◌, subst}
+use Rattle.std.proofs.Common.{◌≡◌, ℕ, suc, ◌+◌, ◌<◌, List, [], ◌∷◌, ◌++◌, map, length, inl, inr}
+use Rattle.std.proofs.Common.{refl, ap, sym, ◌∙◌, subst}
 use Rattle.plane.specs.declared.kinds.Curve.{Curve}
 use Rattle.plane.specs.declared.kinds.CurveKind.TheVariants as kind
 use Rattle.plane.specs.Lists.{Has, Once}
@@ -10,7 +11,11 @@ use Rattle.plane.specs.Faces.Halves.{Half, edge_of}
 use Rattle.plane.specs.Tubes.Bays.{Bay}
 use Rattle.plane.specs.Tubes.Windings.{bounds}
 use Rattle.plane.specs.Tubes.Facing.{way}
-use Rattle.plane.specs.CurveRuns.TubedRuns.{inner, outer, Owned, chain, inner_corners, outer_corners, owned, IsOfTube, IsTubedRun, third_is_left, inward, FacesTube, first_edge, tube_start, tube_bays, tube_edges, first_bay, later_bays}
+use Rattle.plane.specs.CurveRuns.TubedRuns.{inner, outer, Owned, chain, inner_corners}
+use Rattle.plane.specs.CurveRuns.TubedRuns.{outer_corners, owned, IsOfTube, IsTubedRun}
+use Rattle.plane.specs.CurveRuns.TubedRuns.{third_is_left, inward, FacesTube, first_edge}
+use Rattle.plane.specs.CurveRuns.TubedRuns.{tube_start, tube_bays, tube_edges, first_bay}
+use Rattle.plane.specs.CurveRuns.TubedRuns.{later_bays}
 use Rattle.plane.proofs.TubedRuns.EdgeNumbers.{IsFrom}
 use Rattle.plane.proofs.OneTube.BackwardBays.{last_inner}
 use Rattle.plane.proofs.TubedRuns.TubeBounds.{edges_back, map_same, map_twice, IsAmong}
@@ -45,7 +50,8 @@ module _ (d : Plan) (bays : ℕ → List Bay) (m : ℕ) (E : ℕ → Edge) (step
     below_m = arc.below_m d bays m E steps is i l bent
 
     -- each bound is the half-edge that faces the tube
-    faces_at : (x : ℕ) → IsIts x → way E (within x) ≡ inward (third_is_left c) (f x).part (f x).from (f x).to
+    faces_at : (x : ℕ) → IsIts x
+        → way E (within x) ≡ inward (third_is_left c) (f x).part (f x).from (f x).to
     faces_at x h = (faced x (below_m x h) (of_tube x h)).left ∙ ap (λ (j : ℕ). inward (third_is_left (curve d j)) (f x).part (f x).from (f x).to) (its_curve x h)
 
     pub edge_at : (x : ℕ) → IsIts x → edge_of (within x) ≡ x
@@ -58,7 +64,8 @@ module _ (d : Plan) (bays : ℕ → List Bay) (m : ℕ) (E : ℕ → Edge) (step
     halves = map within numbers
 
     -- the half-edges of the tube
-    pub half_from : (ns : List ℕ) (h : Half) → Has h (map within ns) → (x : ℕ) × Has x ns × (h ≡ within x)
+    pub half_from : (ns : List ℕ) (h : Half) → Has h (map within ns)
+        → (x : ℕ) × Has x ns × (h ≡ within x)
     half_from [] h k = absurd k
     half_from (n ∷ ns) h (inl e) = (n, inl refl, e)
     half_from (n ∷ ns) h (inr k) = let y = half_from ns h k in (y.0, inr y.1, y.2)
@@ -87,7 +94,8 @@ module _ (d : Plan) (bays : ℕ → List Bay) (m : ℕ) (E : ℕ → Edge) (step
     pub half_once : Once (map edge_of halves)
     half_once = subst Once (sym (edges_back within numbers (λ n k. edge_at n (tube_among (third_is_left c) (first i) n bs k)))) (tube_once (third_is_left c) (first i) bs)
 
-    pub facing : (x : ℕ) → x < m → (f x).curve ≡ i → Has (within x) halves × (edge_of (within x) ≡ x)
+    pub facing : (x : ℕ) → x < m → (f x).curve ≡ i
+        → Has (within x) halves × (edge_of (within x) ≡ x)
     facing x k e = let a = arc.owned_in d bays m E steps is i l bent x k e in (half_in numbers x (among_tube (third_is_left c) (first i) x bs a), edge_at x a)
 
     -- the curve of a half-edge of the tube

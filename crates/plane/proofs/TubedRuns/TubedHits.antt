@@ -1,5 +1,6 @@
 -- What the tube of one half arc in a run knows of its hits: at its ends, on its circle, and along segments within it.
-use Rattle.std.proofs.Common.{◌≡◌, ℕ, ◌<◌, List, ◌∷◌, length, ℤ, pos, ◌+ℤ◌, ◌<ℤ◌, ◌≤ℤ◌, ◌⊎◌, ◌↔◌, inl, inr, refl, arith, sym, subst}
+use Rattle.std.proofs.Common.{◌≡◌, ℕ, ◌<◌, List, ◌∷◌, length, ℤ, pos, ◌+ℤ◌, ◌<ℤ◌, ◌≤ℤ◌, ◌⊎◌, ◌↔◌}
+use Rattle.std.proofs.Common.{inl, inr, refl, arith, sym, subst}
 use Rattle.std.proofs.lemmas.Int.{ints}
 use Rattle.plane.specs.declared.kinds.Point.{Point}
 use Rattle.plane.specs.declared.kinds.Curve.{Curve}
@@ -15,7 +16,8 @@ use Rattle.plane.specs.Tubes.Bays as one
 use Rattle.plane.specs.Tubes.Windings.{tiles, InSomeTile}
 use Rattle.plane.specs.Tubes.Facing.{way, tip}
 use Rattle.plane.specs.CurveRuns.Extended.{IsOnWay}
-use Rattle.plane.specs.CurveRuns.TubedRuns.{IsTubedRun, tube_start, tube_bays, first_bay, later_bays}
+use Rattle.plane.specs.CurveRuns.TubedRuns.{IsTubedRun, tube_start, tube_bays, first_bay}
+use Rattle.plane.specs.CurveRuns.TubedRuns.{later_bays}
 use Rattle.plane.proofs.Windings.Ways.{way_start, way_end}
 use Rattle.plane.proofs.Windings.CommonPlaces.{in_some_same}
 use Rattle.plane.proofs.OneTube.TubeLaws.{tube_covers, tube_away, tube_keeps_sign}
@@ -36,10 +38,13 @@ module _ (d : Plan) (bays : ℕ → List Bay) (m : ℕ) (E : ℕ → Edge) (step
     t : IsTube (arc c) bs
     t = edges.t d bays m E steps is i l bent
 
-    its_places : (z : Vector) → InSomeTile (tiles (tube_start c) (first_bay (tube_bays c bs) ∷ later_bays (tube_bays c bs))) z ↔ one.InTube c.from bs z
+    its_places : (z : Vector)
+        → InSomeTile (tiles (tube_start c) (first_bay (tube_bays c bs) ∷ later_bays (tube_bays c bs))) z ↔ one.InTube c.from bs z
     its_places = edges.its_places d bays m E steps is i l bent
 
-    ends_at_arc : (P : Point → Type 0) → P (tube_start c) ⊎ P (tip (first_bay (tube_bays c bs)) (later_bays (tube_bays c bs))) → P c.from ⊎ P c.to
+    ends_at_arc : (P : Point → Type 0)
+        → P (tube_start c) ⊎ P (tip (first_bay (tube_bays c bs)) (later_bays (tube_bays c bs)))
+        → P c.from ⊎ P c.to
     ends_at_arc = edges.ends_at_arc d bays m E steps is i l bent
 
     abbrev AtEnd : Vector → Type 0
@@ -68,7 +73,9 @@ module _ (d : Plan) (bays : ℕ → List Bay) (m : ℕ) (E : ℕ → Edge) (step
       | inr e ↦ place_hits z Z (on_half_arc_same (arc c) (point c.to) z (omega (arith, ints)) Z (same_sym z (point c.to) e) (to_on (arc c)))
     ]
 
-    pub circle_hits : (z : Vector) → Place z → InSomeTile (tiles (tube_start c) (first_bay (tube_bays c bs) ∷ later_bays (tube_bays c bs))) z → power (arc c) z ≡ pos 0 → HitsHalfArc (arc c) z z
+    pub circle_hits : (z : Vector) → Place z
+        → InSomeTile (tiles (tube_start c) (first_bay (tube_bays c bs) ∷ later_bays (tube_bays c bs))) z
+        → power (arc c) z ≡ pos 0 → HitsHalfArc (arc c) z z
     circle_hits z Z k e = place_hits z Z (record { circle = e; away = tube_away (arc c) bs z t Z ((its_places z).0 k) (omega (arith, ints, e)) })
 
     pub side_kept : (p q : Vector) → Place p → Place q

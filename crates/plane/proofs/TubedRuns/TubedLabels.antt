@@ -1,5 +1,6 @@
 -- Labels of places in a drawing with half arcs: each place off the curves has one, joined places have one, and an outer place has 0.
-use Rattle.std.proofs.Common.{◌≡◌, ℕ, ◌<◌, List, [], ◌∷◌, map, ℤ, ◌+ℤ◌, ◌*ℤ◌, ◌<ℤ◌, ◌≤ℤ◌, inl, inr, refl, arith, sym, ◌∙◌, subst}
+use Rattle.std.proofs.Common.{◌≡◌, ℕ, ◌<◌, List, [], ◌∷◌, map, ℤ, ◌+ℤ◌, ◌*ℤ◌, ◌<ℤ◌, ◌≤ℤ◌, inl, inr}
+use Rattle.std.proofs.Common.{refl, arith, sym, ◌∙◌, subst}
 use Rattle.std.proofs.lemmas.Int.{ints}
 use Rattle.plane.specs.declared.kinds.Point.{Point}
 use Rattle.plane.specs.Lists.{Has}
@@ -34,7 +35,8 @@ use Rattle.plane.proofs.TubedRuns.RunTubes.{are_tubes}
 use Rattle.plane.proofs.TubedRuns.TubedCurves.{clear_free}
 
 -- ---- a place to the left of the corners of a triangle is not in it
-not_left : (b : ℤ) (t : Tile) (z : Vector) → Place z → (b ≤ℤ t.a.x) × (b ≤ℤ t.b.x) × (b ≤ℤ t.c.x) → InTile t z → z.x <ℤ (b *ℤ z.n) → ⊥
+not_left : (b : ℤ) (t : Tile) (z : Vector) → Place z → (b ≤ℤ t.a.x) × (b ≤ℤ t.b.x) × (b ≤ℤ t.c.x)
+    → InTile t z → z.x <ℤ (b *ℤ z.n) → ⊥
 not_left b t z Z h i left =
     let i1 = times_le i.of_a b t.a.x i.a_least h.0 in
     let i2 = times_le i.of_b b t.b.x i.b_least h.1 in
@@ -60,12 +62,15 @@ module _ (r : Replay) (lab : Labels) (b : ℤ) (ends_after : (e : ℕ) → e < r
   way_after (under e) l = (ends_after e l).1
   way_after (over e) l = (ends_after e l).0
 
-  each_after : (hs : List Half) → ((h : Half) → Has h hs → edge_of h < r.edges) → (e : Edge) → Has e (map (way r.edge) hs) → After e.low
+  each_after : (hs : List Half) → ((h : Half) → Has h hs → edge_of h < r.edges) → (e : Edge)
+      → Has e (map (way r.edge) hs) → After e.low
   each_after [] f e m = absurd m
   each_after (h ∷ hs) f e (inl q) = subst (λ (x : Edge). After x.low) (sym q) (way_after h (f h (inl refl)))
   each_after (h ∷ hs) f e (inr m) = each_after hs (λ g n. f g (inr n)) e m
 
-  pub left_of_tube : (t : ℕ) (a : Point) (k : Bay) (ks : List Bay) (hs : List Half) → IsDrawnTube r lab t a k ks hs → (z : Vector) → Place z → z.x <ℤ (b *ℤ z.n) → InSomeTile (tiles a (k ∷ ks)) z → ⊥
+  pub left_of_tube : (t : ℕ) (a : Point) (k : Bay) (ks : List Bay) (hs : List Half)
+      → IsDrawnTube r lab t a k ks hs → (z : Vector) → Place z → z.x <ℤ (b *ℤ z.n)
+      → InSomeTile (tiles a (k ∷ ks)) z → ⊥
   left_of_tube t a k ks hs tube z Z left i =
       let corners = tiles_corners After a (k ∷ ks) (λ e m. each_after hs tube.faced.fits e (subst (λ (es : List Edge). Has e es) tube.bounds m)) in
       not_left b i.0 z Z (each_has (λ t. After t.a × After t.b × After t.c) (tiles a (k ∷ ks)) i.0 corners i.1) i.2 left
@@ -92,10 +97,12 @@ module _ (w : ℤ) (d : Plan) (bays : ℕ → List Bay) (m : ℕ) (E : ℕ → E
   off_label z Z off = has_label r whole lab L.matched T (MeetsArc d) all z z Z Z (clear_free w d bays m E steps lab within inside outside swept is L z z Z Z (alone z Z off)) z (way_start z z)
 
   -- a segment that hits no curve keeps it
-  pub clear_label : (p q : Vector) (l k : ℕ) → Place p → Place q → IsClear d p q → HasLabel r lab T p l → HasLabel r lab T q k → l ≡ k
+  pub clear_label : (p q : Vector) (l k : ℕ) → Place p → Place q → IsClear d p q
+      → HasLabel r lab T p l → HasLabel r lab T q k → l ≡ k
   clear_label p q l k P Q clear = label_kept r whole lab L.matched T (MeetsArc d) all p q P Q (clear_free w d bays m E steps lab within inside outside swept is L p q P Q clear) l k
 
-  path_label : (p q : Vector) (l k : ℕ) → Place p → Place q → Path d p q → HasLabel r lab T p l → HasLabel r lab T q k → l ≡ k
+  path_label : (p q : Vector) (l k : ℕ) → Place p → Place q → Path d p q → HasLabel r lab T p l
+      → HasLabel r lab T q k → l ≡ k
   path_label _ _ l k P Q (ends p q same off) = clear_label p q l k P Q (λ i n h. off i n (on_same (curve d i) q p Q P (same_sym p q same) (hits_same (curve d i) p q P Q same h)))
   path_label _ _ l k P Q (goes p x q off X clear path) = λ hp hq.
       let h = off_label x X (path_start x q X path) in
@@ -106,11 +113,13 @@ module _ (w : ℤ) (d : Plan) (bays : ℕ → List Bay) (m : ℕ) (E : ℕ → E
       path_start _ _ X (goes x y q off Y clear path) = off
 
   -- joined places have one label
-  pub joined_label : (p q : Vector) (l k : ℕ) → Place p → Place q → Joined d p q → HasLabel r lab T p l → HasLabel r lab T q k → l ≡ k
+  pub joined_label : (p q : Vector) (l k : ℕ) → Place p → Place q → Joined d p q
+      → HasLabel r lab T p l → HasLabel r lab T q k → l ≡ k
   joined_label p q l k P Q joined = path_label p q l k P Q ((joined_is_path d p q P).0 joined)
 
   -- to the left of all edges the label is 0
-  left_label : (b : ℤ) → ((e : ℕ) → e < m → (b ≤ℤ (E e).low.x) × (b ≤ℤ (E e).high.x)) → (q : Vector) (k : ℕ) → Place q → q.x <ℤ (b *ℤ q.n) → HasLabel r lab T q k → k ≡ 0
+  left_label : (b : ℤ) → ((e : ℕ) → e < m → (b ≤ℤ (E e).low.x) × (b ≤ℤ (E e).high.x))
+      → (q : Vector) (k : ℕ) → Place q → q.x <ℤ (b *ℤ q.n) → HasLabel r lab T q k → k ≡ 0
   left_label b after q k Q left (inl h) = absurd (left_of_tube r lab b after (T.label h.0) (T.first h.0) (T.bay h.0) (T.bays h.0) (T.halves h.0) (all.tube h.0 h.1) q Q left h.2)
   left_label b after q k Q left (inr h) = h.2 ∙ border_label r whole.run whole.law lab L.matched (sector r q) (cell_is r whole.run whole.law q Q) (inr (left_border r whole.run whole.law b after q Q left))
 

@@ -1,5 +1,6 @@
 -- In a drawing with half arcs and a run over its edge list, a place with a label is on no curve.
-use Rattle.std.proofs.Common.{◌≡◌, ℕ, ◌<◌, List, [], ◌∷◌, length, ℤ, pos, ◌+ℤ◌, ◌*ℤ◌, ◌<ℤ◌, ◌⊎◌, inl, inr, refl, arith, ap, sym, ◌∙◌, subst}
+use Rattle.std.proofs.Common.{◌≡◌, ℕ, ◌<◌, List, [], ◌∷◌, length, ℤ, pos, ◌+ℤ◌, ◌*ℤ◌, ◌<ℤ◌, ◌⊎◌}
+use Rattle.std.proofs.Common.{inl, inr, refl, arith, ap, sym, ◌∙◌, subst}
 use Rattle.std.proofs.lemmas.Int.{ints}
 use Rattle.plane.specs.declared.kinds.CurveKind.{CurveKind}
 use Rattle.plane.specs.declared.kinds.CurveKind.TheVariants as kind
@@ -31,7 +32,8 @@ use Rattle.plane.proofs.TubedRuns.TubedApart.{straight_arc, one_end}
 use Rattle.plane.proofs.Covers.CurvePlaces.{no_kind}
 
 -- the ends of a half arc are on its circle
-end_power : (h : HalfArc) (z : Vector) → Place z → Same z (point h.from) ⊎ Same z (point h.to) → power h z ≡ pos 0
+end_power : (h : HalfArc) (z : Vector) → Place z → Same z (point h.from) ⊎ Same z (point h.to)
+    → power h z ≡ pos 0
 end_power h z Z (inl s) = (on_half_arc_same h (point h.from) z (omega (arith, ints)) Z (same_sym z (point h.from) s) (from_on h)).circle
 end_power h z Z (inr s) = (on_half_arc_same h (point h.to) z (omega (arith, ints)) Z (same_sym z (point h.to) s) (to_on h)).circle
 
@@ -56,7 +58,8 @@ module _ (w : ℤ) (d : Plan) (bays : ℕ → List Bay) (m : ℕ) (E : ℕ → E
     end_of_arc c s k = not_on c s (end_power (arc (curve d (arc_at d c))) z Z k)
 
     -- a place of a half arc is in its tube
-    pub in_its_tube : (i : ℕ) → i < length d.curves → (curve d i).kind ≡ kind.HalfArc → IsOn (curve d i) z → (c : ℕ) × (c < T.count) × (arc_at d c ≡ i) × InTubeAt T c z
+    pub in_its_tube : (i : ℕ) → i < length d.curves → (curve d i).kind ≡ kind.HalfArc
+        → IsOn (curve d i) z → (c : ℕ) × (c < T.count) × (arc_at d c ≡ i) × InTubeAt T c z
     in_its_tube i l e on =
         let c = tube_of w d bays m E steps lab within inside outside swept is L i l e in
         let hit = bent_hits w d bays m E steps lab within inside outside swept is L i z z e ((hits_alone (curve d i) z Z).1 on) in

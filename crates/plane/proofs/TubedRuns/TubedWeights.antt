@@ -13,7 +13,8 @@ use Rattle.plane.proofs.Runs.RunWeights.{run_weight}
 use Rattle.plane.proofs.TubedRuns.TubedApart as apart
 
 module _ (v w : ℤ) (d : Plan) (bays : ℕ → List Bay) (m : ℕ) (E : ℕ → Edge) (steps : List Step) (lab : Labels) (within : ℕ → Half) (inside outside : ℕ → ℕ) where
-  pub labels_to : AreTubeLabels d bays (replay v m E steps) lab within inside outside → AreTubeLabels d bays (replay w m E steps) lab within inside outside
+  pub labels_to : AreTubeLabels d bays (replay v m E steps) lab within inside outside
+      → AreTubeLabels d bays (replay w m E steps) lab within inside outside
   labels_to L = record {
     matched = L.matched;
     faces = L.faces;

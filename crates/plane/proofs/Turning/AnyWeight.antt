@@ -7,7 +7,8 @@ use Rattle.plane.specs.Runs.Steps.{Step}
 use Rattle.plane.specs.Faces.Replays.{Replay, replay}
 use Rattle.plane.specs.Faces.Cells.{Sector, IsSector, Opens, Linked, stays, onward, back}
 use Rattle.plane.specs.Faces.Halves.{Half}
-use Rattle.plane.specs.Faces.Classes.{Next, Across, Touches, Connected, IsFaces, Lead, root, next, previous, across, Falls, IsLead}
+use Rattle.plane.specs.Faces.Classes.{Next, Across, Touches, Connected, IsFaces, Lead, root, next}
+use Rattle.plane.specs.Faces.Classes.{previous, across, Falls, IsLead}
 use Rattle.plane.specs.Faces.Classes as faces
 use Rattle.plane.specs.Faces.PlacedPoints.{IsPlaced, IsLocated}
 
@@ -57,7 +58,8 @@ module _ (v w : ℤ) (m : ℕ) (E : ℕ → Edge) (steps : List Step) where
     falls_to : (h g : Half) → Falls from lab rank h g → Falls to lab rank h g
     falls_to h g f = record { fits = f.fits; kept = f.kept; less = f.less }
 
-    pub link_to : (h : Half) (k : Lead) → IsLead from lab rank Here h k → IsLead to lab rank There h k
+    pub link_to : (h : Half) (k : Lead) → IsLead from lab rank Here h k
+        → IsLead to lab rank There h k
     link_to h root o = roots h o
     link_to h (next g) o = (next_to h g o.0, falls_to h g o.1)
     link_to h (previous g) o = (next_to g h o.0, falls_to h g o.1)
@@ -65,7 +67,8 @@ module _ (v w : ℤ) (m : ℕ) (E : ℕ → Edge) (steps : List Step) where
 
 module _ (v w : ℤ) (m : ℕ) (E : ℕ → Edge) (steps : List Step) where
   -- face numbers are face numbers with every weight
-  pub faces_to : (face : Half → ℕ) → IsFaces (replay v m E steps) face → IsFaces (replay w m E steps) face
+  pub faces_to : (face : Half → ℕ) → IsFaces (replay v m E steps) face
+      → IsFaces (replay w m E steps) face
   faces_to face f = record {
     across = λ g h a. f.across g h (across_to w v m E steps g h a);
     border = λ h t. f.border h (touches_to w v m E steps h t);

@@ -1,11 +1,14 @@
 -- Each cell has a wall or is at the border, and cells that open to each other have a wall in common.
 -- So half-edges are connected exactly where the cells beside them are linked.
-use Rattle.std.proofs.Common.{◌≡◌, ℕ, zero, suc, ◌+◌, ◌-◌, ◌<◌, ◌≤◌, List, ◌++◌, length, refl, arith, ap, sym, ◌∙◌, ◌⊎◌, inl, inr, subst}
+use Rattle.std.proofs.Common.{◌≡◌, ℕ, zero, suc, ◌+◌, ◌-◌, ◌<◌, ◌≤◌, List, ◌++◌, length, refl}
+use Rattle.std.proofs.Common.{arith, ap, sym, ◌∙◌, ◌⊎◌, inl, inr, subst}
 use Rattle.plane.specs.Faces.Replays.{Replay}
 use Rattle.plane.proofs.Runs.RunWords.{IsRun, IsLawful}
-use Rattle.plane.specs.Faces.Cells.{Sector, IsSector, corner, IsBorder, Opens, Linked, stays, onward, back}
+use Rattle.plane.specs.Faces.Cells.{Sector, IsSector, corner, IsBorder, Opens, Linked, stays}
+use Rattle.plane.specs.Faces.Cells.{onward, back}
 use Rattle.plane.specs.Faces.Halves.{Half, under, over, edge_of, At, Beside}
-use Rattle.plane.specs.Faces.Classes.{Across, Touches, Crossing, Connected, same, cross, go, return, outside}
+use Rattle.plane.specs.Faces.Classes.{Across, Touches, Crossing, Connected, same, cross, go, return}
+use Rattle.plane.specs.Faces.Classes.{outside}
 use Rattle.plane.proofs.Strips.OneStrip.{linked_back, linked_join}
 use Rattle.plane.proofs.Strips.Joins.{lengths_before, lengths_after, opens_from, opens_to}
 use Rattle.plane.proofs.Strips.Borders.{border_linked}
@@ -25,7 +28,8 @@ module _ (r : Replay) (run : IsRun r) (law : IsLawful r) where
       split (suc n) k = law.live c.strip e C.strip (at_has (r.list c.strip) n e k)
 
   -- a half-edge at the border
-  pub touches_linked : (h : Half) (c : Sector) → Touches r h → IsSector r c → Beside r h c → Linked r c corner
+  pub touches_linked : (h : Half) (c : Sector) → Touches r h → IsSector r c → Beside r h c
+      → Linked r c corner
   touches_linked h c t C b = linked_join r c t.0 corner (beside_linked r run law h c t.0 C t.1 b t.2) (border_linked r run law t.0 t.1 t.3)
 
   -- a wall, or the border
@@ -40,10 +44,12 @@ module _ (r : Replay) (run : IsRun r) (law : IsLawful r) where
           inr (over a.0, subst (λ (m : ℕ). Beside r (over a.0) (record { strip = c.strip; index = m })) (sym q) a.1)
 
   -- a common wall
-  pub common_wall : (c d : Sector) → Opens r c d → (IsBorder r c × IsBorder r d) ⊎ ((h : Half) × Beside r h c × Beside r h d)
+  pub common_wall : (c d : Sector) → Opens r c d
+      → (IsBorder r c × IsBorder r d) ⊎ ((h : Half) × Beside r h c × Beside r h d)
   common_wall c d (inl o) = split c.index refl
     where
-      split : (n : ℕ) → c.index ≡ n → (IsBorder r c × IsBorder r d) ⊎ ((h : Half) × Beside r h c × Beside r h d)
+      split : (n : ℕ) → c.index ≡ n
+          → (IsBorder r c × IsBorder r d) ⊎ ((h : Half) × Beside r h c × Beside r h d)
       split zero q = inl (inl q, inl (o.kept ∙ q))
       split (suc n) q =
           let l = o.fits in
@@ -84,12 +90,15 @@ module _ (r : Replay) (run : IsRun r) (law : IsLawful r) where
   crossing_more _ _ i (same g h e) a = cross g i i (subst (λ (x : Half). Across r x i) (sym e) a) (same i i refl)
   crossing_more _ _ i (cross g x h a k) b = cross g x i a (crossing_more x h i k b)
 
-  reach_on : (g : Half) (c d : Sector) → Reaches g c → IsSector r c → (IsBorder r c × IsBorder r d) ⊎ ((h : Half) × Beside r h c × Beside r h d) → Reaches g d
+  reach_on : (g : Half) (c d : Sector) → Reaches g c → IsSector r c
+      → (IsBorder r c × IsBorder r d) ⊎ ((h : Half) × Beside r h c × Beside r h d) → Reaches g d
   reach_on g c d (inr x) C w = inr x
   reach_on g c d (inl x) C (inl w) = inr (x.0, x.1, (c, C, x.2, w.0))
   reach_on g c d (inl x) C (inr w) = inl (w.0, crossing_more g x.0 w.0 x.1 (c, C, x.2, w.1), w.2)
 
-  turned : (c d : Sector) → (IsBorder r c × IsBorder r d) ⊎ ((h : Half) × Beside r h c × Beside r h d) → (IsBorder r d × IsBorder r c) ⊎ ((h : Half) × Beside r h d × Beside r h c)
+  turned : (c d : Sector)
+      → (IsBorder r c × IsBorder r d) ⊎ ((h : Half) × Beside r h c × Beside r h d)
+      → (IsBorder r d × IsBorder r c) ⊎ ((h : Half) × Beside r h d × Beside r h c)
   turned c d (inl w) = inl (w.1, w.0)
   turned c d (inr w) = inr (w.0, w.2, w.1)
 
@@ -98,7 +107,8 @@ module _ (r : Replay) (run : IsRun r) (law : IsLawful r) where
   reach_linked g _ _ (onward c u d o l) C x = reach_linked g u d l (opens_to r run law c u o) (reach_on g c u x C (common_wall c u o))
   reach_linked g _ _ (back c u d o l) C x = reach_linked g u d l (opens_from r run law u c o) (reach_on g c u x C (turned u c (common_wall u c o)))
 
-  pub crossing_linked : (g h : Half) (c d : Sector) → IsSector r c → IsSector r d → Beside r g c → Beside r h d → Linked r c d
+  pub crossing_linked : (g h : Half) (c d : Sector) → IsSector r c → IsSector r d → Beside r g c
+      → Beside r h d → Linked r c d
       → Crossing r g h ⊎ ((t : Half) × Crossing r g t × Touches r t)
   crossing_linked g h c d C D b k l = elim (reach_linked g c d l C (inl (g, same g g refl, b))) [
     | inl x ↦ inl (crossing_more g x.0 h x.1 (d, D, x.2, k))
@@ -117,7 +127,8 @@ module _ (r : Replay) (run : IsRun r) (law : IsLawful r) where
   connected_join _ _ i (return g x h n j) k = return g x i n (connected_join x h i j k)
   connected_join _ _ i (outside g x h s t j) k = outside g x i s t (connected_join x h i j k)
 
-  pub linked_connected : (g h : Half) (c d : Sector) → IsSector r c → IsSector r d → Beside r g c → Beside r h d → Linked r c d → Connected r g h
+  pub linked_connected : (g h : Half) (c d : Sector) → IsSector r c → IsSector r d → Beside r g c
+      → Beside r h d → Linked r c d → Connected r g h
   linked_connected g h c d C D b k l = elim (crossing_linked g h c d C D b k l) [
     | inl x ↦ crossing_connected g h x
     | inr x ↦ elim (crossing_linked h g d c D C k b (linked_back r c d l)) [
@@ -130,7 +141,8 @@ module _ (r : Replay) (run : IsRun r) (law : IsLawful r) where
       connected_back_cross _ _ (same g h e) = same h g (sym e)
       connected_back_cross _ _ (cross g x h a j) = connected_join h x g (connected_back_cross x h j) (cross x g g (a.0, a.1, a.3, a.2) (same g g refl))
 
-  pub connected_linked : (g h : Half) → Connected r g h → (c d : Sector) → IsSector r c → IsSector r d → Beside r g c → Beside r h d → Linked r c d
+  pub connected_linked : (g h : Half) → Connected r g h → (c d : Sector) → IsSector r c
+      → IsSector r d → Beside r g c → Beside r h d → Linked r c d
   connected_linked _ _ (same g h e) c d C D b k = beside_linked r run law h c d C D (subst (λ (x : Half). Beside r x c) e b) k
   connected_linked _ _ (cross g x h a j) c d C D b k =
       linked_join r c a.0 d (beside_linked r run law g c a.0 C a.1 b a.2) (connected_linked x h j a.0 d a.1 D a.3 k)

@@ -22,7 +22,8 @@ use Rattle.plane.proofs.Turning.AnyWeight.{cell_to, linked_to, connected_to, lin
 use Rattle.plane.proofs.Runs.RunWeights.{run_weight}
 
 -- ---- labels by list and by number
-pub matched_numbers : (w : ℤ) (m : ℕ) (E : ℕ → Edge) (steps : List Step) (a : Labels) → Each (MatchesAt a) steps ↔ IsMatched (replay w m E steps) a
+pub matched_numbers : (w : ℤ) (m : ℕ) (E : ℕ → Edge) (steps : List Step) (a : Labels)
+    → Each (MatchesAt a) steps ↔ IsMatched (replay w m E steps) a
 matched_numbers w m E steps a = (
   (λ h k l. each_has (λ t. MatchesAt a t) steps (nth steps k) h (has_nth steps k l)),
   (λ h. each_from (λ t. MatchesAt a t) steps (λ s i. let k = index_of steps s i in subst (λ (t : Step). MatchesAt a t) k.2 (h k.0 k.1))),
@@ -45,7 +46,8 @@ module _ (v : ℤ) (m : ℕ) (E : ℕ → Edge) (steps : List Step) (run : Run m
   lawful : IsLawful s
   lawful = swept_lawful w m E steps (run_weight m E steps [] run).swept
 
-  pub connected_is : (g h : Half) (c d : Sector) → IsSector r c → IsSector r d → Beside r g c → Beside r h d → Connected r g h ↔ Linked r c d
+  pub connected_is : (g h : Half) (c d : Sector) → IsSector r c → IsSector r d → Beside r g c
+      → Beside r h d → Connected r g h ↔ Linked r c d
   connected_is g h c d C D b k =
       let f = connected_is_linked s there lawful g h c d (cell_to v w m E steps c C) (cell_to v w m E steps d D) b k in
       ((λ x. linked_to w v m E steps c d (f.0 (connected_to v w m E steps g h x))), (λ x. connected_to w v m E steps g h (f.1 (linked_to v w m E steps c d x))))
@@ -60,11 +62,13 @@ module _ (v : ℤ) (m : ℕ) (E : ℕ → Edge) (steps : List Step) (run : Run m
   pub has_wall : (c : Sector) → IsSector r c → IsBorder r c ⊎ ((h : Half) × Beside r h c)
   has_wall c C = wall s there lawful c (cell_to v w m E steps c C)
 
-  pub label_is : (a : Labels) → Each (MatchesAt a) steps → (c d : Sector) → Linked r c d → label_of a r c ≡ label_of a r d
+  pub label_is : (a : Labels) → Each (MatchesAt a) steps → (c d : Sector) → Linked r c d
+      → label_of a r c ≡ label_of a r d
   label_is a h c d l = linked_label s there lawful a ((matched_numbers w m E steps a).0 h) c d (linked_to v w m E steps c d l)
 
   -- links along which the label stays and the rank falls lead to a root of the same label, in the same class
-  pub link_root : (lab rank : Half → ℕ) (link : Half → Lead) (Root : Half → Type 0) → AreLeads r lab rank link Root → (h : Half) → edge_of h < m
+  pub link_root : (lab rank : Half → ℕ) (link : Half → Lead) (Root : Half → Type 0)
+      → AreLeads r lab rank link Root → (h : Half) → edge_of h < m
       → (g : Half) × (edge_of g < m) × Root g × (lab g ≡ lab h) × Connected r h g
   link_root lab rank link Root links h l =
       let g = rooted s there lawful lab rank link Root (λ x k. link_to v w m E steps lab rank Root Root (λ y o. o) x (link x) (links x k)) (suc (rank h)) h l (omega arith) in

@@ -1,6 +1,7 @@
 -- The order of directions round a point is transitive.
 -- What a list in order says of its neighbours, its first element and its last one.
-use Rattle.std.proofs.Common.{◌≡◌, List, [], ◌∷◌, ℤ, pos, ◌*ℤ◌, ◌-ℤ◌, ◌<ℤ◌, ◌≤ℤ◌, refl, arith, ap, sym, ◌∙◌, ◌⊎◌, inl, inr, subst}
+use Rattle.std.proofs.Common.{◌≡◌, List, [], ◌∷◌, ℤ, pos, ◌*ℤ◌, ◌-ℤ◌, ◌<ℤ◌, ◌≤ℤ◌, refl, arith, ap}
+use Rattle.std.proofs.Common.{sym, ◌∙◌, ◌⊎◌, inl, inr, subst}
 use Rattle.std.proofs.lemmas.Int.{ints}
 use Rattle.plane.specs.Lists.{Neighbours, Has}
 use Rattle.plane.specs.Faces.Classes.{IsFirst, IsLast, Follows}
@@ -40,7 +41,9 @@ left_strict a b (inr h) k t =
     let f = ring (times (minus (num (pos 0)) (at 0)) (minus (num (pos 0)) (at 1))) (times (at 0) (at 1)) (vars (a.y ∷ b.x ∷ [])) refl in
     absurd (omega (arith, ints, e, p, f, t))
 
-turn_sum : (s ux uy vx vy wx wy : ℤ) → pos 0 <ℤ (s *ℤ ux) → pos 0 <ℤ (s *ℤ vx) → pos 0 ≤ℤ (s *ℤ wx) → pos 0 <ℤ ((ux *ℤ vy) -ℤ (uy *ℤ vx)) → pos 0 <ℤ ((vx *ℤ wy) -ℤ (vy *ℤ wx)) → pos 0 <ℤ ((ux *ℤ wy) -ℤ (uy *ℤ wx))
+turn_sum : (s ux uy vx vy wx wy : ℤ) → pos 0 <ℤ (s *ℤ ux) → pos 0 <ℤ (s *ℤ vx) → pos 0 ≤ℤ (s *ℤ wx)
+    → pos 0 <ℤ ((ux *ℤ vy) -ℤ (uy *ℤ vx)) → pos 0 <ℤ ((vx *ℤ wy) -ℤ (vy *ℤ wx))
+    → pos 0 <ℤ ((ux *ℤ wy) -ℤ (uy *ℤ wx))
 turn_sum s ux uy vx vy wx wy hu hv hw uv vw =
     let a = product_nonnegative (s *ℤ wx) ((ux *ℤ vy) -ℤ (uy *ℤ vx)) hw (omega (arith, ints, uv)) in
     let b = product_positive (s *ℤ ux) _ hu vw in
@@ -71,7 +74,8 @@ module _ {X : Type 0} (R : X → X → Type 0) (join : (a b c : X) → R a b →
   first_each x (z ∷ zs) n y (inl e) = subst (λ (v : X). R x v) (sym e) n.0
   first_each x (z ∷ zs) n y (inr h) = join x z y n.0 (first_each z zs n.1 y h)
 
-  pub is_first : (t : X) (xs : List X) → IsFirst t xs → Neighbours R xs → (x : X) → Has x xs → (x ≡ t) ⊎ R t x
+  pub is_first : (t : X) (xs : List X) → IsFirst t xs → Neighbours R xs → (x : X) → Has x xs
+      → (x ≡ t) ⊎ R t x
   is_first t [] f n x h = absurd h
   is_first t (z ∷ zs) f n x (inl e) = inl (e ∙ sym f)
   is_first t (z ∷ zs) f n x (inr h) = inr (subst (λ (v : X). R v x) (sym f) (first_each z zs n x h))
@@ -81,7 +85,8 @@ module _ {X : Type 0} (R : X → X → Type 0) (join : (a b c : X) → R a b →
   last_has g (x ∷ []) l = inl l
   last_has g (x ∷ (y ∷ ys)) l = inr (last_has g (y ∷ ys) l)
 
-  pub is_last : (g : X) (xs : List X) → IsLast g xs → Neighbours R xs → (x : X) → Has x xs → (x ≡ g) ⊎ R x g
+  pub is_last : (g : X) (xs : List X) → IsLast g xs → Neighbours R xs → (x : X) → Has x xs
+      → (x ≡ g) ⊎ R x g
   is_last g [] l n x h = absurd h
   is_last g (z ∷ []) l n x (inl e) = inl (e ∙ sym l)
   is_last g (z ∷ []) l n x (inr h) = absurd h
@@ -103,7 +108,8 @@ module _ {X : Type 0} (R : X → X → Type 0) (join : (a b c : X) → R a b →
   follows_comes g t (z ∷ zs) (inr f) n = follows_comes g t zs f n.1
 
   -- nothing stands between two neighbours
-  pub follows_none : (g t : X) (xs : List X) → Follows xs g t → Neighbours R xs → (x : X) → Has x xs → ((x ≡ g) ⊎ R x g) ⊎ ((x ≡ t) ⊎ R t x)
+  pub follows_none : (g t : X) (xs : List X) → Follows xs g t → Neighbours R xs → (x : X) → Has x xs
+      → ((x ≡ g) ⊎ R x g) ⊎ ((x ≡ t) ⊎ R t x)
   follows_none g t [] f n x h = absurd h
   follows_none g t (z ∷ zs) (inl f) n x (inl e) = inl (inl (e ∙ sym f.0))
   follows_none g t (z ∷ zs) (inl f) n x (inr h) = inr (is_first t zs f.1 n.1 x h)

@@ -1,6 +1,8 @@
 -- The fan of an event by numbers: which they are, that none stands twice, and that a list of next numbers which turns round each fan
 -- leads from each half-edge to its next one.
-use Rattle.std.proofs.Common.{◌≡◌, ◌↔◌, ℕ, zero, suc, ◌+◌, ◌-◌, ◌*◌, ◌<◌, ℤ, inl, inr, List, [], ◌∷◌, ◌++◌, length, map, get_or, slice_index, refl, arith, ap, sym, ◌∙◌, subst}
+use Rattle.std.proofs.Common.{◌≡◌, ◌↔◌, ℕ, zero, suc, ◌+◌, ◌-◌, ◌*◌, ◌<◌, ℤ, inl, inr, List, []}
+use Rattle.std.proofs.Common.{◌∷◌, ◌++◌, length, map, get_or, slice_index, refl, arith, ap, sym}
+use Rattle.std.proofs.Common.{◌∙◌, subst}
 use Rattle.std.proofs.lemmas.Int.{ints}
 use Rattle.std.proofs.lemmas.List.{length-map, length-append, get_or_append_left, get_or-append-add}
 use Rattle.std.proofs.Math.ListN.{get_or-map}
@@ -10,7 +12,8 @@ use Rattle.plane.specs.Lists.{Has, Once}
 use Rattle.plane.specs.Runs.Steps.{Step, GoodStep, Run}
 use Rattle.plane.specs.Faces.Replays.{no_step, replay}
 use Rattle.plane.specs.Faces.Halves.{Half, under, over, edge_of, twin, number, half_of}
-use Rattle.plane.specs.Faces.Classes.{starting_halves, ending_halves, fan, IsFirst, IsLast, Follows, FollowsRound, Next}
+use Rattle.plane.specs.Faces.Classes.{starting_halves, ending_halves, fan, IsFirst, IsLast, Follows}
+use Rattle.plane.specs.Faces.Classes.{FollowsRound, Next}
 use Rattle.plane.specs.Faces.Directions.{origin}
 use Rattle.plane.specs.Faces.FanNumbers.{twin_number, fan_numbers, place_before, TurnsRound}
 use Rattle.plane.proofs.ListLemmas.Lists.{has_front, has_back, has_append, neighbours_map}
@@ -54,7 +57,8 @@ place_of [] h i = absurd i
 place_of (x ∷ xs) h (inl e) = (0, omega arith, sym e)
 place_of (x ∷ xs) h (inr i) = let (k, l, e) = place_of xs h i in (suc k, omega (arith, l), e)
 
-once_place : (xs : List Half) (j k : ℕ) → Once xs → j < length xs → k < length xs → nth xs j ≡ nth xs k → j ≡ k
+once_place : (xs : List Half) (j k : ℕ) → Once xs → j < length xs → k < length xs
+    → nth xs j ≡ nth xs k → j ≡ k
 once_place [] j k o a b e = absurd (omega (arith, a))
 once_place (x ∷ xs) zero zero o a b e = refl
 once_place (x ∷ xs) zero (suc k) o a b e = absurd (o.0 (subst (λ (y : Half). Has y xs) (sym e) (has_at xs k (under 0) (omega (arith, b)))))
@@ -74,12 +78,14 @@ first_at : (xs : List Half) (h : Half) → IsFirst h xs → (0 < length xs) × (
 first_at [] h f = absurd f
 first_at (x ∷ xs) h f = (omega arith, sym f)
 
-follows_at : (xs : List Half) (g h : Half) → Follows xs g h → (k : ℕ) × (suc k < length xs) × (nth xs (suc k) ≡ h) × (nth xs k ≡ g)
+follows_at : (xs : List Half) (g h : Half) → Follows xs g h
+    → (k : ℕ) × (suc k < length xs) × (nth xs (suc k) ≡ h) × (nth xs k ≡ g)
 follows_at [] g h f = absurd f
 follows_at (x ∷ xs) g h (inl f) = let a = first_at xs h f.1 in let l = a.0 in (0, omega (arith, l), a.1, sym f.0)
 follows_at (x ∷ xs) g h (inr f) = let (k, l, a, b) = follows_at xs g h f in (suc k, omega (arith, l), a, b)
 
-at_follows : (xs : List Half) (k : ℕ) (g h : Half) → suc k < length xs → nth xs (suc k) ≡ h → nth xs k ≡ g → Follows xs g h
+at_follows : (xs : List Half) (k : ℕ) (g h : Half) → suc k < length xs → nth xs (suc k) ≡ h
+    → nth xs k ≡ g → Follows xs g h
 at_follows [] k g h l a b = absurd (omega (arith, l))
 at_follows (x ∷ []) k g h l a b = absurd (omega (arith, l))
 at_follows (x ∷ (y ∷ ys)) zero g h l a b = inl (sym b, sym a)
@@ -96,7 +102,8 @@ round_at (x ∷ xs) g h (inr f) =
     let e : suc (length xs) - 1 ≡ length xs = omega arith in
     (0, omega arith, sym f.1, ap (λ (k : ℕ). nth (x ∷ xs) k) e ∙ last_at x xs g f.0)
 
-at_round : (xs : List Half) (g h : Half) (k : ℕ) → k < length xs → nth xs k ≡ h → nth xs (place_before (length xs) k) ≡ g → FollowsRound xs g h
+at_round : (xs : List Half) (g h : Half) (k : ℕ) → k < length xs → nth xs k ≡ h
+    → nth xs (place_before (length xs) k) ≡ g → FollowsRound xs g h
 at_round [] g h k l a b = absurd (omega (arith, l))
 at_round (x ∷ xs) g h zero l a b =
     let e : length xs ≡ suc (length xs) - 1 = omega arith in
@@ -123,12 +130,14 @@ round_is s g h = (
 )
 
 -- ---- what the fan holds
-has_outward : (h : Half) (es : List ℕ) → Has h (starting_halves es) → (e : ℕ) × Has e es × (h ≡ over e)
+has_outward : (h : Half) (es : List ℕ) → Has h (starting_halves es)
+    → (e : ℕ) × Has e es × (h ≡ over e)
 has_outward h [] i = absurd i
 has_outward h (e ∷ es) (inl q) = (e, inl refl, q)
 has_outward h (e ∷ es) (inr i) = let (d, j, q) = has_outward h es i in (d, inr j, q)
 
-has_inward : (h : Half) (es : List ℕ) → Has h (ending_halves es) → (e : ℕ) × Has e es × (h ≡ under e)
+has_inward : (h : Half) (es : List ℕ) → Has h (ending_halves es)
+    → (e : ℕ) × Has e es × (h ≡ under e)
 has_inward h [] i = absurd i
 has_inward h (e ∷ es) i = elim (has_append h (ending_halves es) (under e ∷ []) i) [
   | inl j ↦ (let (d, k, q) = has_inward h es j in (d, inr k, q))
@@ -161,7 +170,8 @@ fan_once s a b =
     once_append (starting_halves s.starting) (ending_halves s.ending) (outward_once s.starting a) (inward_once s.ending b)
     (λ h i j. let (d, k, p) = has_outward h s.starting i in let (e, l, q) = has_inward h s.ending j in over_not_under d e (sym p ∙ q))
 
-pub fan_is : (m : ℕ) (E : ℕ → Edge) (s : Step) → GoodStep m E s → (h : Half) → Has h (fan s) ↔ ((edge_of h < m) × (origin E h ≡ s.at))
+pub fan_is : (m : ℕ) (E : ℕ → Edge) (s : Step) → GoodStep m E s → (h : Half)
+    → Has h (fan s) ↔ ((edge_of h < m) × (origin E h ≡ s.at))
 fan_is m E s good h = ((λ i. only h i), (λ a. all h a.0 a.1))
   where
     only : (h : Half) → Has h (fan s) → (edge_of h < m) × (origin E h ≡ s.at)
@@ -181,18 +191,21 @@ module _ (m : ℕ) (E : ℕ → Edge) (s : Step) (edges : (e : ℕ) → e < m �
       sorted_once (BySlope E) (StartsAt E s.at) (slope_never E s.at) (slope_trans E s.at) s.starting at
       (neighbours_map (Turns E) (BySlope E) s.starting (λ a b i j t. let z = side-cross (E a) (E b).high in inl (omega (arith, ints, z, t))) good.turns)
 
-  pub numbers_once : (j k : ℕ) → j < length (fan_numbers s) → k < length (fan_numbers s) → slice_index (fan_numbers s) j ≡ slice_index (fan_numbers s) k → j ≡ k
+  pub numbers_once : (j k : ℕ) → j < length (fan_numbers s) → k < length (fan_numbers s)
+      → slice_index (fan_numbers s) j ≡ slice_index (fan_numbers s) k → j ≡ k
   numbers_once j k a b e =
       let n = length-map (fan s) number in
       once_place (fan s) j k (fan_once s starting_once good.ending_once) (omega (arith, a, n)) (omega (arith, b, n))
       (number_one (nth (fan s) j) (nth (fan s) k) (sym (number_at (fan s) j) ∙ e ∙ number_at (fan s) k))
 
-pub numbers_in : (s : Step) (k : ℕ) → k < length (fan_numbers s) → Has (half_of (slice_index (fan_numbers s) k)) (fan s)
+pub numbers_in : (s : Step) (k : ℕ) → k < length (fan_numbers s)
+    → Has (half_of (slice_index (fan_numbers s) k)) (fan s)
 numbers_in s k l =
     let n = length-map (fan s) number in
     subst (λ (x : Half). Has x (fan s)) (sym (ap half_of (number_at (fan s) k) ∙ half_number (nth (fan s) k))) (has_at (fan s) k (under 0) (omega (arith, l, n)))
 
-pub in_numbers : (s : Step) (h : Half) → Has h (fan s) → (k : ℕ) × (k < length (fan_numbers s)) × (slice_index (fan_numbers s) k ≡ number h)
+pub in_numbers : (s : Step) (h : Half) → Has h (fan s)
+    → (k : ℕ) × (k < length (fan_numbers s)) × (slice_index (fan_numbers s) k ≡ number h)
 in_numbers s h i =
     let n = length-map (fan s) number in
     let (k, l, e) = place_of (fan s) h i in
@@ -215,12 +228,14 @@ fan_length s =
     let c = inward_length s.ending in
     omega (arith, n, a, b, c)
 
-outward_at : (es : List ℕ) (i : ℕ) → i < length es → nth (starting_halves es) i ≡ over (slice_index es i)
+outward_at : (es : List ℕ) (i : ℕ) → i < length es
+    → nth (starting_halves es) i ≡ over (slice_index es i)
 outward_at [] i l = absurd (omega (arith, l))
 outward_at (e ∷ es) zero l = refl
 outward_at (e ∷ es) (suc i) l = outward_at es i (omega (arith, l))
 
-inward_at : (es : List ℕ) (i j : ℕ) → i + suc j ≡ length es → nth (ending_halves es) i ≡ under (slice_index es j)
+inward_at : (es : List ℕ) (i j : ℕ) → i + suc j ≡ length es
+    → nth (ending_halves es) i ≡ under (slice_index es j)
 inward_at [] i j q = absurd (omega (arith, q))
 inward_at (e ∷ es) i zero q =
     let n = inward_length es in
@@ -230,13 +245,15 @@ inward_at (e ∷ es) i (suc j) q =
     let n = inward_length es in
     get_or_append_left (ending_halves es) (under e ∷ []) (under 0) i (omega (arith, q, n)) ∙ inward_at es i j (omega (arith, q))
 
-pub over_at : (s : Step) (i : ℕ) → i < length s.starting → slice_index (fan_numbers s) i ≡ 2 * slice_index s.starting i + 1
+pub over_at : (s : Step) (i : ℕ) → i < length s.starting
+    → slice_index (fan_numbers s) i ≡ 2 * slice_index s.starting i + 1
 over_at s i l =
     let n = outward_length s.starting in
     let e = number_at (fan s) i ∙ ap number (get_or_append_left (starting_halves s.starting) (ending_halves s.ending) (under 0) i (omega (arith, l, n)) ∙ outward_at s.starting i l) in
     omega (arith, e)
 
-pub under_at : (s : Step) (i j : ℕ) → i + suc j ≡ length s.ending → slice_index (fan_numbers s) (length s.starting + i) ≡ 2 * slice_index s.ending j
+pub under_at : (s : Step) (i j : ℕ) → i + suc j ≡ length s.ending
+    → slice_index (fan_numbers s) (length s.starting + i) ≡ 2 * slice_index s.ending j
 under_at s i j q =
     let n = outward_length s.starting in
     let place : length s.starting + i ≡ length (starting_halves s.starting) + i = omega (arith, n) in
@@ -254,7 +271,8 @@ module _ (w : ℤ) (m : ℕ) (E : ℕ → Edge) (steps : List Step) (run : Run m
       let twins : twin_number (slice_index (fan_numbers s) k) ≡ number h = ap twin_number a ∙ sym (number_twin (twin h)) ∙ ap number (twice h) in
       sym (ap next twins) ∙ round n.event n.fits k l ∙ b
 
-  pub next_number_is : (h g : Half) → edge_of h < m → (next (number h) ≡ number g) ↔ Next (replay w m E steps) h g
+  pub next_number_is : (h g : Half) → edge_of h < m
+      → (next (number h) ≡ number g) ↔ Next (replay w m E steps) h g
   next_number_is h g l = (
     (λ e.
         let k = some_next w m E steps run h l in
@@ -262,11 +280,13 @@ module _ (w : ℤ) (m : ℕ) (E : ℕ → Edge) (steps : List Step) (run : Run m
     (λ n. next_number h g n),
   )
 
-pub run_good : (m : ℕ) (E : ℕ → Edge) (steps : List Step) (k : ℕ) → Run m E steps → k < length steps → GoodStep m E (get_or steps k no_step)
+pub run_good : (m : ℕ) (E : ℕ → Edge) (steps : List Step) (k : ℕ) → Run m E steps → k < length steps
+    → GoodStep m E (get_or steps k no_step)
 run_good m E steps k run l = good_at m E [] steps k run.replays l
 
 -- each event has a half-edge
-pub run_filled : (m : ℕ) (E : ℕ → Edge) (steps : List Step) (k : ℕ) → Run m E steps → k < length steps → 0 < length (fan_numbers (get_or steps k no_step))
+pub run_filled : (m : ℕ) (E : ℕ → Edge) (steps : List Step) (k : ℕ) → Run m E steps
+    → k < length steps → 0 < length (fan_numbers (get_or steps k no_step))
 run_filled m E steps k run l =
     let s = get_or steps k no_step in
     let (e, f, q) = run.events s (has_nth steps k l) in

@@ -1,6 +1,7 @@
 -- The half-edges out of an event stand in strict counterclockwise order.
 -- So the next half-edge is the first one clockwise after the twin.
-use Rattle.std.proofs.Common.{◌≡◌, ℕ, suc, ◌<◌, List, [], ◌∷◌, ◌++◌, pos, ◌*ℤ◌, ◌<ℤ◌, refl, arith, ap, sym, ◌∙◌, inl, inr, subst}
+use Rattle.std.proofs.Common.{◌≡◌, ℕ, suc, ◌<◌, List, [], ◌∷◌, ◌++◌, pos, ◌*ℤ◌, ◌<ℤ◌, refl, arith}
+use Rattle.std.proofs.Common.{ap, sym, ◌∙◌, inl, inr, subst}
 use Rattle.std.proofs.lemmas.Int.{ints}
 use Rattle.plane.specs.declared.kinds.Point.{Point}
 use Rattle.plane.specs.Lists.{Each, Last, Neighbours, Has}
@@ -11,9 +12,12 @@ use Rattle.plane.proofs.Runs.RunWords.{IsRun, IsLawful}
 use Rattle.plane.specs.Faces.Halves.{Half, under, over, edge_of, twin}
 use Rattle.plane.specs.Faces.Classes.{starting_halves, ending_halves, fan, Next}
 use Rattle.plane.specs.Faces.Directions.{origin, direction, IsRight, IsLeft, Comes, IsClockwiseNext}
-use Rattle.plane.proofs.ListLemmas.Lists.{each_has, each_append, last_from, first_from, neighbours_append, neighbours_front, neighbours_back, joint_from, has_front, has_back}
+use Rattle.plane.proofs.ListLemmas.Lists.{each_has, each_append, last_from, first_from}
+use Rattle.plane.proofs.ListLemmas.Lists.{neighbours_append, neighbours_front, neighbours_back}
+use Rattle.plane.proofs.ListLemmas.Lists.{joint_from, has_front, has_back}
 use Rattle.plane.proofs.Strips.Centres.{inside_some}
-use Rattle.plane.proofs.Turning.Directions.{precedes_join, is_first, is_last, follows_has, follows_comes, follows_none, first_has, last_has}
+use Rattle.plane.proofs.Turning.Directions.{precedes_join, is_first, is_last, follows_has}
+use Rattle.plane.proofs.Turning.Directions.{follows_comes, follows_none, first_has, last_has}
 use Rattle.plane.proofs.Turning.FanTurns.{starting_turn, ending_turn}
 
 -- ---- the fan as a list
@@ -27,15 +31,19 @@ inward_has e [] h = absurd h
 inward_has e (d ∷ es) (inl q) = has_back (under e) (ending_halves es) (under d ∷ []) (inl (ap under q))
 inward_has e (d ∷ es) (inr h) = has_front (under e) (ending_halves es) (under d ∷ []) (inward_has e es h)
 
-outward_each : (P : Half → Type 0) (es : List ℕ) → ((e : ℕ) → Has e es → P (over e)) → Each P (starting_halves es)
+outward_each : (P : Half → Type 0) (es : List ℕ) → ((e : ℕ) → Has e es → P (over e))
+    → Each P (starting_halves es)
 outward_each P [] f = tt
 outward_each P (e ∷ es) f = (f e (inl refl), outward_each P es (λ d h. f d (inr h)))
 
-inward_each : (P : Half → Type 0) (es : List ℕ) → ((e : ℕ) → Has e es → P (under e)) → Each P (ending_halves es)
+inward_each : (P : Half → Type 0) (es : List ℕ) → ((e : ℕ) → Has e es → P (under e))
+    → Each P (ending_halves es)
 inward_each P [] f = tt
 inward_each P (e ∷ es) f = each_append P (ending_halves es) (under e ∷ []) (inward_each P es (λ d h. f d (inr h))) (f e (inl refl), tt)
 
-outward_order : (R : Half → Half → Type 0) (S : ℕ → ℕ → Type 0) (es : List ℕ) → ((a b : ℕ) → Has a es → Has b es → S a b → R (over a) (over b)) → Neighbours S es → Neighbours R (starting_halves es)
+outward_order : (R : Half → Half → Type 0) (S : ℕ → ℕ → Type 0) (es : List ℕ)
+    → ((a b : ℕ) → Has a es → Has b es → S a b → R (over a) (over b)) → Neighbours S es
+    → Neighbours R (starting_halves es)
 outward_order R S [] f n = tt
 outward_order R S (a ∷ []) f n = (tt, tt)
 outward_order R S (a ∷ (b ∷ es)) f n = (f a b (inl refl) (inr (inl refl)) n.0, outward_order R S (b ∷ es) (λ c d h k. f c d (inr h) (inr k)) n.1)
@@ -45,7 +53,9 @@ last_snoc P [] x p = p
 last_snoc P (y ∷ []) x p = p
 last_snoc P (y ∷ (z ∷ zs)) x p = last_snoc P (z ∷ zs) x p
 
-inward_order : (R : Half → Half → Type 0) (S : ℕ → ℕ → Type 0) (es : List ℕ) → ((a b : ℕ) → Has a es → Has b es → S a b → R (under b) (under a)) → Neighbours S es → Neighbours R (ending_halves es)
+inward_order : (R : Half → Half → Type 0) (S : ℕ → ℕ → Type 0) (es : List ℕ)
+    → ((a b : ℕ) → Has a es → Has b es → S a b → R (under b) (under a)) → Neighbours S es
+    → Neighbours R (ending_halves es)
 inward_order R S [] f n = tt
 inward_order R S (a ∷ []) f n = (tt, tt)
 inward_order R S (a ∷ (b ∷ es)) f n =
@@ -74,7 +84,8 @@ module _ (r : Replay) (run : IsRun r) (law : IsLawful r)
       split (inl h) = inl (omega (arith, ints, h))
       split (inr h) = let x = h.0 in let y = h.1 in inr (omega (arith, ints, x), omega (arith, ints, y))
 
-  starting_order : (k : ℕ) → k < r.steps → Neighbours (Comes r.edge) (starting_halves (r.step k).starting)
+  starting_order : (k : ℕ) → k < r.steps
+      → Neighbours (Comes r.edge) (starting_halves (r.step k).starting)
   starting_order k l = outward_order (Comes r.edge) (Turns r.edge) (r.step k).starting
       (λ a b ha hb t. inr (
         inl (over_right a (starting_fits k a l ha), over_right b (starting_fits k b l hb)),
@@ -106,7 +117,8 @@ module _ (r : Replay) (run : IsRun r) (law : IsLawful r)
       (ending_order k l)
 
   -- all half-edges of the fan start at its event
-  fan_start : (k : ℕ) → k < r.steps → (h : Half) → Has h (fan (r.step k)) → origin r.edge h ≡ (r.step k).at
+  fan_start : (k : ℕ) → k < r.steps → (h : Half) → Has h (fan (r.step k))
+      → origin r.edge h ≡ (r.step k).at
   fan_start k l h m =
       let s = r.step k in
       let P : Half → Type 0 = λ x. origin r.edge x ≡ s.at in

@@ -1,12 +1,14 @@
 -- Of the directions round a point, what comes between two of them in their order lies in the wedge between them, if that is less than half a turn.
-use Rattle.std.proofs.Common.{◌≡◌, inl, inr, [], ◌∷◌, ℤ, pos, ◌+ℤ◌, ◌*ℤ◌, ◌-ℤ◌, ◌<ℤ◌, ◌≤ℤ◌, refl, arith, ap, ◌∙◌}
+use Rattle.std.proofs.Common.{◌≡◌, inl, inr, [], ◌∷◌, ℤ, pos, ◌+ℤ◌, ◌*ℤ◌, ◌-ℤ◌, ◌<ℤ◌, ◌≤ℤ◌, refl}
+use Rattle.std.proofs.Common.{arith, ap, ◌∙◌}
 use Rattle.std.proofs.lemmas.Int.{ints, by_lt_z}
 use Rattle.plane.specs.Faces.Directions.{Direction, IsRight, IsLeft, TurnsLeft, Precedes}
 use Rattle.plane.proofs.Algebra.Laws.{product_positive, product_nonnegative, positive_factor}
 use Rattle.plane.proofs.Algebra.Scaling.{product_of_zero}
 use Rattle.plane.proofs.Linear.Signs.{by_sign}
 use Rattle.plane.proofs.Algebra.Ring.{at, num, plus, minus, times, vars, ring}
-use Rattle.plane.proofs.Turning.Directions.{right_least, left_least, right_left, right_strict, left_strict}
+use Rattle.plane.proofs.Turning.Directions.{right_least, left_least, right_left, right_strict}
+use Rattle.plane.proofs.Turning.Directions.{left_strict}
 
 -- the direction is strictly between the two others
 abbrev pub InWedge : Direction → Direction → Direction → Type 0
@@ -21,7 +23,8 @@ three u x t =
     (times (minus (times (at 0) (at 5)) (times (at 1) (at 4))) (at 2)) (vars (u.x ∷ u.y ∷ x.x ∷ x.y ∷ t.x ∷ t.y ∷ [])) refl
 
 -- t on the left half, u and x on the right one
-late : (u x t : Direction) → IsRight u → IsRight x → IsLeft t → TurnsLeft u x → TurnsLeft u t → TurnsLeft x t
+late : (u x t : Direction) → IsRight u → IsRight x → IsLeft t → TurnsLeft u x → TurnsLeft u t
+    → TurnsLeft x t
 late u x t hu hx ht ux ut =
     let a = right_strict u x hu hx ux in
     let e = three u x t in
@@ -54,7 +57,8 @@ late u x t hu hx ht ux ut =
         ]
 
 -- u on the right half, x and t on the left one
-early : (u x t : Direction) → IsRight u → IsLeft x → IsLeft t → TurnsLeft x t → TurnsLeft u t → TurnsLeft u x
+early : (u x t : Direction) → IsRight u → IsLeft x → IsLeft t → TurnsLeft x t → TurnsLeft u t
+    → TurnsLeft u x
 early u x t hu hx ht xt ut =
     let a = left_strict x t hx ht xt in
     let e = three u x t in

@@ -18,7 +18,8 @@ use Rattle.plane.proofs.Turning.RunFans.{next_is_clockwise}
 use Rattle.plane.proofs.Windings.Whole.{IsWhole, swept_whole}
 
 -- ---- one half-edge is not the next one of itself, where another starts
-pub not_itself : (m : ℕ) (E : ℕ → Edge) (t y : Half) → IsClockwiseNext m E t t → edge_of y < m → origin E y ≡ origin E t → (y ≡ t → ⊥) → ⊥
+pub not_itself : (m : ℕ) (E : ℕ → Edge) (t y : Half) → IsClockwiseNext m E t t → edge_of y < m
+    → origin E y ≡ origin E t → (y ≡ t → ⊥) → ⊥
 not_itself m E t y c f o n = elim c.turn [
   | inl k ↦ precedes_once (direction E t) (direction E t) k.0 k.0
   | inr k ↦ let p = k y f o in elim p.0 [
@@ -63,14 +64,16 @@ module _ (m : ℕ) (E : ℕ → Edge) (steps : List Step) (complete : Run m E st
     | inr n ↦ absurd (ends_differ w m E steps a b swept la lb n (λ i. record { low = h i; high = k i }))
   ]
 
-  pub way_one : (f g : Half) → edge_of f < m → edge_of g < m → way E f ≡ way E g → edge_of f ≡ edge_of g
+  pub way_one : (f g : Half) → edge_of f < m → edge_of g < m → way E f ≡ way E g
+      → edge_of f ≡ edge_of g
   way_one (over a) (over b) la lb e = one_edge a b la lb (ap (λ (x : Edge). x.low) e) (ap (λ (x : Edge). x.high) e)
   way_one (under a) (under b) la lb e = one_edge a b la lb (ap (λ (x : Edge). x.high) e) (ap (λ (x : Edge). x.low) e)
   way_one (over a) (under b) la lb e = absurd (crossed a b la lb (ap (λ (x : Edge). x.low) e) (ap (λ (x : Edge). x.high) e))
   way_one (under a) (over b) la lb e = absurd (crossed a b la lb (ap (λ (x : Edge). x.high) e) (ap (λ (x : Edge). x.low) e))
 
   -- ---- where two half-edges alone start, the one comes after the other's twin
-  pub next_two : (h f : Half) → edge_of h < m → edge_of f < m → origin E f ≡ origin E (twin h) → (f ≡ twin h → ⊥)
+  pub next_two : (h f : Half) → edge_of h < m → edge_of f < m → origin E f ≡ origin E (twin h)
+      → (f ≡ twin h → ⊥)
       → ((x : Half) → edge_of x < m → origin E x ≡ origin E (twin h) → (x ≡ twin h) ⊎ (x ≡ f)) → Next r h f
   next_two h f lh lf o n all =
       let k = next_some r whole.run whole.law h lh in

@@ -1,6 +1,7 @@
 -- What stands at a place of a list, and just before it.
 -- In a list in two parts it stands in the one or in the other.
-use Rattle.std.proofs.Common.{◌≡◌, ℕ, zero, suc, ◌+◌, ◌<◌, ◌≤◌, List, [], ◌∷◌, ◌++◌, length, ℤ, pos, ◌<ℤ◌, refl, arith, sym, ◌∙◌, ◌⊎◌, inl, inr, subst}
+use Rattle.std.proofs.Common.{◌≡◌, ℕ, zero, suc, ◌+◌, ◌<◌, ◌≤◌, List, [], ◌∷◌, ◌++◌, length, ℤ, pos}
+use Rattle.std.proofs.Common.{◌<ℤ◌, refl, arith, sym, ◌∙◌, ◌⊎◌, inl, inr, subst}
 use Rattle.plane.specs.Lists.{Has}
 use Rattle.plane.specs.Faces.Halves.{At}
 use Rattle.plane.proofs.Strips.Heights.{Parts}
@@ -15,7 +16,8 @@ at_back [] ys n i e l h = subst (λ (j : ℕ). At ys j e) (let m : i ≡ n = ome
 at_back (x ∷ xs) ys zero i e l h = absurd (omega arith)
 at_back (x ∷ xs) ys (suc n) i e l h = at_back xs ys n i e (omega arith) h
 
-pub at_append : (xs ys : List ℕ) (n e : ℕ) → At (xs ++ ys) n e → At xs n e ⊎ ((i : ℕ) × (n ≡ length xs + i) × At ys i e)
+pub at_append : (xs ys : List ℕ) (n e : ℕ) → At (xs ++ ys) n e
+    → At xs n e ⊎ ((i : ℕ) × (n ≡ length xs + i) × At ys i e)
 at_append [] ys n e h = inr (n, omega arith, h)
 at_append (x ∷ xs) ys zero e h = inl h
 at_append (x ∷ xs) ys (suc n) e h = elim (at_append xs ys n e h) [ inl a ↦ inl a | inr a ↦ inr (let l = a.1 in (a.0, omega (arith, l), a.2)) ]
@@ -45,13 +47,15 @@ at_one [] i d e h k = absurd h
 at_one (x ∷ xs) zero d e h k = h ∙ sym k
 at_one (x ∷ xs) (suc i) d e h k = at_one xs i d e h k
 
-pub parts_under : (f : ℕ → ℤ) (n i e : ℕ) (xs : List ℕ) → Parts f n xs → At xs i e → i < n → pos 0 <ℤ f e
+pub parts_under : (f : ℕ → ℤ) (n i e : ℕ) (xs : List ℕ) → Parts f n xs → At xs i e → i < n
+    → pos 0 <ℤ f e
 parts_under f n i e [] h k l = absurd k
 parts_under f zero i e (x ∷ xs) h k l = absurd (omega arith)
 parts_under f (suc n) zero e (x ∷ xs) h k l = subst (λ (d : ℕ). pos 0 <ℤ f d) (sym k) h.0
 parts_under f (suc n) (suc i) e (x ∷ xs) h k l = parts_under f n i e xs h.1 k (omega arith)
 
-pub parts_over : (f : ℕ → ℤ) (n i e : ℕ) (xs : List ℕ) → Parts f n xs → At xs i e → n ≤ i → f e <ℤ pos 0
+pub parts_over : (f : ℕ → ℤ) (n i e : ℕ) (xs : List ℕ) → Parts f n xs → At xs i e → n ≤ i
+    → f e <ℤ pos 0
 parts_over f n i e [] h k l = absurd k
 parts_over f zero zero e (x ∷ xs) h k l = subst (λ (d : ℕ). f d <ℤ pos 0) (sym k) h.0
 parts_over f zero (suc i) e (x ∷ xs) h k l = parts_over f zero i e xs h.1 k (omega arith)

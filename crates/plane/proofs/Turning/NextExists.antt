@@ -22,7 +22,8 @@ some_before [] t h = absurd h
 some_before (z ∷ zs) t (inl e) = let k = some_last z zs in (k.0, inr (k.1, e))
 some_before (z ∷ zs) t (inr h) = let k = inner z zs t h in (k.0, inl k.1)
 
-after_or_last : {X : Type 0} (z : X) (zs : List X) (t : X) → Has t (z ∷ zs) → ((g : X) × Follows (z ∷ zs) t g) ⊎ IsLast t (z ∷ zs)
+after_or_last : {X : Type 0} (z : X) (zs : List X) (t : X) → Has t (z ∷ zs)
+    → ((g : X) × Follows (z ∷ zs) t g) ⊎ IsLast t (z ∷ zs)
 after_or_last z [] t (inl e) = inr e
 after_or_last z [] t (inr h) = absurd h
 after_or_last z (y ∷ ys) t (inl e) = inl (y, inl (e, refl))

@@ -1,6 +1,7 @@
 -- Each half-edge has exactly one next one and exactly one previous one.
 -- The next one is exactly the first half-edge clockwise after the twin, among those that start in one point with it.
-use Rattle.std.proofs.Common.{◌≡◌, ℕ, ◌<◌, ◌⊎◌, inl, inr, List, [], ◌∷◌, refl, arith, ap, sym, ◌∙◌, subst, ℤ, pos, ◌*ℤ◌, ◌-ℤ◌}
+use Rattle.std.proofs.Common.{◌≡◌, ℕ, ◌<◌, ◌⊎◌, inl, inr, List, [], ◌∷◌, refl, arith, ap, sym, ◌∙◌}
+use Rattle.std.proofs.Common.{subst, ℤ, pos, ◌*ℤ◌, ◌-ℤ◌}
 use Rattle.std.proofs.lemmas.Int.{ints}
 use Rattle.plane.specs.Forms.Vectors.{Edge}
 use Rattle.plane.specs.Runs.Steps.{Step, Run}
@@ -8,7 +9,8 @@ use Rattle.plane.specs.Faces.Replays.{Replay, replay}
 use Rattle.plane.proofs.Runs.RunWords.{IsRun, IsLawful}
 use Rattle.plane.specs.Faces.Halves.{Half, edge_of, twin}
 use Rattle.plane.specs.Faces.Classes.{Next}
-use Rattle.plane.specs.Faces.Directions.{Direction, direction, TurnsLeft, Precedes, Comes, origin, IsClockwiseNext}
+use Rattle.plane.specs.Faces.Directions.{Direction, direction, TurnsLeft, Precedes, Comes, origin}
+use Rattle.plane.specs.Faces.Directions.{IsClockwiseNext}
 use Rattle.plane.proofs.Algebra.Ring.{at, minus, num, times, vars, ring}
 use Rattle.plane.proofs.Turning.Directions.{right_left}
 use Rattle.plane.proofs.Turning.RunFans.{turns_at, next_is_clockwise}
@@ -50,13 +52,15 @@ module _ (m : ℕ) (E : ℕ → Edge) where
   before_turn t g a (inl e) = let b = subst (λ (x : Half). Comes E x t) (sym e) a in once t t b b
   before_turn t g a (inr b) = once g t a b
 
-  low_part : (t g x : Half) → Comes E x t → ((x ≡ g) ⊎ Comes E x g) ⊎ ((x ≡ t) ⊎ Comes E t x) → (x ≡ g) ⊎ Comes E x g
+  low_part : (t g x : Half) → Comes E x t → ((x ≡ g) ⊎ Comes E x g) ⊎ ((x ≡ t) ⊎ Comes E t x)
+      → (x ≡ g) ⊎ Comes E x g
   low_part t g x a (inl k) = k
   low_part t g x a (inr (inl e)) = let b = subst (λ (y : Half). Comes E y t) e a in absurd (once t t b b)
   low_part t g x a (inr (inr b)) = absurd (once x t a b)
 
   -- the first one clockwise after t is one
-  pub clockwise_one : (t g h : Half) → edge_of g < m → edge_of h < m → IsClockwiseNext m E t g → IsClockwiseNext m E t h → g ≡ h
+  pub clockwise_one : (t g h : Half) → edge_of g < m → edge_of h < m → IsClockwiseNext m E t g
+      → IsClockwiseNext m E t h → g ≡ h
   clockwise_one t g h lg lh a b = cases a.turn b.turn
     where
       cases : (Comes E g t × ((x : Half) → edge_of x < m → origin E x ≡ origin E t → ((x ≡ g) ⊎ Comes E x g) ⊎ ((x ≡ t) ⊎ Comes E t x)))
@@ -78,13 +82,15 @@ module _ (m : ℕ) (E : ℕ → Edge) where
       cases (inr u) (inr v) = one_of g h (v g lg a.start).0 (u h lh b.start).0
 
   -- after one half-edge at most comes a given one, clockwise
-  pub clockwise_from_one : (t u g : Half) → edge_of t < m → edge_of u < m → IsClockwiseNext m E t g → IsClockwiseNext m E u g → t ≡ u
+  pub clockwise_from_one : (t u g : Half) → edge_of t < m → edge_of u < m → IsClockwiseNext m E t g
+      → IsClockwiseNext m E u g → t ≡ u
   clockwise_from_one t u g lt lu a b = cases a.turn b.turn
     where
       at_u : origin E u ≡ origin E t
       at_u = sym b.start ∙ a.start
 
-      high_part : (t x : Half) → Comes E g x → ((x ≡ g) ⊎ Comes E x g) ⊎ ((x ≡ t) ⊎ Comes E t x) → (x ≡ t) ⊎ Comes E t x
+      high_part : (t x : Half) → Comes E g x → ((x ≡ g) ⊎ Comes E x g) ⊎ ((x ≡ t) ⊎ Comes E t x)
+          → (x ≡ t) ⊎ Comes E t x
       high_part t x k (inl (inl e)) = let c = subst (λ (y : Half). Comes E g y) e k in absurd (once g g c c)
       high_part t x k (inl (inr c)) = absurd (once g x k c)
       high_part t x k (inr h) = h
@@ -141,7 +147,8 @@ module _ (v : ℤ) (m : ℕ) (E : ℕ → Edge) (steps : List Step) (run : Run m
       (k.0, next_to u.0 v m E steps k.0 g k.1)
 
   -- the next half-edge is exactly the first one clockwise after the twin
-  pub clockwise_is_next : (h g : Half) → edge_of h < m → edge_of g < m → IsClockwiseNext m E (twin h) g → Next r h g
+  pub clockwise_is_next : (h g : Half) → edge_of h < m → edge_of g < m
+      → IsClockwiseNext m E (twin h) g → Next r h g
   clockwise_is_next h g lh lg c =
       let k = some_next h lh in
       subst (λ (x : Half). Next r h x) (clockwise_one m E (twin h) k.0 g k.1 lg (next_clockwise_is h k.0 k.2) c) k.2

@@ -29,7 +29,8 @@ number_half (suc (suc n)) = let a = number_shifted (half_of n) in let b = number
 
 module _ (r : Replay) (k : ℕ) (fits : k ≤ r.steps) where
   -- two neighbours of a live list are across a cell
-  pub neighbours_across : (i d e : ℕ) → At (r.list k) i d → At (r.list k) (suc i) e → Across r (over d) (under e)
+  pub neighbours_across : (i d e : ℕ) → At (r.list k) i d → At (r.list k) (suc i) e
+      → Across r (over d) (under e)
   neighbours_across i d e a b = let l = at_less (r.list k) (suc i) e b in (record { strip = k; index = suc i }, record { strip = fits; index = omega (arith, l) }, a, b)
 
   -- the first one and the last one are at the border

@@ -1,6 +1,7 @@
 -- All cells beside one half-edge are linked.
 -- An edge keeps its cell from strip to strip, as far as it is live.
-use Rattle.std.proofs.Common.{◌≡◌, ℕ, zero, suc, ◌+◌, ◌<◌, ◌≤◌, List, ◌++◌, length, refl, arith, ap, sym, ◌∙◌, inl, inr, subst}
+use Rattle.std.proofs.Common.{◌≡◌, ℕ, zero, suc, ◌+◌, ◌<◌, ◌≤◌, List, ◌++◌, length, refl, arith, ap}
+use Rattle.std.proofs.Common.{sym, ◌∙◌, inl, inr, subst}
 use Rattle.std.proofs.lemmas.Int.{ints}
 use Rattle.plane.specs.declared.kinds.Point.{Point}
 use Rattle.plane.specs.Lists.{Has}
@@ -16,7 +17,8 @@ use Rattle.plane.proofs.Strips.OneCut.{sides}
 use Rattle.plane.proofs.Strips.Centres.{centre}
 use Rattle.plane.proofs.Strips.Columns.{by_less}
 use Rattle.plane.proofs.Strips.Joins.{lengths_before}
-use Rattle.plane.proofs.Turning.ListPlaces.{at_front, at_back, at_append, at_less, at_has, has_at, parts_under, parts_over}
+use Rattle.plane.proofs.Turning.ListPlaces.{at_front, at_back, at_append, at_less, at_has, has_at}
+use Rattle.plane.proofs.Turning.ListPlaces.{parts_under, parts_over}
 
 -- the index of the cell beside h where the edge stands at place i
 abbrev pub spot : Half → ℕ → ℕ
@@ -30,7 +32,8 @@ pub spot_least : (h : Half) (i n : ℕ) → i < n → spot h i ≤ n
 spot_least (under e) i n l = omega arith
 spot_least (over e) i n l = omega arith
 
-pub beside_at : (r : Replay) (h : Half) (c : Sector) → Beside r h c → (i : ℕ) × At (r.list c.strip) i (edge_of h) × (c ≡ cell_by h c.strip i)
+pub beside_at : (r : Replay) (h : Half) (c : Sector) → Beside r h c
+    → (i : ℕ) × At (r.list c.strip) i (edge_of h) × (c ≡ cell_by h c.strip i)
 beside_at r (under e) c b = (c.index, b, refl)
 beside_at r (over e) c b = split c.index refl b
   where
@@ -38,7 +41,8 @@ beside_at r (over e) c b = split c.index refl b
     split zero q b = absurd b
     split (suc n) q b = (n, b, cells_eq c (cell_by (over e) c.strip n) refl q)
 
-pub at_beside : (r : Replay) (h : Half) (k i : ℕ) → At (r.list k) i (edge_of h) → Beside r h (cell_by h k i)
+pub at_beside : (r : Replay) (h : Half) (k i : ℕ) → At (r.list k) i (edge_of h)
+    → Beside r h (cell_by h k i)
 at_beside r (under e) k i a = a
 at_beside r (over e) k i a = a
 
@@ -64,7 +68,8 @@ module _ (r : Replay) (run : IsRun r) (law : IsLawful r) where
           omega (arith, ints, u, o)
 
   -- one step on, where the edge does not end
-  onward_by : (h : Half) (k i : ℕ) → k < r.steps → At (r.list k) i (edge_of h) → Has (edge_of h) (r.list (suc k))
+  onward_by : (h : Half) (k i : ℕ) → k < r.steps → At (r.list k) i (edge_of h)
+      → Has (edge_of h) (r.list (suc k))
       → (j : ℕ) × At (r.list (suc k)) j (edge_of h) × Linked r (cell_by h k i) (cell_by h (suc k) j)
   onward_by h k i l a n =
       let e = edge_of h in
@@ -107,7 +112,8 @@ module _ (r : Replay) (run : IsRun r) (law : IsLawful r) where
           let g = ap (λ (p : Point). sweep r.weight (point p)) (o.3 ∙ run.ending k l (edge_of h) m) in
           omega (arith, ints, f, g)
 
-  far_by : (h : Half) (n k m i j : ℕ) → m ≡ k + n → m ≤ r.steps → At (r.list k) i (edge_of h) → At (r.list m) j (edge_of h) → Linked r (cell_by h k i) (cell_by h m j)
+  far_by : (h : Half) (n k m i j : ℕ) → m ≡ k + n → m ≤ r.steps → At (r.list k) i (edge_of h)
+      → At (r.list m) j (edge_of h) → Linked r (cell_by h k i) (cell_by h m j)
   far_by h zero k m i j q l a b =
       let f : m ≡ k = omega arith in
       let b2 : At (r.list k) j (edge_of h) = subst (λ (x : ℕ). At (r.list x) j (edge_of h)) f b in
@@ -125,7 +131,8 @@ module _ (r : Replay) (run : IsRun r) (law : IsLawful r) where
       linked_join r (cell_by h k i) (cell_by h (suc k) x.0) (cell_by h m j) x.2 (far_by h n (suc k) m x.0 j (omega arith) l x.1 b)
 
   -- two cells beside one half-edge
-  pub beside_linked : (h : Half) (c d : Sector) → IsSector r c → IsSector r d → Beside r h c → Beside r h d → Linked r c d
+  pub beside_linked : (h : Half) (c d : Sector) → IsSector r c → IsSector r d → Beside r h c
+      → Beside r h d → Linked r c d
   beside_linked h c d C D b k =
       let x = beside_at r h c b in
       let y = beside_at r h d k in

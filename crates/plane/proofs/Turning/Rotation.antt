@@ -1,11 +1,13 @@
 -- A cell beside a half-edge is linked to a cell beside the next one.
 -- Five cases, by where the twin stands among the half-edges round the event.
-use Rattle.std.proofs.Common.{◌≡◌, ℕ, suc, ◌+◌, ◌<◌, ◌≤◌, List, [], ◌∷◌, ◌++◌, length, refl, arith, ap, sym, inl, inr, subst}
+use Rattle.std.proofs.Common.{◌≡◌, ℕ, suc, ◌+◌, ◌<◌, ◌≤◌, List, [], ◌∷◌, ◌++◌, length, refl, arith}
+use Rattle.std.proofs.Common.{ap, sym, inl, inr, subst}
 use Rattle.plane.specs.Faces.Replays.{Replay}
 use Rattle.plane.proofs.Runs.RunWords.{IsRun, IsLawful}
 use Rattle.plane.specs.Faces.Cells.{Sector, IsSector, Linked, stays, onward, back}
 use Rattle.plane.specs.Faces.Halves.{Half, under, over, twin, At, Beside}
-use Rattle.plane.specs.Faces.Classes.{starting_halves, ending_halves, fan, IsFirst, IsLast, Follows, FollowsRound, Next}
+use Rattle.plane.specs.Faces.Classes.{starting_halves, ending_halves, fan, IsFirst, IsLast, Follows}
+use Rattle.plane.specs.Faces.Classes.{FollowsRound, Next}
 use Rattle.plane.proofs.Strips.OneStrip.{linked_back, linked_join}
 use Rattle.plane.proofs.Strips.Joins.{lengths_before, lengths_after}
 use Rattle.plane.proofs.Turning.ListPlaces.{at_front, at_back}
@@ -16,19 +18,23 @@ abbrev pub Goes : Replay → Sector → List Half → Sector → Type 0
 Goes r c [] d = Linked r c d
 Goes r c (x ∷ xs) d = (right : Sector) × (left : Sector) × IsSector r right × IsSector r left × Linked r c right × Beside r (twin x) right × Beside r x left × Goes r left xs d
 
-pub goes_from : (r : Replay) (b c d : Sector) (xs : List Half) → Linked r b c → Goes r c xs d → Goes r b xs d
+pub goes_from : (r : Replay) (b c d : Sector) (xs : List Half) → Linked r b c → Goes r c xs d
+    → Goes r b xs d
 goes_from r b c d [] l g = linked_join r b c d l g
 goes_from r b c d (x ∷ xs) l g = (g.0, g.1, g.2, g.3, linked_join r b c g.0 l g.4, g.5, g.6, g.7)
 
-pub goes_append : (r : Replay) (b c d : Sector) (xs ys : List Half) → Goes r b xs c → Goes r c ys d → Goes r b (xs ++ ys) d
+pub goes_append : (r : Replay) (b c d : Sector) (xs ys : List Half) → Goes r b xs c → Goes r c ys d
+    → Goes r b (xs ++ ys) d
 goes_append r b c d [] ys g h = goes_from r b c d ys g h
 goes_append r b c d (x ∷ xs) ys g h = (g.0, g.1, g.2, g.3, g.4, g.5, g.6, goes_append r g.1 c d xs ys g.7 h)
 
-pub goes_first : (r : Replay) (c d : Sector) (xs : List Half) (x : Half) → Goes r c xs d → IsFirst x xs → (u : Sector) × IsSector r u × Beside r (twin x) u × Linked r c u
+pub goes_first : (r : Replay) (c d : Sector) (xs : List Half) (x : Half) → Goes r c xs d
+    → IsFirst x xs → (u : Sector) × IsSector r u × Beside r (twin x) u × Linked r c u
 goes_first r c d [] x g h = absurd h
 goes_first r c d (y ∷ xs) x g h = (g.0, g.2, subst (λ (z : Half). Beside r (twin z) g.0) (sym h) g.5, g.4)
 
-pub goes_last : (r : Replay) (c d : Sector) (xs : List Half) (x : Half) → Goes r c xs d → IsLast x xs → (u : Sector) × IsSector r u × Beside r x u × Linked r u d
+pub goes_last : (r : Replay) (c d : Sector) (xs : List Half) (x : Half) → Goes r c xs d
+    → IsLast x xs → (u : Sector) × IsSector r u × Beside r x u × Linked r u d
 goes_last r c d [] x g h = absurd h
 goes_last r c d (y ∷ []) x g h = (g.1, g.3, subst (λ (z : Half). Beside r z g.1) (sym h) g.6, g.7)
 goes_last r c d (y ∷ (z ∷ zs)) x g h = goes_last r g.1 d (z ∷ zs) x g.7 h
@@ -43,14 +49,16 @@ record Between2 (r : Replay) (g h : Half) : Type 0 where
   of_right : Beside r (twin h) right
   linked : Linked r left right
 
-goes_follows : (r : Replay) (c d : Sector) (xs : List Half) (x y : Half) → Goes r c xs d → Follows xs x y → Between2 r x y
+goes_follows : (r : Replay) (c d : Sector) (xs : List Half) (x y : Half) → Goes r c xs d
+    → Follows xs x y → Between2 r x y
 goes_follows r c d [] x y g h = absurd h
 goes_follows r c d (z ∷ zs) x y g (inl h) =
     let n = goes_first r g.1 d zs y g.7 h.1 in
     record { left = g.1; right = n.0; is_left = g.3; is_right = n.1; of_left = subst (λ (u : Half). Beside r u g.1) (sym h.0) g.6; of_right = n.2; linked = n.3 }
 goes_follows r c d (z ∷ zs) x y g (inr h) = goes_follows r g.1 d zs x y g.7 h
 
-goes_round : (r : Replay) (c : Sector) (xs : List Half) (x y : Half) → Goes r c xs c → FollowsRound xs x y → Between2 r x y
+goes_round : (r : Replay) (c : Sector) (xs : List Half) (x y : Half) → Goes r c xs c
+    → FollowsRound xs x y → Between2 r x y
 goes_round r c xs x y g (inl h) = goes_follows r c c xs x y g h
 goes_round r c xs x y g (inr h) =
     let a = goes_last r c c xs x g h.0 in
@@ -68,7 +76,8 @@ module _ (r : Replay) (k : ℕ) (fits : k ≤ r.steps) where
   is_cell : (n : ℕ) → n ≤ length (r.list k) → IsSector r (cell_of k n)
   is_cell n l = record { strip = fits; index = l }
 
-  goes_outward : (n t : ℕ) (es : List ℕ) → t ≡ n + length es → t ≤ length (r.list k) → StandsFrom r k n es → Goes r (cell_of k n) (starting_halves es) (cell_of k t)
+  goes_outward : (n t : ℕ) (es : List ℕ) → t ≡ n + length es → t ≤ length (r.list k)
+      → StandsFrom r k n es → Goes r (cell_of k n) (starting_halves es) (cell_of k t)
   goes_outward n t [] q l s = stays _ _ (ap (cell_of k) (omega arith))
   goes_outward n t (e ∷ es) q l s =
       let a = s 0 n e (omega arith) refl in (
@@ -82,7 +91,8 @@ module _ (r : Replay) (k : ℕ) (fits : k ≤ r.steps) where
         goes_outward (suc n) t es (omega arith) l (λ j m d h b. s (suc j) m d (omega arith) b),
       )
 
-  goes_inward : (n t : ℕ) (es : List ℕ) → t ≡ n + length es → t ≤ length (r.list k) → StandsFrom r k n es → Goes r (cell_of k t) (ending_halves es) (cell_of k n)
+  goes_inward : (n t : ℕ) (es : List ℕ) → t ≡ n + length es → t ≤ length (r.list k)
+      → StandsFrom r k n es → Goes r (cell_of k t) (ending_halves es) (cell_of k n)
   goes_inward n t [] q l s = stays _ _ (ap (cell_of k) (omega arith))
   goes_inward n t (e ∷ es) q l s =
       let a = s 0 n e (omega arith) refl in
@@ -92,7 +102,8 @@ module _ (r : Replay) (k : ℕ) (fits : k ≤ r.steps) where
 
 module _ (r : Replay) (run : IsRun r) (law : IsLawful r) where
   -- once round an event
-  pub around : (k : ℕ) → k < r.steps → Goes r (cell_of (suc k) (length (r.step k).below)) (fan (r.step k)) (cell_of (suc k) (length (r.step k).below))
+  pub around : (k : ℕ) → k < r.steps
+      → Goes r (cell_of (suc k) (length (r.step k).below)) (fan (r.step k)) (cell_of (suc k) (length (r.step k).below))
   around k l =
       let s = r.step k in
       let b = length s.below in
@@ -116,7 +127,8 @@ module _ (r : Replay) (run : IsRun r) (law : IsLawful r) where
       goes_to c d e (x ∷ xs) g l = (g.0, g.1, g.2, g.3, g.4, g.5, g.6, goes_to g.1 d e xs g.7 l)
 
   -- the region between a half-edge and the next one
-  pub next_cells : (g h : Half) → Next r h g → (c d : Sector) × IsSector r c × IsSector r d × Beside r h c × Beside r g d × Linked r c d
+  pub next_cells : (g h : Half) → Next r h g
+      → (c d : Sector) × IsSector r c × IsSector r d × Beside r h c × Beside r g d × Linked r c d
   next_cells g h n =
       let m = goes_round r (cell_of (suc n.event) (length (r.step n.event).below)) (fan (r.step n.event)) g (twin h) (around n.event n.fits) n.turn in
       (m.right, m.left, m.is_right, m.is_left, subst (λ (x : Half). Beside r x m.right) (twice h) m.of_right, m.of_left, linked_back r m.left m.right m.linked)
@@ -125,7 +137,8 @@ module _ (r : Replay) (run : IsRun r) (law : IsLawful r) where
       twice (under e) = refl
       twice (over e) = refl
 
-  pub next_linked : (g h : Half) (c d : Sector) → Next r h g → IsSector r c → IsSector r d → Beside r h c → Beside r g d → Linked r c d
+  pub next_linked : (g h : Half) (c d : Sector) → Next r h g → IsSector r c → IsSector r d
+      → Beside r h c → Beside r g d → Linked r c d
   next_linked g h c d n C D b k =
       let m = next_cells g h n in
       linked_join r c m.0 d (beside_linked r run law h c m.0 C m.2 b m.4) (linked_join r m.0 m.1 d m.6 (beside_linked r run law g m.1 d m.3 D m.5 k))

@@ -1,6 +1,7 @@
 -- The fan of a step holds all half-edges that start at its event.
 -- So in every run the next half-edge is the first one clockwise, with no premise of its own.
-use Rattle.std.proofs.Common.{◌≡◌, ℕ, zero, suc, ◌<◌, ◌≤◌, List, [], ◌∷◌, length, ℤ, pos, arith, ap, sym, inl, inr, subst}
+use Rattle.std.proofs.Common.{◌≡◌, ℕ, zero, suc, ◌<◌, ◌≤◌, List, [], ◌∷◌, length, ℤ, pos, arith, ap}
+use Rattle.std.proofs.Common.{sym, inl, inr, subst}
 use Rattle.std.proofs.lemmas.Int.{ints}
 use Rattle.plane.specs.declared.kinds.Point.{Point}
 use Rattle.plane.specs.Lists.{Neighbours, Has}
@@ -20,14 +21,17 @@ use Rattle.plane.proofs.Runs.Lawful.{swept_lawful}
 use Rattle.plane.proofs.Turning.FanOrder.{outward_has, inward_has, next_clockwise}
 
 module _ (r : Replay) (run : IsRun r) (law : IsLawful r) where
-  not_below : (k e : ℕ) → k < r.steps → side (r.edge e) (point (r.step k).at) ≡ pos 0 → Has e (r.step k).below → ⊥
+  not_below : (k e : ℕ) → k < r.steps → side (r.edge e) (point (r.step k).at) ≡ pos 0
+      → Has e (r.step k).below → ⊥
   not_below k e l z h = let a = law.under k l e h in omega (arith, ints, a, z)
 
-  not_above : (k e : ℕ) → k < r.steps → side (r.edge e) (point (r.step k).at) ≡ pos 0 → Has e (r.step k).above → ⊥
+  not_above : (k e : ℕ) → k < r.steps → side (r.edge e) (point (r.step k).at) ≡ pos 0
+      → Has e (r.step k).above → ⊥
   not_above k e l z h = let a = law.over k l e h in omega (arith, ints, a, z)
 
   -- an edge that starts at the event is one of the starting ones, and one that ends there is one of the ending ones
-  starts : (k e : ℕ) → k < r.steps → e < r.edges → (r.edge e).low ≡ (r.step k).at → Has e (r.step k).starting
+  starts : (k e : ℕ) → k < r.steps → e < r.edges → (r.edge e).low ≡ (r.step k).at
+      → Has e (r.step k).starting
   starts k e l f q =
       let d = run.ends e f in
       let later : k < d.0 = by_less k d.0 (λ h. h)
@@ -46,7 +50,8 @@ module _ (r : Replay) (run : IsRun r) (law : IsLawful r) where
         | inr h ↦ elim h [ inl h ↦ h | inr h ↦ absurd (not_above k e l zero h) ]
       ]
 
-  finishes : (k e : ℕ) → k < r.steps → e < r.edges → (r.edge e).high ≡ (r.step k).at → Has e (r.step k).ending
+  finishes : (k e : ℕ) → k < r.steps → e < r.edges → (r.edge e).high ≡ (r.step k).at
+      → Has e (r.step k).ending
   finishes k e l f q =
       let b = run.begins e f in
       let sooner : b.0 < k = by_less b.0 k (λ h. h)
@@ -65,17 +70,21 @@ module _ (r : Replay) (run : IsRun r) (law : IsLawful r) where
         | inr h ↦ elim h [ inl h ↦ h | inr h ↦ absurd (not_above k e l zero h) ]
       ]
 
-  pub fan_all : (k : ℕ) → k < r.steps → (x : Half) → edge_of x < r.edges → origin r.edge x ≡ (r.step k).at → Has x (fan (r.step k))
+  pub fan_all : (k : ℕ) → k < r.steps → (x : Half) → edge_of x < r.edges
+      → origin r.edge x ≡ (r.step k).at → Has x (fan (r.step k))
   fan_all k l (under e) f q = let s = r.step k in has_back (under e) (starting_halves s.starting) (ending_halves s.ending) (inward_has e s.ending (finishes k e l f q))
   fan_all k l (over e) f q = let s = r.step k in has_front (over e) (starting_halves s.starting) (ending_halves s.ending) (outward_has e s.starting (starts k e l f q))
 
 -- ---- over a run
-pub turns_at : (m : ℕ) (E : ℕ → Edge) (now : List ℕ) (steps : List Step) (k : ℕ) → IsReplay m E now steps → k < length steps → Neighbours (Turns E) (nth steps k).starting
+pub turns_at : (m : ℕ) (E : ℕ → Edge) (now : List ℕ) (steps : List Step) (k : ℕ)
+    → IsReplay m E now steps → k < length steps → Neighbours (Turns E) (nth steps k).starting
 turns_at m E now [] k r h = absurd (omega arith)
 turns_at m E now (s ∷ steps) zero r h = r.1.turns
 turns_at m E now (s ∷ steps) (suc k) r h = turns_at m E (after s) steps k r.2 (omega arith)
 
-pub next_is_clockwise : (w : ℤ) (m : ℕ) (E : ℕ → Edge) (steps : List Step) (h g : Half) → Run m E steps → WeighedRun w m E steps → Next (replay w m E steps) h g → IsClockwiseNext m E (twin h) g
+pub next_is_clockwise : (w : ℤ) (m : ℕ) (E : ℕ → Edge) (steps : List Step) (h g : Half)
+    → Run m E steps → WeighedRun w m E steps → Next (replay w m E steps) h g
+    → IsClockwiseNext m E (twin h) g
 next_is_clockwise w m E steps h g run swept n =
     let r = replay w m E steps in
     let a = swept_run w m E steps swept in

@@ -1,5 +1,6 @@
 -- A common place of two tubes is a control point of both.
-use Rattle.std.proofs.Common.{◌≡◌, ℕ, ◌<◌, List, [], ◌∷◌, ℤ, pos, ◌*ℤ◌, ◌<ℤ◌, ◌≤ℤ◌, ◌⊎◌, inl, inr, refl, arith, ap, sym, ◌∙◌, subst}
+use Rattle.std.proofs.Common.{◌≡◌, ℕ, ◌<◌, List, [], ◌∷◌, ℤ, pos, ◌*ℤ◌, ◌<ℤ◌, ◌≤ℤ◌, ◌⊎◌, inl, inr}
+use Rattle.std.proofs.Common.{refl, arith, ap, sym, ◌∙◌, subst}
 use Rattle.std.proofs.lemmas.Int.{ints, by_lt_z}
 use Rattle.std.proofs.lemmas.Bool.Decides.{eqb_tells}
 use Rattle.plane.specs.declared.kinds.Point.{Point}
@@ -14,7 +15,8 @@ use Rattle.plane.proofs.Algebra.Scaling.{cancel_le}
 use Rattle.plane.proofs.Algebra.Ring.{at, times, vars, ring}
 use Rattle.plane.proofs.Windings.Whole.{IsWhole}
 use Rattle.plane.proofs.Windings.TubeCells.{in_tube}
-use Rattle.plane.proofs.Windings.Enters.{Decided, decide_z, decide_same, look, look_below, edge_outside, event_corner}
+use Rattle.plane.proofs.Windings.Enters.{Decided, decide_z, decide_same, look, look_below}
+use Rattle.plane.proofs.Windings.Enters.{edge_outside, event_corner}
 
 -- ---- one place by two vectors
 pub same_from : (z v u : Vector) → Place z → Same z v → Same z u → Same v u
@@ -31,7 +33,8 @@ same_from z v u Z a b = record { x = one z.x z.n v.x v.n u.x u.n Z a.x b.x; y = 
         let g = cancel_le n (q *ℤ m) (p *ℤ k) N (omega (arith, ints, a, b, c, d, e)) in
         omega (arith, ints, f, g)
 
-pub in_some_same : (ts : List Tile) (z v : Vector) → Place z → Same z v → InSomeTile ts z → InSomeTile ts v
+pub in_some_same : (ts : List Tile) (z v : Vector) → Place z → Same z v → InSomeTile ts z
+    → InSomeTile ts v
 in_some_same ts z v Z h s =
     let i = s.2 in (
       s.0,
@@ -80,7 +83,8 @@ module _ (r : Replay) (whole : IsWhole r) (lab : Labels) (matched : IsMatched r 
         | inr none ↦ absurd (plain (λ j l s. none (j, l, s)))
       ]
     where
-      event : (j : ℕ) → j < r.steps → Same z (point (r.step j).at) → Same z (point a) ⊎ Same z (point (tip b bs))
+      event : (j : ℕ) → j < r.steps → Same z (point (r.step j).at)
+          → Same z (point a) ⊎ Same z (point (tip b bs))
       event j l s =
           let p = event_corner r whole lab matched t a b bs hs one j l (in_some_same (tiles a (b ∷ bs)) z (point (r.step j).at) Z s in_one) in
           let q = event_corner r whole lab matched u c d ds gs two j l (in_some_same (tiles c (d ∷ ds)) z (point (r.step j).at) Z s in_two) in
@@ -92,7 +96,8 @@ module _ (r : Replay) (whole : IsWhole r) (lab : Labels) (matched : IsMatched r 
             ]
           ]
 
-      on_edge : ((j : ℕ) → j < r.steps → Same z (point (r.step j).at) → ⊥) → (f : ℕ) → f < r.edges → On r.weight (r.edge f) z → ⊥
+      on_edge : ((j : ℕ) → j < r.steps → Same z (point (r.step j).at) → ⊥) → (f : ℕ) → f < r.edges
+          → On r.weight (r.edge f) z → ⊥
       on_edge no_event f l on =
           elim (look Half (λ h. edge_of h ≡ f) hs (λ h. decide_number (edge_of h) f)) [
             | inl h ↦ edge_outside r whole lab matched u c d ds gs two f z l (λ g m e. apart h.0 g h.1 m (h.2 ∙ sym e)) Z no_event on in_two

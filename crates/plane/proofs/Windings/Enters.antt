@@ -1,5 +1,6 @@
 -- No place of another edge is in a tube, and an event in a tube is a corner of it.
-use Rattle.std.proofs.Common.{◌≡◌, ℕ, zero, suc, ◌<◌, ◌≤◌, List, [], ◌∷◌, ◌++◌, ℤ, pos, ◌*ℤ◌, ◌<ℤ◌, ◌≤ℤ◌, ◌⊎◌, inl, inr, refl, arith, ap, sym, ◌∙◌, subst}
+use Rattle.std.proofs.Common.{◌≡◌, ℕ, zero, suc, ◌<◌, ◌≤◌, List, [], ◌∷◌, ◌++◌, ℤ, pos, ◌*ℤ◌, ◌<ℤ◌}
+use Rattle.std.proofs.Common.{◌≤ℤ◌, ◌⊎◌, inl, inr, refl, arith, ap, sym, ◌∙◌, subst}
 use Rattle.std.proofs.lemmas.Int.{ints, by_lt_z}
 use Rattle.plane.specs.declared.kinds.Point.{Point}
 use Rattle.plane.specs.Lists.{Has}
@@ -26,7 +27,8 @@ use Rattle.plane.proofs.Windings.Whole.{cut_edge, IsWhole}
 use Rattle.plane.proofs.Runs.Meeting.{same_place}
 
 -- a place of an edge on the sweep line of its high end is that end
-pub high_same : (w : ℤ) (e : Edge) (z : Vector) → pos 0 <ℤ rise w e → Place z → side e z ≡ pos 0 → sweep w z ≡ sweep w (point e.high) *ℤ z.n → Same z (point e.high)
+pub high_same : (w : ℤ) (e : Edge) (z : Vector) → pos 0 <ℤ rise w e → Place z → side e z ≡ pos 0
+    → sweep w z ≡ sweep w (point e.high) *ℤ z.n → Same z (point e.high)
 high_same w e z up Z line level =
     let q = side-high e in
     by_sign (lift z (point e.high))
@@ -65,11 +67,13 @@ decide_either P Q (inl p) d = inl (inl p)
 decide_either P Q (inr n) (inl q) = inl (inr q)
 decide_either P Q (inr n) (inr m) = inr (λ h. elim h [ inl p ↦ n p | inr q ↦ m q ])
 
-not_later : (X : Type 0) (P : X → Type 0) (x : X) (xs : List X) → (P x → ⊥) → ((y : X) × Has y xs × P y → ⊥) → (y : X) → Has y (x ∷ xs) → P y → ⊥
+not_later : (X : Type 0) (P : X → Type 0) (x : X) (xs : List X) → (P x → ⊥)
+    → ((y : X) × Has y xs × P y → ⊥) → (y : X) → Has y (x ∷ xs) → P y → ⊥
 not_later X P x xs n m y (inl e) p = n (subst P e p)
 not_later X P x xs n m y (inr h) p = m (y, h, p)
 
-pub look : (X : Type 0) (P : X → Type 0) (xs : List X) → ((x : X) → Decided (P x)) → Decided ((x : X) × Has x xs × P x)
+pub look : (X : Type 0) (P : X → Type 0) (xs : List X) → ((x : X) → Decided (P x))
+    → Decided ((x : X) × Has x xs × P x)
 look X P [] d = inr (λ h. h.1)
 look X P (x ∷ xs) d = elim (d x) [
   | inl p ↦ inl (x, inl refl, p)
@@ -79,7 +83,8 @@ look X P (x ∷ xs) d = elim (d x) [
   ]
 ]
 
-pub look_fitting : (P : ℕ → Type 0) (n : ℕ) → ((k : ℕ) → k < n → Decided (P k)) → Decided ((k : ℕ) × (k < n) × P k)
+pub look_fitting : (P : ℕ → Type 0) (n : ℕ) → ((k : ℕ) → k < n → Decided (P k))
+    → Decided ((k : ℕ) × (k < n) × P k)
 look_fitting P zero d = inr (λ h. let l = h.1 in omega (arith, l))
 look_fitting P (suc n) d = elim (d n (omega arith)) [
   | inl p ↦ inl (n, omega arith, p)
@@ -89,7 +94,8 @@ look_fitting P (suc n) d = elim (d n (omega arith)) [
   ]
 ]
 
-pub look_below : (P : ℕ → Type 0) (n : ℕ) → ((k : ℕ) → Decided (P k)) → Decided ((k : ℕ) × (k < n) × P k)
+pub look_below : (P : ℕ → Type 0) (n : ℕ) → ((k : ℕ) → Decided (P k))
+    → Decided ((k : ℕ) × (k < n) × P k)
 look_below P n d = look_fitting P n (λ k l. d k)
 
 module _ (r : Replay) (whole : IsWhole r) (lab : Labels) (matched : IsMatched r lab) where
@@ -98,7 +104,8 @@ module _ (r : Replay) (whole : IsWhole r) (lab : Labels) (matched : IsMatched r 
   IsPlain z = (j : ℕ) → j < r.steps → Same z (point (r.step j).at) → ⊥
 
   -- an edge through a place that is no event is live there
-  pub live_on : (f : ℕ) (z : Vector) → f < r.edges → Place z → IsPlain z → On r.weight (r.edge f) z → Has f (r.list (strip r z))
+  pub live_on : (f : ℕ) (z : Vector) → f < r.edges → Place z → IsPlain z → On r.weight (r.edge f) z
+      → Has f (r.list (strip r z))
   live_on f z l Z plain on =
       let up = whole.run.rise f l in
       let high = on.high in
@@ -126,7 +133,8 @@ module _ (r : Replay) (whole : IsWhole r) (lab : Labels) (matched : IsMatched r 
       (λ (q : j < i). let x = whole.run.rising j i q a in omega (arith, ints, x, h))
       (λ (q : i ≤ j). let e : i ≡ j = omega arith in let x = ap (reach r) e in omega (arith, ints, x, h))))
 
-  pub start_live : (k e : ℕ) → k < r.steps → e < r.edges → (r.edge e).low ≡ (r.step k).at → Has e (r.list (suc k))
+  pub start_live : (k e : ℕ) → k < r.steps → e < r.edges → (r.edge e).low ≡ (r.step k).at
+      → Has e (r.list (suc k))
   start_live k e l m q =
       let j = whole.run.ends e m in
       let up = whole.run.rise e m in
@@ -135,7 +143,8 @@ module _ (r : Replay) (whole : IsWhole r) (lab : Labels) (matched : IsMatched r 
       let y = ap (λ (p : Point). sweep r.weight (point p)) j.2 in
       whole.law.alive (suc k) e k j.0 m (omega arith) (sym q) (let o = reach_order k j.0 l j.1 (omega (arith, ints, up, f, x, y)) in omega (arith, o)) j.1 j.2
 
-  pub end_live : (k e : ℕ) → k < r.steps → e < r.edges → (r.edge e).high ≡ (r.step k).at → Has e (r.list k)
+  pub end_live : (k e : ℕ) → k < r.steps → e < r.edges → (r.edge e).high ≡ (r.step k).at
+      → Has e (r.list k)
   end_live k e l m q =
       let j = whole.run.begins e m in
       let up = whole.run.rise e m in
@@ -144,7 +153,8 @@ module _ (r : Replay) (whole : IsWhole r) (lab : Labels) (matched : IsMatched r 
       let y = ap (λ (p : Point). sweep r.weight (point p)) j.2 in
       whole.law.alive k e j.0 k m (reach_order j.0 k j.1 l (omega (arith, ints, up, f, x, y))) j.2 (omega arith) l (sym q)
 
-  pub starts : (k e : ℕ) → k < r.steps → e < r.edges → (r.edge e).low ≡ (r.step k).at → Has e (r.step k).starting
+  pub starts : (k e : ℕ) → k < r.steps → e < r.edges → (r.edge e).low ≡ (r.step k).at
+      → Has e (r.step k).starting
   starts k e l m q =
       let s = r.step k in
       let z : side (r.edge e) (point s.at) ≡ pos 0 = subst (λ (p : Point). side (r.edge e) (point p) ≡ pos 0) q (side-low (r.edge e)) in
@@ -153,7 +163,8 @@ module _ (r : Replay) (whole : IsWhole r) (lab : Labels) (matched : IsMatched r 
         | inr h ↦ elim h [ inl i ↦ i | inr i ↦ let x = whole.law.over k l e i in absurd (omega (arith, ints, x, z)) ]
       ]
 
-  pub finishes : (k e : ℕ) → k < r.steps → e < r.edges → (r.edge e).high ≡ (r.step k).at → Has e (r.step k).ending
+  pub finishes : (k e : ℕ) → k < r.steps → e < r.edges → (r.edge e).high ≡ (r.step k).at
+      → Has e (r.step k).ending
   finishes k e l m q =
       let s = r.step k in
       let z : side (r.edge e) (point s.at) ≡ pos 0 = subst (λ (p : Point). side (r.edge e) (point p) ≡ pos 0) q (side-high (r.edge e)) in
@@ -164,7 +175,9 @@ module _ (r : Replay) (whole : IsWhole r) (lab : Labels) (matched : IsMatched r 
 
   module _ (t : ℕ) (a : Point) (b : Bay) (bs : List Bay) (hs : List Half) (tube : IsDrawnTube r lab t a b bs hs) where
     -- a place of an edge that is none of the tube's, other than an event, is not in the tube
-    pub edge_outside : (f : ℕ) (z : Vector) → f < r.edges → ((h : Half) → Has h hs → edge_of h ≡ f → ⊥) → Place z → IsPlain z → On r.weight (r.edge f) z → InSomeTile (tiles a (b ∷ bs)) z → ⊥
+    pub edge_outside : (f : ℕ) (z : Vector) → f < r.edges
+        → ((h : Half) → Has h hs → edge_of h ≡ f → ⊥) → Place z → IsPlain z
+        → On r.weight (r.edge f) z → InSomeTile (tiles a (b ∷ bs)) z → ⊥
     edge_outside f z l other Z plain on inside =
         let k = strip r z in
         let s = strip_is r whole.run z Z in
@@ -178,12 +191,16 @@ module _ (r : Replay) (whole : IsWhole r) (lab : Labels) (matched : IsMatched r 
         let up = match_back lab 0 0 c.lower (f ∷ c.upper) all in
         other (under f) (tube.faced.only (under f) l (sym up.0 ∙ q)) refl
       where
-        rest : (upper : List ℕ) → side (r.edge f) z ≡ pos 0 → ((e : ℕ) → Has e upper → side (r.edge e) z <ℤ pos 0) → (e : ℕ) → Has e (f ∷ upper) → side (r.edge e) z ≤ℤ pos 0
+        rest : (upper : List ℕ) → side (r.edge f) z ≡ pos 0
+            → ((e : ℕ) → Has e upper → side (r.edge e) z <ℤ pos 0) → (e : ℕ) → Has e (f ∷ upper)
+            → side (r.edge e) z ≤ℤ pos 0
         rest upper q g e (inl x) = subst (λ (d : ℕ). side (r.edge d) z ≤ℤ pos 0) (sym x) (omega (arith, ints, q))
         rest upper q g e (inr m) = let y = g e m in omega (arith, ints, y)
 
     -- the edge over the block faces the tube, if the label under the block is the tube's
-    facing_first : (k : ℕ) (xs block above : List ℕ) (e : ℕ) → k ≤ r.steps → r.list k ≡ xs ++ (block ++ above) → last_label lab 0 xs ≡ t → Has e block → (x : ℕ) × Has x block × Has (under x) hs
+    facing_first : (k : ℕ) (xs block above : List ℕ) (e : ℕ) → k ≤ r.steps
+        → r.list k ≡ xs ++ (block ++ above) → last_label lab 0 xs ≡ t → Has e block
+        → (x : ℕ) × Has x block × Has (under x) hs
     facing_first k xs [] above e fits cut q m = absurd m
     facing_first k xs (x ∷ block) above e fits cut q m =
         let all = subst (λ (es : List ℕ). Match lab 0 es 0) cut (labelled r whole.run whole.law lab matched k fits) in
@@ -192,7 +209,8 @@ module _ (r : Replay) (whole : IsWhole r) (lab : Labels) (matched : IsMatched r 
         (x, inl refl, tube.faced.only (under x) l (sym up.0 ∙ q))
 
     -- an event in the tube is a corner of it
-    pub event_corner : (k : ℕ) → k < r.steps → InSomeTile (tiles a (b ∷ bs)) (point (r.step k).at) → IsTubeCorner r hs (r.step k).at
+    pub event_corner : (k : ℕ) → k < r.steps → InSomeTile (tiles a (b ∷ bs)) (point (r.step k).at)
+        → IsTubeCorner r hs (r.step k).at
     event_corner k l inside =
         let v = (r.step k).at in
         elim (look Half (λ h. IsEnd (r.edge (edge_of h)) v) hs (λ h. decide_either _ _ (decide_point (r.edge (edge_of h)).low v) (decide_point (r.edge (edge_of h)).high v))) [
@@ -200,7 +218,9 @@ module _ (r : Replay) (whole : IsWhole r) (lab : Labels) (matched : IsMatched r 
           | inr none ↦ absurd (not_inside none)
         ]
       where
-        sides_rest : (es : List ℕ) → ((e : ℕ) → Has e es → side (r.edge e) (point (r.step k).at) ≡ pos 0) → (e : ℕ) → Has e (es ++ (r.step k).above) → side (r.edge e) (point (r.step k).at) ≤ℤ pos 0
+        sides_rest : (es : List ℕ)
+            → ((e : ℕ) → Has e es → side (r.edge e) (point (r.step k).at) ≡ pos 0) → (e : ℕ)
+            → Has e (es ++ (r.step k).above) → side (r.edge e) (point (r.step k).at) ≤ℤ pos 0
         sides_rest es f e m = elim (has_append e es (r.step k).above m) [
           | inl h ↦ let x = f e h in omega (arith, ints, x)
           | inr h ↦ let x = whole.law.over k l e h in omega (arith, ints, x)

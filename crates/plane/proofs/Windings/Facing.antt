@@ -1,5 +1,6 @@
 -- The turning of a tube's bounds round a place is given by the label over the edges that lie under the place.
-use Rattle.std.proofs.Common.{◌≡◌, ℕ, zero, suc, ◌<◌, List, [], ◌∷◌, map, ℤ, pos, negsuc, ◌*ℤ◌, ◌-ℤ◌, ◌⊎◌, inl, inr, refl, arith, ap, sym, ◌∙◌, subst}
+use Rattle.std.proofs.Common.{◌≡◌, ℕ, zero, suc, ◌<◌, List, [], ◌∷◌, map, ℤ, pos, negsuc, ◌*ℤ◌}
+use Rattle.std.proofs.Common.{◌-ℤ◌, ◌⊎◌, inl, inr, refl, arith, ap, sym, ◌∙◌, subst}
 use Rattle.std.proofs.lemmas.Int.{ints}
 use Rattle.std.proofs.lemmas.Bool.Decides.{eqb_tells}
 use Rattle.plane.specs.Lists.{Has, Once}
@@ -34,7 +35,8 @@ mark_is t l = elim (eqb_tells l t) [
 ]
 
 -- going up, the marks change by what the edges change
-pub carries_change : (lab : Labels) (t f g : ℕ) (es : List ℕ) → Match lab f es g → total (change lab t) es ≡ one_at t g -ℤ one_at t f
+pub carries_change : (lab : Labels) (t f g : ℕ) (es : List ℕ) → Match lab f es g
+    → total (change lab t) es ≡ one_at t g -ℤ one_at t f
 carries_change lab t f g [] h = let e = ap (one_at t) h in omega (arith, ints, e)
 carries_change lab t f g (e ∷ es) h =
     let i = carries_change lab t (lab.above e) g es h.1 in
@@ -47,7 +49,8 @@ edge_in h [] m = absurd m
 edge_in h (g ∷ hs) (inl e) = inl (ap edge_of e)
 edge_in h (g ∷ hs) (inr m) = inr (edge_in h hs m)
 
-one_side : (g h : Half) (hs : List Half) → Once (map edge_of hs) → Has g hs → Has h hs → edge_of g ≡ edge_of h → g ≡ h
+one_side : (g h : Half) (hs : List Half) → Once (map edge_of hs) → Has g hs → Has h hs
+    → edge_of g ≡ edge_of h → g ≡ h
 one_side g h [] once a b e = absurd a
 one_side g h (x ∷ hs) once (inl a) (inl b) e = a ∙ sym b
 one_side g h (x ∷ hs) once (inl a) (inr b) e = absurd (once.0 (subst (λ (d : ℕ). Has d (map edge_of hs)) (sym e ∙ ap edge_of a) (edge_in h hs b)))
@@ -80,7 +83,8 @@ module _ (w : ℤ) (m : ℕ) (E : ℕ → Edge) (z : Vector) (lab : Labels) (t :
       let c : change lab t e ≡ negsuc 0 = omega (arith, ints, a, b) in
       turning_back w z (E e) ∙ sym (ap (λ (n : ℤ). n *ℤ turning w z (E e)) c ∙ omega (arith, ints))
 
-  ways_total : (gs : List Half) → ((h : Half) → Has h gs → Has h hs) → total (turning w z) (map (way E) gs) ≡ total part (map edge_of gs)
+  ways_total : (gs : List Half) → ((h : Half) → Has h gs → Has h hs)
+      → total (turning w z) (map (way E) gs) ≡ total part (map edge_of gs)
   ways_total [] f = refl
   ways_total (g ∷ gs) f =
       let i = ways_total gs (λ h k. f h (inr k)) in
@@ -98,7 +102,8 @@ module _ (w : ℤ) (m : ℕ) (E : ℕ → Edge) (z : Vector) (lab : Labels) (t :
   edges_fit e k = elim (edge_has e hs k) [ inl h ↦ faced.fits (under e) h | inr h ↦ faced.fits (over e) h ]
 
   -- the edges of the list pass under z once, all others do not
-  pub faced_turning : (lower : List ℕ) → Once lower → ((e : ℕ) → Has e lower → (e < m) × (turning w z (E e) ≡ pos 1))
+  pub faced_turning : (lower : List ℕ) → Once lower
+      → ((e : ℕ) → Has e lower → (e < m) × (turning w z (E e) ≡ pos 1))
       → ((e : ℕ) → e < m → (Has e lower → ⊥) → turning w z (E e) ≡ pos 0)
       → Match lab 0 lower (last_label lab 0 lower) → total (turning w z) (map (way E) hs) ≡ one_at t (last_label lab 0 lower)
   faced_turning lower once passed not_passed carries =

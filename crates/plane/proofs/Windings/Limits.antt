@@ -1,5 +1,7 @@
 -- Tubes are closed: a place in the closure of a cell with a tube's label is in the tube. And the label of a cell, from any closed strip.
-use Rattle.std.proofs.Common.{◌≡◌, ℕ, suc, ◌<◌, ◌≤◌, List, [], ◌∷◌, ◌++◌, length, ℤ, pos, ◌+ℤ◌, ◌*ℤ◌, ◌-ℤ◌, ◌<ℤ◌, ◌≤ℤ◌, ◌⊎◌, inl, inr, refl, arith, ap, sym, ◌∙◌, subst}
+use Rattle.std.proofs.Common.{◌≡◌, ℕ, suc, ◌<◌, ◌≤◌, List, [], ◌∷◌, ◌++◌, length, ℤ, pos, ◌+ℤ◌}
+use Rattle.std.proofs.Common.{◌*ℤ◌, ◌-ℤ◌, ◌<ℤ◌, ◌≤ℤ◌, ◌⊎◌, inl, inr, refl, arith, ap, sym, ◌∙◌}
+use Rattle.std.proofs.Common.{subst}
 use Rattle.std.proofs.lemmas.Int.{ints, by_lt_z}
 use Rattle.plane.specs.declared.kinds.Point.{Point}
 use Rattle.plane.specs.Lists.{Has}
@@ -10,7 +12,8 @@ use Rattle.plane.specs.Faces.Cells.{sector, sector_at, strip}
 use Rattle.plane.specs.Faces.Halves.{Half, IsMatched}
 use Rattle.plane.specs.Faces.Labels.{Labels, last_label}
 use Rattle.plane.specs.Faces.Cells.{label_of}
-use Rattle.plane.specs.Tubes.Windings.{Tile, IsLeftTile, IsSteep, Bay, tiles, InTile, InSomeTile, IsTiled}
+use Rattle.plane.specs.Tubes.Windings.{Tile, IsLeftTile, IsSteep, Bay, tiles, InTile, InSomeTile}
+use Rattle.plane.specs.Tubes.Windings.{IsTiled}
 use Rattle.plane.specs.Tubes.Facing.{IsDrawnTube}
 use Rattle.plane.proofs.Algebra.Scaling.{times_le}
 use Rattle.plane.proofs.ListLemmas.Lists.{each_has, has_front}
@@ -20,7 +23,8 @@ use Rattle.plane.proofs.Strips.OneStrip.{strip_is, strip_only}
 use Rattle.plane.proofs.Strips.OnSweepLine.{opens_at}
 use Rattle.plane.proofs.Strips.ToTheRight.{level_strip, spans_strip, scaled_reach}
 use Rattle.plane.proofs.Strips.Centres.{centre}
-use Rattle.plane.proofs.Windings.OneTriangle.{side_a, side_b, side_c, IsWithin, within_triangle, triangle_within}
+use Rattle.plane.proofs.Windings.OneTriangle.{side_a, side_b, side_c, IsWithin, within_triangle}
+use Rattle.plane.proofs.Windings.OneTriangle.{triangle_within}
 use Rattle.plane.proofs.LabelLemmas.HalfLabels.{opens_label}
 use Rattle.plane.proofs.Windings.Under.{by_order}
 use Rattle.plane.proofs.Windings.TubeCells.{floor_is, cut_holds}
@@ -37,7 +41,8 @@ record IsFar (z y : Vector) (ts : List Tile) : Type 0 where
   far : (n : ℤ) → from ≤ℤ n → (t : Tile) → Has t ts → IsWithin t (near n z y) → ⊥
 
 -- a side below 0 at z is below 0 near z
-far_side : (z y : Vector) (e : Edge) → side e z <ℤ pos 0 → (m : ℤ) × (pos 0 ≤ℤ m) × ((n : ℤ) → m ≤ℤ n → pos 0 ≤ℤ side e (near n z y) → ⊥)
+far_side : (z y : Vector) (e : Edge) → side e z <ℤ pos 0
+    → (m : ℤ) × (pos 0 ≤ℤ m) × ((n : ℤ) → m ≤ℤ n → pos 0 ≤ℤ side e (near n z y) → ⊥)
 far_side z y e h = by_lt_z (pos 0) (side e y)
     (λ (l : pos 0 <ℤ side e y). (
       side e y +ℤ pos 1,
@@ -61,19 +66,23 @@ far_side z y e h = by_lt_z (pos 0) (side e y)
     minus_one : (n : ℤ) → n *ℤ (pos 0 -ℤ pos 1) ≡ pos 0 -ℤ n
     minus_one n = omega (arith, ints)
 
-decide_within : (t : Tile) (z : Vector) → IsWithin t z ⊎ ((side_a t z <ℤ pos 0) ⊎ ((side_b t z <ℤ pos 0) ⊎ (side_c t z <ℤ pos 0)))
+decide_within : (t : Tile) (z : Vector)
+    → IsWithin t z ⊎ ((side_a t z <ℤ pos 0) ⊎ ((side_b t z <ℤ pos 0) ⊎ (side_c t z <ℤ pos 0)))
 decide_within t z =
     by_lt_z (side_a t z) (pos 0) (λ l. inr (inl l)) (λ a.
     by_lt_z (side_b t z) (pos 0) (λ l. inr (inr (inl l))) (λ b.
     by_lt_z (side_c t z) (pos 0) (λ l. inr (inr (inr l))) (λ c. inl (a, b, c))))
 
-far_one : (t : Tile) (z y : Vector) → (side_a t z <ℤ pos 0) ⊎ ((side_b t z <ℤ pos 0) ⊎ (side_c t z <ℤ pos 0)) → (m : ℤ) × (pos 0 ≤ℤ m) × ((n : ℤ) → m ≤ℤ n → IsWithin t (near n z y) → ⊥)
+far_one : (t : Tile) (z y : Vector)
+    → (side_a t z <ℤ pos 0) ⊎ ((side_b t z <ℤ pos 0) ⊎ (side_c t z <ℤ pos 0))
+    → (m : ℤ) × (pos 0 ≤ℤ m) × ((n : ℤ) → m ≤ℤ n → IsWithin t (near n z y) → ⊥)
 far_one t z y (inl h) = let f = far_side z y _ h in (f.0, f.1, λ n k w. f.2 n k w.0)
 far_one t z y (inr (inl h)) = let f = far_side z y _ h in (f.0, f.1, λ n k w. f.2 n k w.1)
 far_one t z y (inr (inr h)) = let f = far_side z y _ h in (f.0, f.1, λ n k w. f.2 n k w.2)
 
 -- z is within one of the triangles, or they are far from it
-within_or_far : (z y : Vector) (ts : List Tile) → ((t : Tile) × Has t ts × IsWithin t z) ⊎ IsFar z y ts
+within_or_far : (z y : Vector) (ts : List Tile)
+    → ((t : Tile) × Has t ts × IsWithin t z) ⊎ IsFar z y ts
 within_or_far z y [] = inr (record { from = pos 0; least = omega (arith, ints); far = λ n k t m w. m })
 within_or_far z y (t ∷ ts) = elim (within_or_far z y ts) [
   | inl h ↦ inl (h.0, inr h.1, h.2)
@@ -94,7 +103,8 @@ within_or_far z y (t ∷ ts) = elim (within_or_far z y ts) [
   ]
 ]
 
-pub tiles_closed : (w : ℤ) (z y : Vector) (ts : List Tile) → Place z → Place y → IsTiled w ts → ((n : ℤ) → pos 0 ≤ℤ n → InSomeTile ts (near n z y)) → InSomeTile ts z
+pub tiles_closed : (w : ℤ) (z y : Vector) (ts : List Tile) → Place z → Place y → IsTiled w ts
+    → ((n : ℤ) → pos 0 ≤ℤ n → InSomeTile ts (near n z y)) → InSomeTile ts z
 tiles_closed w z y ts Z Y tiled h = elim (within_or_far z y ts) [
   | inl k ↦ (k.0, k.1, within_triangle k.0 z Z (left k.0 k.1) k.2)
   | inr f ↦
@@ -105,12 +115,14 @@ tiles_closed w z y ts Z Y tiled h = elim (within_or_far z y ts) [
     left : (t : Tile) → Has t ts → IsLeftTile t
     left t m = (each_has (λ u. IsLeftTile u × IsSteep w u) ts t tiled m).0
 
-not_within : (t : Tile) (z : Vector) → (side_a t z <ℤ pos 0) ⊎ ((side_b t z <ℤ pos 0) ⊎ (side_c t z <ℤ pos 0)) → IsWithin t z → ⊥
+not_within : (t : Tile) (z : Vector)
+    → (side_a t z <ℤ pos 0) ⊎ ((side_b t z <ℤ pos 0) ⊎ (side_c t z <ℤ pos 0)) → IsWithin t z → ⊥
 not_within t z (inl h) w = let x = w.0 in omega (arith, ints, x, h)
 not_within t z (inr (inl h)) w = let x = w.1 in omega (arith, ints, x, h)
 not_within t z (inr (inr h)) w = let x = w.2 in omega (arith, ints, x, h)
 
-pub decide_in_some : (w : ℤ) (z : Vector) (ts : List Tile) → Place z → IsTiled w ts → Decided (InSomeTile ts z)
+pub decide_in_some : (w : ℤ) (z : Vector) (ts : List Tile) → Place z → IsTiled w ts
+    → Decided (InSomeTile ts z)
 decide_in_some w z [] Z h = inr (λ s. s.1)
 decide_in_some w z (t ∷ ts) Z h = elim (decide_in_some w z ts Z h.1) [
   | inl s ↦ inl (s.0, inr s.1, s.2)
@@ -124,12 +136,14 @@ decide_in_some w z (t ∷ ts) Z h = elim (decide_in_some w z ts Z h.1) [
 ]
 
 -- ---- parts of a list of signs
-parts_lower : (f : ℕ → ℤ) (xs ys : List ℕ) → Parts f (length xs) (xs ++ ys) → (e : ℕ) → Has e xs → pos 0 <ℤ f e
+parts_lower : (f : ℕ → ℤ) (xs ys : List ℕ) → Parts f (length xs) (xs ++ ys) → (e : ℕ) → Has e xs
+    → pos 0 <ℤ f e
 parts_lower f [] ys h e m = absurd m
 parts_lower f (x ∷ xs) ys h e (inl q) = subst (λ (d : ℕ). pos 0 <ℤ f d) (sym q) h.0
 parts_lower f (x ∷ xs) ys h e (inr m) = parts_lower f xs ys h.1 e m
 
-parts_upper : (f : ℕ → ℤ) (xs ys : List ℕ) → Parts f (length xs) (xs ++ ys) → (e : ℕ) → Has e ys → f e <ℤ pos 0
+parts_upper : (f : ℕ → ℤ) (xs ys : List ℕ) → Parts f (length xs) (xs ++ ys) → (e : ℕ) → Has e ys
+    → f e <ℤ pos 0
 parts_upper f [] [] h e m = absurd m
 parts_upper f [] (y ∷ ys) h e (inl q) = subst (λ (d : ℕ). f d <ℤ pos 0) (sym q) h.0
 parts_upper f [] (y ∷ ys) h e (inr m) = parts_upper f [] ys h.1 e m
@@ -139,12 +153,14 @@ length_fits : (xs ys : List ℕ) → length xs ≤ length (xs ++ ys)
 length_fits [] ys = omega arith
 length_fits (x ∷ xs) ys = let k = length_fits xs ys in omega (arith, k)
 
-inside_strip : (r : Replay) (k : ℕ) (z : Vector) → k ≤ r.steps → IsBetweenEvents r k z → IsStrip r k z
+inside_strip : (r : Replay) (k : ℕ) (z : Vector) → k ≤ r.steps → IsBetweenEvents r k z
+    → IsStrip r k z
 inside_strip r k z h i = record { fits = h; from = λ (j : ℕ) (a : j < k). let x = i.from j a in omega (arith, ints, x); to = i.to }
 
 module _ (r : Replay) (whole : IsWhole r) (lab : Labels) (matched : IsMatched r lab) where
   -- a place in the closure of a cell with the tube's label is in the tube
-  pub close_in_tube : (t : ℕ) (a : Point) (b : Bay) (bs : List Bay) (hs : List Half) → IsDrawnTube r lab t a b bs hs
+  pub close_in_tube : (t : ℕ) (a : Point) (b : Bay) (bs : List Bay) (hs : List Half)
+      → IsDrawnTube r lab t a b bs hs
       → (k : ℕ) (lower upper : List ℕ) (z : Vector) → Place z → IsClose r k lower upper z → last_label lab 0 lower ≡ t → InSomeTile (tiles a (b ∷ bs)) z
   close_in_tube t a b bs hs tube k lower upper z Z close label =
       let c = centre r whole.run whole.law (record { strip = k; index = length lower })
@@ -158,14 +174,17 @@ module _ (r : Replay) (whole : IsWhole r) (lab : Labels) (matched : IsMatched r 
       (λ e m. not_over n (side (r.edge e) z) (side (r.edge e) y) (side (r.edge e) (near n z y)) h (close.over e m) (parts_upper (sides r y) lower upper parts e m) (near_side n z y (r.edge e)))
       label)
     where
-      strictly : (n x y v : ℤ) → pos 0 ≤ℤ n → pos 0 ≤ℤ x → pos 0 <ℤ y → v ≡ (n *ℤ x) +ℤ y → pos 0 <ℤ v
+      strictly : (n x y v : ℤ) → pos 0 ≤ℤ n → pos 0 ≤ℤ x → pos 0 <ℤ y → v ≡ (n *ℤ x) +ℤ y
+          → pos 0 <ℤ v
       strictly n x y v h a b e = let p = times_le n (pos 0) x h a in let q : n *ℤ pos 0 ≡ pos 0 = omega (arith, ints) in omega (arith, ints, p, q, b, e)
 
-      not_over : (n x y v : ℤ) → pos 0 ≤ℤ n → x ≤ℤ pos 0 → y <ℤ pos 0 → v ≡ (n *ℤ x) +ℤ y → v ≤ℤ pos 0
+      not_over : (n x y v : ℤ) → pos 0 ≤ℤ n → x ≤ℤ pos 0 → y <ℤ pos 0 → v ≡ (n *ℤ x) +ℤ y
+          → v ≤ℤ pos 0
       not_over n x y v h a b e = let p = times_le n x (pos 0) h a in let q : n *ℤ pos 0 ≡ pos 0 = omega (arith, ints) in omega (arith, ints, p, q, b, e)
 
   -- the cell of a place off the edges has the label of each closure that the place is in
-  pub close_label : (k : ℕ) (lower upper : List ℕ) (z : Vector) → Place z → IsOffEdges r z → IsClose r k lower upper z → label_of lab r (sector r z) ≡ last_label lab 0 lower
+  pub close_label : (k : ℕ) (lower upper : List ℕ) (z : Vector) → Place z → IsOffEdges r z
+      → IsClose r k lower upper z → label_of lab r (sector r z) ≡ last_label lab 0 lower
   close_label k lower upper z Z off close =
       here ∙ floor_is r lab z k lower upper close.is
       (λ e m. let b = close.beneath e m in let n = not_on e (subst (λ (es : List ℕ). Has e es) (sym close.is) (has_front e lower upper m)) in by_lt_z (pos 0) (side (r.edge e) z) (λ l. l) (λ (l : side (r.edge e) z ≤ℤ pos 0). absurd (n (omega (arith, ints, l, b)))))

@@ -1,14 +1,17 @@
 -- A triangle that turns left goes round a place once or not at all, and once only where it holds the place.
-use Rattle.std.proofs.Common.{◌≡◌, ℤ, pos, ◌+ℤ◌, ◌*ℤ◌, ◌-ℤ◌, ◌<ℤ◌, ◌≤ℤ◌, ◌⊎◌, [], ◌∷◌, refl, arith, ap, sym, ◌∙◌}
+use Rattle.std.proofs.Common.{◌≡◌, ℤ, pos, ◌+ℤ◌, ◌*ℤ◌, ◌-ℤ◌, ◌<ℤ◌, ◌≤ℤ◌, ◌⊎◌, [], ◌∷◌, refl, arith}
+use Rattle.std.proofs.Common.{ap, sym, ◌∙◌}
 use Rattle.std.proofs.lemmas.Int.{ints}
 use Rattle.plane.specs.declared.kinds.Point.{Point}
 use Rattle.plane.specs.Forms.Vectors.{Vector, Place, point, Edge, side, sweep}
 use Rattle.plane.specs.Faces.Cells.{is_positive}
-use Rattle.plane.specs.Tubes.Windings.{arrow, back, lead, turning, Tile, IsLeftTile, IsSteep, weighed, InTile, winding}
+use Rattle.plane.specs.Tubes.Windings.{arrow, back, lead, turning, Tile, IsLeftTile, IsSteep}
+use Rattle.plane.specs.Tubes.Windings.{weighed, InTile, winding}
 use Rattle.plane.proofs.Algebra.Laws.{product_positive, product_nonnegative, product_comm}
 use Rattle.plane.proofs.Algebra.Scaling.{cancel_le}
 use Rattle.plane.proofs.Linear.OnePlace.{side_same}
-use Rattle.plane.proofs.Windings.Turns.{IsBalanced, NotNegative, three, is_test, once_by, full_by, edge_by, turned_back}
+use Rattle.plane.proofs.Windings.Turns.{IsBalanced, NotNegative, three, is_test, once_by, full_by}
+use Rattle.plane.proofs.Windings.Turns.{edge_by, turned_back}
 use Rattle.plane.proofs.Algebra.Ring.{Expr, at, num, plus, minus, times, vars, ring}
 
 -- ---- the identities of a triangle
@@ -44,15 +47,18 @@ pub sides_sum : (t : Tile) (z : Vector) → (side_a t z +ℤ side_b t z) +ℤ si
 unfolding side
 sides_sum t z = ring (plus (plus of_c of_a) of_b) (times (at 8) whole) (vars (t.a.x ∷ t.a.y ∷ t.b.x ∷ t.b.y ∷ t.c.x ∷ t.c.y ∷ z.x ∷ z.y ∷ z.n ∷ [])) refl
 
-pub sides_x : (t : Tile) (z : Vector) → z.x *ℤ area t ≡ ((side_b t z *ℤ t.a.x) +ℤ (side_c t z *ℤ t.b.x)) +ℤ (side_a t z *ℤ t.c.x)
+pub sides_x : (t : Tile) (z : Vector)
+    → z.x *ℤ area t ≡ ((side_b t z *ℤ t.a.x) +ℤ (side_c t z *ℤ t.b.x)) +ℤ (side_a t z *ℤ t.c.x)
 unfolding side
 sides_x t z = ring (times (at 6) whole) (plus (plus (times of_a (at 0)) (times of_b (at 2))) (times of_c (at 4))) (vars (t.a.x ∷ t.a.y ∷ t.b.x ∷ t.b.y ∷ t.c.x ∷ t.c.y ∷ z.x ∷ z.y ∷ z.n ∷ [])) refl
 
-pub sides_y : (t : Tile) (z : Vector) → z.y *ℤ area t ≡ ((side_b t z *ℤ t.a.y) +ℤ (side_c t z *ℤ t.b.y)) +ℤ (side_a t z *ℤ t.c.y)
+pub sides_y : (t : Tile) (z : Vector)
+    → z.y *ℤ area t ≡ ((side_b t z *ℤ t.a.y) +ℤ (side_c t z *ℤ t.b.y)) +ℤ (side_a t z *ℤ t.c.y)
 unfolding side
 sides_y t z = ring (times (at 7) whole) (plus (plus (times of_a (at 1)) (times of_b (at 3))) (times of_c (at 5))) (vars (t.a.x ∷ t.a.y ∷ t.b.x ∷ t.b.y ∷ t.c.x ∷ t.c.y ∷ z.x ∷ z.y ∷ z.n ∷ [])) refl
 
-pub sides_lead : (w : ℤ) (t : Tile) (z : Vector) → ((side_b t z *ℤ lead w t.a z) +ℤ (side_c t z *ℤ lead w t.b z)) +ℤ (side_a t z *ℤ lead w t.c z) ≡ pos 0
+pub sides_lead : (w : ℤ) (t : Tile) (z : Vector)
+    → ((side_b t z *ℤ lead w t.a z) +ℤ (side_c t z *ℤ lead w t.b z)) +ℤ (side_a t z *ℤ lead w t.c z) ≡ pos 0
 unfolding side lead sweep
 sides_lead w t z =
     let l : Expr → Expr → Expr = λ x y. minus (times (plus (times (at 9) x) y) (at 8)) (plus (times (at 9) (at 6)) (at 7)) in
@@ -113,7 +119,8 @@ within_triangle t z Z left h =
       is = record { x = same_scaled z.x z.n (area t) _ _ e (sym (sides_x t z)); y = same_scaled z.y z.n (area t) _ _ e (sym (sides_y t z)) };
     }
 
-least_from : (n m a b c : ℤ) → pos 0 <ℤ n → pos 0 <ℤ m → pos 0 ≤ℤ b → pos 0 <ℤ c → n *ℤ a ≡ m *ℤ (b *ℤ c) → pos 0 ≤ℤ a
+least_from : (n m a b c : ℤ) → pos 0 <ℤ n → pos 0 <ℤ m → pos 0 ≤ℤ b → pos 0 <ℤ c
+    → n *ℤ a ≡ m *ℤ (b *ℤ c) → pos 0 ≤ℤ a
 least_from n m a b c N M hb hc e =
     let p = product_nonnegative b c hb (omega (arith, ints, hc)) in
     let q = product_nonnegative m (b *ℤ c) (omega (arith, ints, M)) p in
@@ -131,23 +138,27 @@ triangle_within t z Z left h =
     )
 
 -- ---- the winding
-balanced : (w : ℤ) (t : Tile) (z : Vector) → Place z → IsLeftTile t → IsBalanced (side_a t z) (side_b t z) (side_c t z) (lead w t.a z) (lead w t.b z) (lead w t.c z)
+balanced : (w : ℤ) (t : Tile) (z : Vector) → Place z → IsLeftTile t
+    → IsBalanced (side_a t z) (side_b t z) (side_c t z) (lead w t.a z) (lead w t.b z) (lead w t.c z)
 balanced w t z Z left =
     let s = sides_sum t z in
     let p = product_positive z.n (area t) Z left in
     record { sides = omega (arith, ints, s, p); leads = sides_lead w t z }
 
-winding_three : (w : ℤ) (t : Tile) (z : Vector) → winding w z t ≡ three (is_positive (lead w t.a z)) (is_positive (lead w t.b z)) (is_positive (lead w t.c z)) (side_a t z) (side_b t z) (side_c t z)
+winding_three : (w : ℤ) (t : Tile) (z : Vector)
+    → winding w z t ≡ three (is_positive (lead w t.a z)) (is_positive (lead w t.b z)) (is_positive (lead w t.c z)) (side_a t z) (side_b t z) (side_c t z)
 unfolding turning
 winding_three w t z = refl
 
 -- a triangle goes round a place not at all, or once, and then holds it
-pub winding_once : (w : ℤ) (t : Tile) (z : Vector) → Place z → IsLeftTile t → (winding w z t ≡ pos 0) ⊎ ((winding w z t ≡ pos 1) × IsWithin t z)
+pub winding_once : (w : ℤ) (t : Tile) (z : Vector) → Place z → IsLeftTile t
+    → (winding w z t ≡ pos 0) ⊎ ((winding w z t ≡ pos 1) × IsWithin t z)
 winding_once w t z Z left =
     once_by _ _ _ (side_a t z) (side_b t z) (side_c t z) (lead w t.a z) (lead w t.b z) (lead w t.c z) (winding w z t) (balanced w t z Z left)
     (is_test (lead w t.a z)) (is_test (lead w t.b z)) (is_test (lead w t.c z)) (winding_three w t z)
 
-pub lead_level : (w : ℤ) (p q : Point) (z : Vector) → Place z → lead w p z ≡ lead w q z → sweep w (point p) ≡ sweep w (point q)
+pub lead_level : (w : ℤ) (p q : Point) (z : Vector) → Place z → lead w p z ≡ lead w q z
+    → sweep w (point p) ≡ sweep w (point q)
 unfolding lead
 lead_level w p q z Z h =
     let a = product_comm (sweep w (point p)) z.n in
@@ -157,13 +168,15 @@ lead_level w p q z Z h =
     omega (arith, ints, x, y)
 
 -- it goes once round a place strictly within it
-pub winding_full : (w : ℤ) (t : Tile) (z : Vector) → Place z → IsLeftTile t → IsSteep w t → pos 0 <ℤ side_a t z → pos 0 <ℤ side_b t z → pos 0 <ℤ side_c t z → winding w z t ≡ pos 1
+pub winding_full : (w : ℤ) (t : Tile) (z : Vector) → Place z → IsLeftTile t → IsSteep w t
+    → pos 0 <ℤ side_a t z → pos 0 <ℤ side_b t z → pos 0 <ℤ side_c t z → winding w z t ≡ pos 1
 winding_full w t z Z left steep a b c =
     full_by _ _ _ (side_a t z) (side_b t z) (side_c t z) (lead w t.a z) (lead w t.b z) (lead w t.c z) (winding w z t) (balanced w t z Z left) a b c
     (λ e. steep.ab (lead_level w t.a t.b z Z e)) (is_test (lead w t.a z)) (is_test (lead w t.b z)) (is_test (lead w t.c z)) (winding_three w t z)
 
 -- and once round a place of its first arrow, if that goes against the sweep
-pub winding_edge : (w : ℤ) (t : Tile) (z : Vector) → side_a t z ≡ pos 0 → pos 0 <ℤ side_b t z → pos 0 <ℤ side_c t z
+pub winding_edge : (w : ℤ) (t : Tile) (z : Vector) → side_a t z ≡ pos 0 → pos 0 <ℤ side_b t z
+    → pos 0 <ℤ side_c t z
     → pos 0 <ℤ lead w t.a z → lead w t.b z ≤ℤ pos 0 → winding w z t ≡ pos 1
 winding_edge w t z a b c la lb =
     edge_by _ _ _ (side_a t z) (side_b t z) (side_c t z) (lead w t.a z) (lead w t.b z) (lead w t.c z) (winding w z t) a b c la lb

@@ -1,5 +1,6 @@
 -- The triangles of a tube in a run are steep: their corners are events, and no two events have one sweep value.
-use Rattle.std.proofs.Common.{◌≡◌, ℕ, ◌<◌, ◌≤◌, List, [], ◌∷◌, map, ℤ, pos, ◌<ℤ◌, refl, arith, ap, sym, ◌∙◌, subst, inl, inr}
+use Rattle.std.proofs.Common.{◌≡◌, ℕ, ◌<◌, ◌≤◌, List, [], ◌∷◌, map, ℤ, pos, ◌<ℤ◌, refl, arith, ap}
+use Rattle.std.proofs.Common.{sym, ◌∙◌, subst, inl, inr}
 use Rattle.std.proofs.lemmas.Int.{ints}
 use Rattle.plane.specs.declared.kinds.Point.{Point}
 use Rattle.plane.specs.Lists.{Each, Has}
@@ -8,7 +9,8 @@ use Rattle.plane.specs.Faces.Replays.{Replay, reach}
 use Rattle.plane.proofs.Runs.RunWords.{IsRun}
 use Rattle.plane.specs.Faces.Halves.{Half, under, over, edge_of}
 use Rattle.plane.specs.Tubes.Bays.{Bay}
-use Rattle.plane.specs.Tubes.Windings.{arrow, Tile, IsLeftTile, IsSteep, IsTiled, strips, tiles, fence, bounds}
+use Rattle.plane.specs.Tubes.Windings.{arrow, Tile, IsLeftTile, IsSteep, IsTiled, strips, tiles}
+use Rattle.plane.specs.Tubes.Windings.{fence, bounds}
 use Rattle.plane.specs.Tubes.Facing.{way}
 use Rattle.plane.proofs.Algebra.Ring.{at, num, minus, times, vars, ring}
 use Rattle.plane.proofs.Linear.Vectors.{side-low, side-high}
@@ -23,7 +25,8 @@ module _ (Q : Point → Type 0) where
   starts p u [] h = h (arrow p u) (inl refl)
   starts p u (k ∷ ks) h = h (arrow p k.inner) (inl refl)
 
-  strips_corners : (p u : Point) (ks : List Bay) → Q u → ((e : Edge) → Has e (fence p u ks) → Q e.low) → Each HasCorners (strips p u ks)
+  strips_corners : (p u : Point) (ks : List Bay) → Q u
+      → ((e : Edge) → Has e (fence p u ks) → Q e.low) → Each HasCorners (strips p u ks)
   strips_corners p u [] q h = tt
   strips_corners p u (k ∷ ks) q h =
       let later : (e : Edge) → Has e (fence k.inner k.outer ks) → Q e.low = λ e m. h e (inr (inr m)) in
@@ -31,7 +34,8 @@ module _ (Q : Point → Type 0) where
       let s = starts p u (k ∷ ks) h in
       ((q, s, o), ((s, starts k.inner k.outer ks later, o), strips_corners k.inner k.outer ks o later))
 
-  pub tiles_corners : (a : Point) (ks : List Bay) → ((e : Edge) → Has e (bounds a ks) → Q e.low) → Each (λ t. Q t.a × Q t.b × Q t.c) (tiles a ks)
+  pub tiles_corners : (a : Point) (ks : List Bay) → ((e : Edge) → Has e (bounds a ks) → Q e.low)
+      → Each (λ t. Q t.a × Q t.b × Q t.c) (tiles a ks)
   tiles_corners a [] h = tt
   tiles_corners a (k ∷ ks) h =
       let later : (e : Edge) → Has e (fence k.inner k.outer ks) → Q e.low = λ e m. h e (inr (inr m)) in
@@ -66,7 +70,8 @@ module _ (r : Replay) (run : IsRun r) where
   ahead a b c d e f l g = omega (arith, ints, e, f, l, g)
 
   -- two events with one sweep value are one
-  event_level : (p q : Point) → IsEvent p → IsEvent q → sweep r.weight (point p) ≡ sweep r.weight (point q) → p ≡ q
+  event_level : (p q : Point) → IsEvent p → IsEvent q
+      → sweep r.weight (point p) ≡ sweep r.weight (point q) → p ≡ q
   event_level p q a b e =
       by_order a.0 b.0
       (λ (l : a.0 < b.0). absurd (ahead (reach r a.0) (reach r b.0) _ _ (value a) (value b) (run.rising a.0 b.0 l b.1) e))
@@ -88,15 +93,19 @@ module _ (r : Replay) (run : IsRun r) where
     ca = λ e. ca_differ t l (event_level t.c t.a h.2 h.0 e);
   }
 
-  all_steep : (ts : List Tile) → Each (λ t. IsLeftTile t) ts → Each (λ t. IsEvent t.a × IsEvent t.b × IsEvent t.c) ts → IsTiled r.weight ts
+  all_steep : (ts : List Tile) → Each (λ t. IsLeftTile t) ts
+      → Each (λ t. IsEvent t.a × IsEvent t.b × IsEvent t.c) ts → IsTiled r.weight ts
   all_steep [] l h = tt
   all_steep (t ∷ ts) l h = ((l.0, steep t l.0 h.0), all_steep ts l.1 h.1)
 
   -- where the bounds are half-edges of the run, and the triangles turn left
-  pub tiled : (a : Point) (ks : List Bay) (hs : List Half) → bounds a ks ≡ map (way r.edge) hs → ((h : Half) → Has h hs → edge_of h < r.edges) → Each (λ t. IsLeftTile t) (tiles a ks) → IsTiled r.weight (tiles a ks)
+  pub tiled : (a : Point) (ks : List Bay) (hs : List Half) → bounds a ks ≡ map (way r.edge) hs
+      → ((h : Half) → Has h hs → edge_of h < r.edges) → Each (λ t. IsLeftTile t) (tiles a ks)
+      → IsTiled r.weight (tiles a ks)
   tiled a ks hs e fits left = all_steep (tiles a ks) left (tiles_corners IsEvent a ks (λ f m. begin f hs fits (subst (λ (es : List Edge). Has f es) e m)))
     where
-      begin : (f : Edge) (gs : List Half) → ((h : Half) → Has h gs → edge_of h < r.edges) → Has f (map (way r.edge) gs) → IsEvent f.low
+      begin : (f : Edge) (gs : List Half) → ((h : Half) → Has h gs → edge_of h < r.edges)
+          → Has f (map (way r.edge) gs) → IsEvent f.low
       begin f [] fs m = absurd m
       begin f (g ∷ gs) fs (inl q) = subst (λ (x : Edge). IsEvent x.low) (sym q) (way_event g (fs g (inl refl)))
       begin f (g ∷ gs) fs (inr m) = begin f gs (λ h n. fs h (inr n)) m

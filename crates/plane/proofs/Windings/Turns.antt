@@ -1,5 +1,6 @@
 -- How often three arrows go round a place, from the three sides of the place and the leads of the corners.
-use Rattle.std.proofs.Common.{◌≡◌, Bool, true, false, cond, ℤ, pos, negsuc, ◌+ℤ◌, ◌*ℤ◌, ◌-ℤ◌, ◌<ℤ◌, ◌≤ℤ◌, ◌⊎◌, inl, inr, [], ◌∷◌, refl, arith, ap, sym, ◌∙◌, subst}
+use Rattle.std.proofs.Common.{◌≡◌, Bool, true, false, cond, ℤ, pos, negsuc, ◌+ℤ◌, ◌*ℤ◌, ◌-ℤ◌, ◌<ℤ◌}
+use Rattle.std.proofs.Common.{◌≤ℤ◌, ◌⊎◌, inl, inr, [], ◌∷◌, refl, arith, ap, sym, ◌∙◌, subst}
 use Rattle.std.proofs.lemmas.Int.{ints, by_lt_z}
 use Rattle.plane.specs.Faces.Cells.{is_positive}
 use Rattle.plane.specs.Tubes.Windings.{turned}
@@ -142,7 +143,8 @@ is_test x = by_lt_z (pos 0) x
 abbrev pub three : Bool → Bool → Bool → ℤ → ℤ → ℤ → ℤ
 three s t u A B C = (turned s t A +ℤ turned t u B) +ℤ turned u s C
 
-pub once_by : (s t u : Bool) (A B C a b c n : ℤ) → IsBalanced A B C a b c → IsTest s a → IsTest t b → IsTest u c → n ≡ three s t u A B C → OnceOrNot n A B C
+pub once_by : (s t u : Bool) (A B C a b c n : ℤ) → IsBalanced A B C a b c → IsTest s a → IsTest t b
+    → IsTest u c → n ≡ three s t u A B C → OnceOrNot n A B C
 once_by true true true A B C a b c n h ha hb hc e = inl (omega (arith, ints, e))
 once_by false false false A B C a b c n h ha hb hc e = inl (omega (arith, ints, e))
 once_by false true true A B C a b c n h ha hb hc e = first_alone A B C a b c n h ha hb hc e
@@ -157,7 +159,8 @@ once_by false true false A B C a b c n h ha hb hc e =
     once_next n A B C (once_next n B C A (first_two C A B c a b n (balanced_next B C A b c a (balanced_next A B C a b c h)) hc ha hb (omega (arith, ints, e))))
 
 -- strictly within all three sides
-pub full_by : (s t u : Bool) (A B C a b c n : ℤ) → IsBalanced A B C a b c → pos 0 <ℤ A → pos 0 <ℤ B → pos 0 <ℤ C → (a ≡ b → ⊥)
+pub full_by : (s t u : Bool) (A B C a b c n : ℤ) → IsBalanced A B C a b c → pos 0 <ℤ A → pos 0 <ℤ B
+    → pos 0 <ℤ C → (a ≡ b → ⊥)
     → IsTest s a → IsTest t b → IsTest u c → n ≡ three s t u A B C → n ≡ pos 1
 full_by s t u A B C a b c n h pA pB pC steep = go s t u
   where
@@ -205,7 +208,8 @@ full_by s t u A B C a b c n h pA pB pC steep = go s t u
     go false true false ha hb hc e = omega (arith, ints, e, rA, lB)
 
 -- on the first side, which goes against the sweep
-pub edge_by : (s t u : Bool) (A B C a b c n : ℤ) → A ≡ pos 0 → pos 0 <ℤ B → pos 0 <ℤ C → pos 0 <ℤ a → b ≤ℤ pos 0
+pub edge_by : (s t u : Bool) (A B C a b c n : ℤ) → A ≡ pos 0 → pos 0 <ℤ B → pos 0 <ℤ C → pos 0 <ℤ a
+    → b ≤ℤ pos 0
     → IsTest s a → IsTest t b → IsTest u c → n ≡ three s t u A B C → n ≡ pos 1
 edge_by true false true A B C a b c n z pB pC la lb ha hb hc e = let x = left_none A (omega (arith, ints, z)) in let y = right_one B pB in omega (arith, ints, e, x, y)
 edge_by true false false A B C a b c n z pB pC la lb ha hb hc e = let x = left_none A (omega (arith, ints, z)) in let y = right_one C pC in omega (arith, ints, e, x, y)

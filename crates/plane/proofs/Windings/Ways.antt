@@ -1,5 +1,6 @@
 -- Places of a segment as mixes of its ends, and closures of cells along it.
-use Rattle.std.proofs.Common.{◌≡◌, ℕ, ◌<◌, ◌≤◌, List, [], ◌∷◌, ◌++◌, length, ℤ, pos, ◌+ℤ◌, ◌*ℤ◌, ◌<ℤ◌, ◌≤ℤ◌, ◌⊎◌, inl, inr, refl, arith, ap, sym, ◌∙◌, subst}
+use Rattle.std.proofs.Common.{◌≡◌, ℕ, ◌<◌, ◌≤◌, List, [], ◌∷◌, ◌++◌, length, ℤ, pos, ◌+ℤ◌, ◌*ℤ◌}
+use Rattle.std.proofs.Common.{◌<ℤ◌, ◌≤ℤ◌, ◌⊎◌, inl, inr, refl, arith, ap, sym, ◌∙◌, subst}
 use Rattle.std.proofs.lemmas.Int.{ints}
 use Rattle.plane.specs.Lists.{Has}
 use Rattle.plane.specs.Forms.Vectors.{Vector, Place, mix, side, sweep}
@@ -16,16 +17,19 @@ use Rattle.plane.proofs.Strips.ToTheRight.{IsClosed}
 use Rattle.plane.proofs.Windings.Closures.{IsClose}
 
 -- ---- mixes of mixes
-mix_mix : (a s t b m n : ℤ) (p q : Vector) → mix a (mix s p t q) b (mix m p n q) ≡ mix ((a *ℤ s) +ℤ (b *ℤ m)) p ((a *ℤ t) +ℤ (b *ℤ n)) q
+mix_mix : (a s t b m n : ℤ) (p q : Vector)
+    → mix a (mix s p t q) b (mix m p n q) ≡ mix ((a *ℤ s) +ℤ (b *ℤ m)) p ((a *ℤ t) +ℤ (b *ℤ n)) q
 mix_mix a s t b m n p q = vector_eq _ _ (one a s t b m n p.x q.x) (one a s t b m n p.y q.y) (one a s t b m n p.n q.n)
   where
-    one : (a s t b m n x y : ℤ) → (a *ℤ ((s *ℤ x) +ℤ (t *ℤ y))) +ℤ (b *ℤ ((m *ℤ x) +ℤ (n *ℤ y))) ≡ (((a *ℤ s) +ℤ (b *ℤ m)) *ℤ x) +ℤ (((a *ℤ t) +ℤ (b *ℤ n)) *ℤ y)
+    one : (a s t b m n x y : ℤ)
+        → (a *ℤ ((s *ℤ x) +ℤ (t *ℤ y))) +ℤ (b *ℤ ((m *ℤ x) +ℤ (n *ℤ y))) ≡ (((a *ℤ s) +ℤ (b *ℤ m)) *ℤ x) +ℤ (((a *ℤ t) +ℤ (b *ℤ n)) *ℤ y)
     one a s t b m n x y =
         ring (plus (times (at 0) (plus (times (at 1) (at 6)) (times (at 2) (at 7)))) (times (at 3) (plus (times (at 4) (at 6)) (times (at 5) (at 7)))))
         (plus (times (plus (times (at 0) (at 1)) (times (at 3) (at 4))) (at 6)) (times (plus (times (at 0) (at 2)) (times (at 3) (at 5))) (at 7)))
         (vars (a ∷ s ∷ t ∷ b ∷ m ∷ n ∷ x ∷ y ∷ [])) refl
 
-pub way_mix : (p q u v : Vector) (a b : ℤ) → pos 0 ≤ℤ a → pos 0 ≤ℤ b → pos 0 <ℤ (a +ℤ b) → IsOnWay p q u → IsOnWay p q v → IsOnWay p q (mix a u b v)
+pub way_mix : (p q u v : Vector) (a b : ℤ) → pos 0 ≤ℤ a → pos 0 ≤ℤ b → pos 0 <ℤ (a +ℤ b)
+    → IsOnWay p q u → IsOnWay p q v → IsOnWay p q (mix a u b v)
 way_mix p q u v a b ha hb some x y =
     let c = product_nonnegative a x.s ha x.s_least in
     let d = product_nonnegative a x.t ha x.t_least in
@@ -58,7 +62,8 @@ regroup : (c s a t b : ℤ) → c *ℤ ((s *ℤ a) +ℤ (t *ℤ b)) ≡ (s *ℤ 
 regroup c s a t b = ring (times (at 0) (plus (times (at 1) (at 2)) (times (at 3) (at 4)))) (plus (times (at 1) (times (at 0) (at 2))) (times (at 3) (times (at 0) (at 4))))
     (vars (c ∷ s ∷ a ∷ t ∷ b ∷ [])) refl
 
-pub closed_mix : (r : Replay) (k : ℕ) (u v : Vector) (s t : ℤ) → pos 0 ≤ℤ s → pos 0 ≤ℤ t → IsClosed r k u → IsClosed r k v → IsClosed r k (mix s u t v)
+pub closed_mix : (r : Replay) (k : ℕ) (u v : Vector) (s t : ℤ) → pos 0 ≤ℤ s → pos 0 ≤ℤ t
+    → IsClosed r k u → IsClosed r k v → IsClosed r k (mix s u t v)
 closed_mix r k u v s t hs ht a b = record {
   from = λ (j : ℕ) (l : j < k).
       let m = sweep-mix r.weight s u t v in
@@ -74,7 +79,9 @@ closed_mix r k u v s t hs ht a b = record {
       omega (arith, ints, m, x, y, e);
 }
 
-pub close_mix : (r : Replay) (k : ℕ) (lower upper : List ℕ) (u v : Vector) (s t : ℤ) → pos 0 ≤ℤ s → pos 0 ≤ℤ t → IsClose r k lower upper u → IsClose r k lower upper v → IsClose r k lower upper (mix s u t v)
+pub close_mix : (r : Replay) (k : ℕ) (lower upper : List ℕ) (u v : Vector) (s t : ℤ) → pos 0 ≤ℤ s
+    → pos 0 ≤ℤ t → IsClose r k lower upper u → IsClose r k lower upper v
+    → IsClose r k lower upper (mix s u t v)
 close_mix r k lower upper u v s t hs ht a b = record {
   fits = a.fits;
   closed = closed_mix r k u v s t hs ht a.closed b.closed;
@@ -102,7 +109,8 @@ head [] = 0
 head (x ∷ xs) = x
 
 -- the shorter front of a list is a part of the longer one
-pub front_in : (xs ys zs ws : List ℕ) → xs ++ ys ≡ zs ++ ws → length xs ≤ length zs → (e : ℕ) → Has e xs → Has e zs
+pub front_in : (xs ys zs ws : List ℕ) → xs ++ ys ≡ zs ++ ws → length xs ≤ length zs → (e : ℕ)
+    → Has e xs → Has e zs
 front_in [] ys zs ws q l e m = absurd m
 front_in (x ∷ xs) ys [] ws q l e m = absurd (omega arith)
 front_in (x ∷ xs) ys (z ∷ zs) ws q l e (inl h) = inl (h ∙ ap head q)

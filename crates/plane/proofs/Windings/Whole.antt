@@ -1,5 +1,6 @@
 -- A place of an edge that is no event: it cuts the live list in the edges below, that edge, and the edges above.
-use Rattle.std.proofs.Common.{◌≡◌, ℕ, ◌<◌, ◌≤◌, List, [], ◌∷◌, ◌++◌, length, ℤ, pos, ◌*ℤ◌, ◌<ℤ◌, ◌≤ℤ◌, inl, inr, refl, arith, ap, sym, subst}
+use Rattle.std.proofs.Common.{◌≡◌, ℕ, ◌<◌, ◌≤◌, List, [], ◌∷◌, ◌++◌, length, ℤ, pos, ◌*ℤ◌, ◌<ℤ◌}
+use Rattle.std.proofs.Common.{◌≤ℤ◌, inl, inr, refl, arith, ap, sym, subst}
 use Rattle.std.proofs.lemmas.Int.{ints, by_lt_z}
 use Rattle.plane.specs.Lists.{Has, Neighbours, Once}
 use Rattle.plane.specs.Forms.Vectors.{Vector, Place, Same, point, Edge, side, sweep, rise, lift, On}
@@ -12,13 +13,15 @@ use Rattle.plane.proofs.ListLemmas.Lists.{each_has, each_from, each_append}
 use Rattle.plane.proofs.Linear.Signs.{by_sign}
 use Rattle.plane.proofs.Runs.LiveEdges.{side_through_low}
 use Rattle.plane.proofs.Runs.Moments.{moment}
-use Rattle.plane.proofs.Runs.Order.{under_higher, untouched_rises, untouched_order, event_sides, higher_side, lower_side}
+use Rattle.plane.proofs.Runs.Order.{under_higher, untouched_rises, untouched_order, event_sides}
+use Rattle.plane.proofs.Runs.Order.{higher_side, lower_side}
 use Rattle.plane.proofs.Runs.Places.{all_over, then_under, raised, inner_order}
 use Rattle.plane.proofs.Runs.Numbered.{nth, cut_at, late, swept_run}
 use Rattle.plane.proofs.Runs.Lawful.{at_step, swept_lawful}
 use Rattle.plane.proofs.Runs.Meeting.{event_is_end, live_once, same_place}
 
-pub crossed_order : (w : ℤ) (m : ℕ) (E : ℕ → Edge) (done todo : List Step) (z : Vector) → WeighedRun w m E (onto done todo) → IsAt w done todo z → Place z
+pub crossed_order : (w : ℤ) (m : ℕ) (E : ℕ → Edge) (done todo : List Step) (z : Vector)
+    → WeighedRun w m E (onto done todo) → IsAt w done todo z → Place z
     → ((s : Step) → Has s done → Same z (point s.at) → ⊥) → Neighbours (Over E z) (live done)
 crossed_order w m E [] todo z all i hz off = tt
 crossed_order w m E (s ∷ done) todo z all i hz off =
@@ -53,12 +56,14 @@ pub record IsCutAt (E : ℕ → Edge) (z : Vector) (f : ℕ) (xs : List ℕ) : T
   pub beneath : (e : ℕ) → Has e lower → pos 0 <ℤ side (E e) z
   pub over : (e : ℕ) → Has e upper → side (E e) z <ℤ pos 0
 
-all_above : (E : ℕ → Edge) (z : Vector) (x : ℕ) (xs : List ℕ) → Neighbours (Over E z) (x ∷ xs) → side (E x) z ≤ℤ pos 0 → (e : ℕ) → Has e xs → side (E e) z <ℤ pos 0
+all_above : (E : ℕ → Edge) (z : Vector) (x : ℕ) (xs : List ℕ) → Neighbours (Over E z) (x ∷ xs)
+    → side (E x) z ≤ℤ pos 0 → (e : ℕ) → Has e xs → side (E e) z <ℤ pos 0
 all_above E z x [] h l e m = absurd m
 all_above E z x (y ∷ ys) h l e (inl q) = subst (λ (c : ℕ). side (E c) z <ℤ pos 0) (sym q) (under_higher E z x y h.0 l)
 all_above E z x (y ∷ ys) h l e (inr m) = let k = under_higher E z x y h.0 l in all_above E z y ys h.1 (omega (arith, ints, k)) e m
 
-pub cut_edge : (E : ℕ → Edge) (z : Vector) (f : ℕ) (xs : List ℕ) → Neighbours (Over E z) xs → Has f xs → side (E f) z ≡ pos 0 → IsCutAt E z f xs
+pub cut_edge : (E : ℕ → Edge) (z : Vector) (f : ℕ) (xs : List ℕ) → Neighbours (Over E z) xs
+    → Has f xs → side (E f) z ≡ pos 0 → IsCutAt E z f xs
 cut_edge E z f [] h m q = absurd m
 cut_edge E z f (x ∷ xs) h (inl e) q = record {
   lower = [];
@@ -72,7 +77,8 @@ cut_edge E z f (x ∷ xs) h (inr m) q =
     let l = raised E z x f xs h m (omega (arith, ints, q)) in
     record { lower = x ∷ r.lower; upper = r.upper; is = ap (λ (ys : List ℕ). x ∷ ys) r.is; beneath = λ d k. first r.lower d k l r.beneath; over = r.over }
   where
-    first : (ys : List ℕ) (d : ℕ) → Has d (x ∷ ys) → pos 0 <ℤ side (E x) z → ((e : ℕ) → Has e ys → pos 0 <ℤ side (E e) z) → pos 0 <ℤ side (E d) z
+    first : (ys : List ℕ) (d : ℕ) → Has d (x ∷ ys) → pos 0 <ℤ side (E x) z
+        → ((e : ℕ) → Has e ys → pos 0 <ℤ side (E e) z) → pos 0 <ℤ side (E d) z
     first ys d (inl e) l f = subst (λ (y : ℕ). pos 0 <ℤ side (E y) z) (sym e) l
     first ys d (inr k) l f = f d k
 
@@ -81,11 +87,16 @@ pub record IsWhole (r : Replay) : Type 0 where
   pub run : IsRun r
   pub law : IsLawful r
   pub once : (k : ℕ) → k ≤ r.steps → Once (r.list k)
-  pub crossed : (k : ℕ) (z : Vector) → Place z → IsStrip r k z → ((j : ℕ) → j < r.steps → Same z (point (r.step j).at) → ⊥) → Neighbours (Over r.edge z) (r.list k)
-  pub event_end : (k : ℕ) → k < r.steps → (e : ℕ) → e < r.edges → On r.weight (r.edge e) (point (r.step k).at) → IsEnd (r.edge e) (r.step k).at
+  pub crossed : (k : ℕ) (z : Vector) → Place z → IsStrip r k z
+      → ((j : ℕ) → j < r.steps → Same z (point (r.step j).at) → ⊥)
+      → Neighbours (Over r.edge z) (r.list k)
+  pub event_end : (k : ℕ) → k < r.steps → (e : ℕ) → e < r.edges
+      → On r.weight (r.edge e) (point (r.step k).at) → IsEnd (r.edge e) (r.step k).at
 
 module _ (w : ℤ) (m : ℕ) (E : ℕ → Edge) (steps : List Step) (swept : WeighedRun w m E steps) where
-  crossed_list : (k : ℕ) (z : Vector) → Place z → IsStrip (replay w m E steps) k z → ((j : ℕ) → j < length steps → Same z (point (nth steps j).at) → ⊥) → Neighbours (Over E z) (list_after [] steps k)
+  crossed_list : (k : ℕ) (z : Vector) → Place z → IsStrip (replay w m E steps) k z
+      → ((j : ℕ) → j < length steps → Same z (point (nth steps j).at) → ⊥)
+      → Neighbours (Over E z) (list_after [] steps k)
   crossed_list k z Z strip off =
       let c = cut_at steps k strip.fits in
       let done = c.0 in
@@ -104,7 +115,8 @@ module _ (w : ℤ) (m : ℕ) (E : ℕ → Edge) (steps : List Step) (swept : Wei
       let c = cut_at steps k fits in
       subst (λ (es : List ℕ). Once es) c.2.now (live_once w m E c.0 c.1 (subst (λ (s : List Step). WeighedRun w m E s) (sym c.2.whole) swept))
 
-  event_end : (k : ℕ) → k < length steps → (e : ℕ) → e < m → On w (E e) (point (nth steps k).at) → IsEnd (E e) (nth steps k).at
+  event_end : (k : ℕ) → k < length steps → (e : ℕ) → e < m → On w (E e) (point (nth steps k).at)
+      → IsEnd (E e) (nth steps k).at
   event_end k fits e l on =
       let a = at_step w m E steps swept k fits in
       subst (λ (s : Step). On w (E e) (point s.at) → IsEnd (E e) s.at) a.3.is (λ o. event_is_end w m E a.0 a.2 a.1 e a.3.all l o) on

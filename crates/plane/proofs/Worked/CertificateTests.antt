@@ -1,6 +1,7 @@
 -- The premises of a certificate are decided by tests that compute: matched labels, placed points and links.
 -- Cells and events that the tests need as witnesses are given to them.
-use Rattle.std.proofs.Common.{◌≡◌, ℕ, zero, suc, ◌<◌, Bool, true, false, pos, ◌-ℤ◌, List, [], ◌∷◌, length, inl, inr, refl, arith, ap, sym}
+use Rattle.std.proofs.Common.{◌≡◌, ℕ, zero, suc, ◌<◌, Bool, true, false, pos, ◌-ℤ◌, List, [], ◌∷◌}
+use Rattle.std.proofs.Common.{length, inl, inr, refl, arith, ap, sym}
 use Rattle.std.proofs.lemmas.Int.{ints}
 use Rattle.plane.specs.declared.kinds.Point.{Point}
 use Rattle.plane.specs.Rule.Plans.{Plan, object}
@@ -8,7 +9,8 @@ use Rattle.plane.specs.Faces.Labels.{Labels, Match, last_label, first_label}
 use Rattle.plane.specs.Faces.Replays.{Replay}
 use Rattle.plane.specs.Faces.Cells.{is_positive, Sector, IsSector, IsBorder}
 use Rattle.plane.specs.Faces.Halves.{Half, under, over, edge_of, twin, At, AtBefore, Beside, mark}
-use Rattle.plane.specs.Faces.Classes.{fan, IsFirst, IsLast, Follows, FollowsRound, Lead, root, next, previous, across, Falls, IsLead, AreLeads}
+use Rattle.plane.specs.Faces.Classes.{fan, IsFirst, IsLast, Follows, FollowsRound, Lead, root, next}
+use Rattle.plane.specs.Faces.Classes.{previous, across, Falls, IsLead, AreLeads}
 use Rattle.plane.specs.Faces.PlacedPoints.{IsPlaced}
 use Rattle.plane.specs.Faces.Certified.{IsRoot, Certified}
 use Rattle.plane.specs.Runs.Positions.{turn_at}
@@ -17,7 +19,9 @@ use Rattle.plane.proofs.ParityLemmas.Wedges.{not_both, is_true}
 use Rattle.plane.proofs.ParityLemmas.Parities.{both_true}
 use Rattle.plane.proofs.ParityLemmas.ByNumber.{number_is}
 use Rattle.plane.proofs.Linear.EdgePlaces.{side-cross}
-use Rattle.plane.proofs.Worked.RunTests.{either_is, implies, implies_is, less, less_is, most, most_is, is_most, all_below, all_below_is, comes_before, comes_before_is}
+use Rattle.plane.proofs.Worked.RunTests.{either_is, implies, implies_is, less, less_is, most}
+use Rattle.plane.proofs.Worked.RunTests.{most_is, is_most, all_below, all_below_is, comes_before}
+use Rattle.plane.proofs.Worked.RunTests.{comes_before_is}
 
 -- ---- places of lists
 abbrev stands : List ℕ → ℕ → ℕ → Bool
@@ -43,7 +47,8 @@ abbrev pub match_test : Labels → ℕ → List ℕ → ℕ → Bool
 match_test a l [] r = same_number l r
 match_test a l (e ∷ es) r = both (same_number l (a.below e)) (match_test a (a.above e) es r)
 
-pub match_is : (a : Labels) (l : ℕ) (es : List ℕ) (r : ℕ) → match_test a l es r ≡ true → Match a l es r
+pub match_is : (a : Labels) (l : ℕ) (es : List ℕ) (r : ℕ) → match_test a l es r ≡ true
+    → Match a l es r
 match_is a l [] r h = number_is l r h
 match_is a l (e ∷ es) r h = let k = both_true (same_number l (a.below e)) (match_test a (a.above e) es r) h in (number_is l (a.below e) k.0, match_is a (a.above e) es r k.1)
 
@@ -92,7 +97,8 @@ follows_is (z ∷ zs) x y h = elim (either_is (both (same_half x z) (is_first y 
 abbrev pub follows_round : List Half → Half → Half → Bool
 follows_round xs x y = either (follows xs x y) (both (is_last x xs) (is_first y xs))
 
-pub follows_round_is : (xs : List Half) (x y : Half) → follows_round xs x y ≡ true → FollowsRound xs x y
+pub follows_round_is : (xs : List Half) (x y : Half) → follows_round xs x y ≡ true
+    → FollowsRound xs x y
 follows_round_is xs x y h = elim (either_is (follows xs x y) (both (is_last x xs) (is_first y xs)) h) [
   | inl k ↦ inl (follows_is xs x y k)
   | inr k ↦ let b = both_true (is_last x xs) (is_first y xs) k in inr (last_is x xs b.0, first_is y xs b.1)
@@ -182,7 +188,8 @@ module _ (r : Replay) where
     link_test h (previous g) = both (both (less (event_by h) r.steps) (follows_round (fan (r.step (event_by h))) h (twin g))) (falls h g)
     link_test h (across g) = both (both (cell_test (cell_by h)) (both (beside h (cell_by h)) (beside g (cell_by h)))) (falls h g)
 
-    link_is : (h : Half) (k : Lead) → link_test h k ≡ true → IsLead r (mark lab) rank (IsRoot d r lab strip index) h k
+    link_is : (h : Half) (k : Lead) → link_test h k ≡ true
+        → IsLead r (mark lab) rank (IsRoot d r lab strip index) h k
     link_is h root t = elim (either_is (is_outer_root h) (named h (mark lab h)) t) [
       | inl k ↦
           let a = both_true _ _ k in
@@ -208,7 +215,8 @@ module _ (r : Replay) where
     abbrev links_test : ℕ → Bool
     links_test e = both (link_test (under e) (link (under e))) (link_test (over e) (link (over e)))
 
-    links_are : all_below r.edges links_test ≡ true → AreLeads r (mark lab) rank link (IsRoot d r lab strip index)
+    links_are : all_below r.edges links_test ≡ true
+        → AreLeads r (mark lab) rank link (IsRoot d r lab strip index)
     links_are t (under e) l = link_is (under e) (link (under e)) (both_true _ _ (all_below_is r.edges links_test t e l)).0
     links_are t (over e) l = link_is (over e) (link (over e)) (both_true _ _ (all_below_is r.edges links_test t e l)).1
 
@@ -220,7 +228,9 @@ module _ (r : Replay) where
       abbrev matches_test : ℕ → Bool
       matches_test k = match_test lab (last_label lab 0 (r.step k).below) (r.step k).starting (first_label lab (r.step k).above 0)
 
-      pub certified_by_test : all_below r.steps matches_test ≡ true → all_below (length d.points) point_test ≡ true → all_below r.edges links_test ≡ true → Certified d r lab rank link
+      pub certified_by_test : all_below r.steps matches_test ≡ true
+          → all_below (length d.points) point_test ≡ true → all_below r.edges links_test ≡ true
+          → Certified d r lab rank link
       certified_by_test m p t = record {
         matched = λ k l. match_is lab (last_label lab 0 (r.step k).below) (r.step k).starting (first_label lab (r.step k).above 0) (all_below_is r.steps matches_test m k l);
         strip = strip;
@@ -231,5 +241,6 @@ module _ (r : Replay) where
         links = links_are t;
       }
         where
-          parts : (j : ℕ) (l : j < length d.points) → (placed_test (object d j) (strip j) (index j) (lower j) (upper j) ≡ true) × (both (same_number (lab.above (lower j)) (suc j)) (same_number (lab.below (upper j)) (suc j)) ≡ true)
+          parts : (j : ℕ) (l : j < length d.points)
+              → (placed_test (object d j) (strip j) (index j) (lower j) (upper j) ≡ true) × (both (same_number (lab.above (lower j)) (suc j)) (same_number (lab.below (upper j)) (suc j)) ≡ true)
           parts j l = both_true _ _ (all_below_is (length d.points) point_test p j l)

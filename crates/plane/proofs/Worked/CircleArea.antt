@@ -12,7 +12,8 @@ use Rattle.plane.specs.CurveRuns.CertifiedCurves.{CertifiedCurves}
 use Rattle.plane.proofs.Worked.CurveCertificateTests.{curves_by_test}
 use Rattle.plane.proofs.CurveAreas.TubedPartition.{tubed_partition}
 use Rattle.plane.proofs.Worked.CircleRun.{at_point, edge, steps}
-use Rattle.plane.proofs.Worked.CircleTubes.{bays, labels, within, inside, outside, circle, circle_run, circle_labels}
+use Rattle.plane.proofs.Worked.CircleTubes.{bays, labels, within, inside, outside, circle}
+use Rattle.plane.proofs.Worked.CircleTubes.{circle_run, circle_labels}
 
 abbrev at_cell : ℕ → ℕ → Sector
 at_cell k i = record { strip = k; index = i }

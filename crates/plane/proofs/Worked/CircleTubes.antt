@@ -1,5 +1,6 @@
 -- The circle with an object's point in its middle, drawn as four half arcs: its tubes, its run and its labels meet the premises of the laws on tubes.
-use Rattle.std.proofs.Common.{◌≡◌, ℕ, zero, suc, ◌<◌, List, [], ◌∷◌, ℤ, get_or, inl, inr, refl, arith}
+use Rattle.std.proofs.Common.{◌≡◌, ℕ, zero, suc, ◌<◌, List, [], ◌∷◌, ℤ, get_or, inl, inr, refl}
+use Rattle.std.proofs.Common.{arith}
 use Rattle.std.proofs.lemmas.Int.{ints}
 use Rattle.plane.specs.declared.window.Window2.{Window2}
 use Rattle.plane.specs.declared.kinds.CurveKind.TheVariants as kind
@@ -131,7 +132,8 @@ module _ (w : Window2) where
     points = record { at = at_point 500000 500000; line = 14 } ∷ [];
   }
 
-  have_tubes : (i : ℕ) → i < 4 → (curve circle i).kind ≡ kind.HalfArc → IsTube (arc (curve circle i)) (bays i)
+  have_tubes : (i : ℕ) → i < 4 → (curve circle i).kind ≡ kind.HalfArc
+      → IsTube (arc (curve circle i)) (bays i)
   have_tubes zero l e = first_tube
   have_tubes (suc zero) l e = second_tube
   have_tubes (suc (suc zero)) l e = third_tube
@@ -142,10 +144,12 @@ module _ (w : Window2) where
   unfolding same_point
   circle_run = tubed_by_test circle bays 20 edge steps have_tubes refl circle_runs refl refl
 
-  pub circle_labels : (u : ℤ) → AreTubeLabels circle bays (replay u 20 edge steps) labels within inside outside
+  pub circle_labels : (u : ℤ)
+      → AreTubeLabels circle bays (replay u 20 edge steps) labels within inside outside
   unfolding same_point bend
   circle_labels u = labels_by_test circle bays (replay u 20 edge steps) labels within inside outside refl refl
 
   -- so its tubes are tubes of the run
-  pub circle_tubes : (u : ℤ) → WeighedRun u 20 edge steps → AreTubes (replay u 20 edge steps) labels (tubes circle bays within inside outside) (MeetsArc circle)
+  pub circle_tubes : (u : ℤ) → WeighedRun u 20 edge steps
+      → AreTubes (replay u 20 edge steps) labels (tubes circle bays within inside outside) (MeetsArc circle)
   circle_tubes u s = are_tubes u circle bays 20 edge steps labels within inside outside s circle_run (circle_labels u)

@@ -1,5 +1,6 @@
 -- The premises of a certificate of a drawing with half arcs, whose points all lie in cells, are decided by tests that compute.
-use Rattle.std.proofs.Common.{◌≡◌, ℕ, zero, suc, ◌<◌, Bool, true, false, List, length, inl, inr, refl, sym}
+use Rattle.std.proofs.Common.{◌≡◌, ℕ, zero, suc, ◌<◌, Bool, true, false, List, length, inl, inr}
+use Rattle.std.proofs.Common.{refl, sym}
 use Rattle.plane.specs.Rule.Plans.{Plan, object}
 use Rattle.plane.specs.Faces.Labels.{Labels}
 use Rattle.plane.specs.Faces.Replays.{Replay}
@@ -8,13 +9,17 @@ use Rattle.plane.specs.Faces.Halves.{Half, under, over, edge_of, twin, mark}
 use Rattle.plane.specs.Faces.Classes.{fan, Lead, root, next, previous, across, IsLead, AreLeads}
 use Rattle.plane.specs.Faces.Parity.{both, either, same_number}
 use Rattle.plane.specs.Tubes.Bays.{Bay}
-use Rattle.plane.specs.CurveRuns.TubedRuns.{Part, whole, inner, outer, owned, IsOfTube, AreTubeLabels}
+use Rattle.plane.specs.CurveRuns.TubedRuns.{Part, whole, inner, outer, owned, IsOfTube}
+use Rattle.plane.specs.CurveRuns.TubedRuns.{AreTubeLabels}
 use Rattle.plane.specs.CurveRuns.CertifiedCurves.{IsInCell, IsCurveRoot, CertifiedCurves}
 use Rattle.plane.proofs.ParityLemmas.Wedges.{not_both}
 use Rattle.plane.proofs.ParityLemmas.Parities.{both_true}
 use Rattle.plane.proofs.ParityLemmas.ByNumber.{number_is}
 use Rattle.plane.proofs.Worked.RunTests.{either_is, less, less_is, all_below, all_below_is}
-use Rattle.plane.proofs.Worked.CertificateTests.{same_half, same_half_is, follows_round, follows_round_is, cell_test, cell_is, beside, beside_is, at_border, border_is, placed_test, placed_is, falls, falls_is}
+use Rattle.plane.proofs.Worked.CertificateTests.{same_half, same_half_is, follows_round}
+use Rattle.plane.proofs.Worked.CertificateTests.{follows_round_is, cell_test, cell_is, beside}
+use Rattle.plane.proofs.Worked.CertificateTests.{beside_is, at_border, border_is, placed_test}
+use Rattle.plane.proofs.Worked.CertificateTests.{placed_is, falls, falls_is}
 use Rattle.plane.proofs.Worked.TubeTests.{of_tube}
 
 is_tube : (p : Part) → of_tube p ≡ true → IsOfTube p
@@ -48,7 +53,8 @@ module _ (d : Plan) (bays : ℕ → List Bay) (r : Replay) (lab : Labels) (withi
   named h zero = false
   named h (suc j) = both (less j (length d.points)) (both (point_test j) (beside r h (cell_for j)))
 
-  named_is : (h : Half) (n : ℕ) → mark lab h ≡ n → named h n ≡ true → IsCurveRoot d bays r lab within inside outside h
+  named_is : (h : Half) (n : ℕ) → mark lab h ≡ n → named h n ≡ true
+      → IsCurveRoot d bays r lab within inside outside h
   named_is h zero e k = absurd (not_both (sym k))
   named_is h (suc j) e k =
       let a = both_true _ _ k in
@@ -58,7 +64,8 @@ module _ (d : Plan) (bays : ℕ → List Bay) (r : Replay) (lab : Labels) (withi
   abbrev root_test : Half → Bool
   root_test h = either (faces_tube h) (either (at_outside h) (named h (mark lab h)))
 
-  root_is : (h : Half) → edge_of h < r.edges → root_test h ≡ true → IsCurveRoot d bays r lab within inside outside h
+  root_is : (h : Half) → edge_of h < r.edges → root_test h ≡ true
+      → IsCurveRoot d bays r lab within inside outside h
   root_is h l t = elim (either_is (faces_tube h) (either (at_outside h) (named h (mark lab h))) t) [
     | inl k ↦ (let a = both_true _ _ k in inl (edge_of h, l, is_tube _ a.0, same_half_is h (within (edge_of h)) a.1))
     | inr k ↦ elim (either_is (at_outside h) (named h (mark lab h)) k) [
@@ -81,7 +88,8 @@ module _ (d : Plan) (bays : ℕ → List Bay) (r : Replay) (lab : Labels) (withi
   link_test h (previous g) = both (both (less (event_by h) r.steps) (follows_round (fan (r.step (event_by h))) h (twin g))) (falls_to h g)
   link_test h (across g) = both (both (cell_test r (cell_by h)) (both (beside r h (cell_by h)) (beside r g (cell_by h)))) (falls_to h g)
 
-  link_is : (h : Half) (k : Lead) → edge_of h < r.edges → link_test h k ≡ true → IsLead r (mark lab) rank (IsCurveRoot d bays r lab within inside outside) h k
+  link_is : (h : Half) (k : Lead) → edge_of h < r.edges → link_test h k ≡ true
+      → IsLead r (mark lab) rank (IsCurveRoot d bays r lab within inside outside) h k
   link_is h root l t = root_is h l t
   link_is h (next g) l t =
       let a = both_true _ _ t in
@@ -100,11 +108,14 @@ module _ (d : Plan) (bays : ℕ → List Bay) (r : Replay) (lab : Labels) (withi
   abbrev pub links_test : ℕ → Bool
   links_test e = both (link_test (under e) (link (under e))) (link_test (over e) (link (over e)))
 
-  links_are : all_below r.edges links_test ≡ true → AreLeads r (mark lab) rank link (IsCurveRoot d bays r lab within inside outside)
+  links_are : all_below r.edges links_test ≡ true
+      → AreLeads r (mark lab) rank link (IsCurveRoot d bays r lab within inside outside)
   links_are t (under e) l = link_is (under e) (link (under e)) l (both_true _ _ (all_below_is r.edges links_test t e l)).0
   links_are t (over e) l = link_is (over e) (link (over e)) l (both_true _ _ (all_below_is r.edges links_test t e l)).1
 
-  pub curves_by_test : AreTubeLabels d bays r lab within inside outside → all_below (length d.points) point_test ≡ true → all_below r.edges links_test ≡ true → CertifiedCurves d bays r lab within inside outside rank link
+  pub curves_by_test : AreTubeLabels d bays r lab within inside outside
+      → all_below (length d.points) point_test ≡ true → all_below r.edges links_test ≡ true
+      → CertifiedCurves d bays r lab within inside outside rank link
   curves_by_test labels p t = record {
     labels = labels;
     placed = λ j l. inl (in_cell j (all_below_is (length d.points) point_test p j l));

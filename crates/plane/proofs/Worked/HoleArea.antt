@@ -93,10 +93,12 @@ module _ (w : Window2) where
   ring_holds = run_partition ring edge steps labels rank link (pos 0) ring_run certificate
 
   -- what the laws say of it: no two of the ring, the hole and the island are joined, and the island's point is not outer
-  pub ring_and_hole : Joined ring (point (at_point (pos 1) (pos 6))) (point (at_point (pos 3) (pos 6))) → ⊥
+  pub ring_and_hole : Joined ring (point (at_point (pos 1) (pos 6))) (point (at_point (pos 3) (pos 6)))
+      → ⊥
   ring_and_hole = ring_holds.alone 0 1 (omega arith) (omega arith) (λ e. absurd (omega (arith, e)))
 
-  pub island_and_hole : Joined ring (point (at_point (pos 6) (pos 5))) (point (at_point (pos 3) (pos 6))) → ⊥
+  pub island_and_hole : Joined ring (point (at_point (pos 6) (pos 5))) (point (at_point (pos 3) (pos 6)))
+      → ⊥
   island_and_hole = ring_holds.alone 2 1 (omega arith) (omega arith) (λ e. absurd (omega (arith, e)))
 
   pub island : IsOuter ring (point (at_point (pos 6) (pos 5))) → ⊥

@@ -1,6 +1,7 @@
 -- A quarter of a disc, by two straights and a half arc with its third point on the right: its tube, its run and its labels meet the
 -- premises of the laws on tubes, beside those of straights.
-use Rattle.std.proofs.Common.{◌≡◌, ℕ, zero, suc, ◌<◌, List, [], ◌∷◌, ℤ, get_or, inl, inr, refl, arith}
+use Rattle.std.proofs.Common.{◌≡◌, ℕ, zero, suc, ◌<◌, List, [], ◌∷◌, ℤ, get_or, inl, inr, refl}
+use Rattle.std.proofs.Common.{arith}
 use Rattle.std.proofs.lemmas.Int.{ints}
 use Rattle.plane.specs.declared.window.Window2.{Window2}
 use Rattle.plane.specs.declared.kinds.CurveKind.TheVariants as kind
@@ -105,7 +106,8 @@ module _ (w : Window2) where
     points = record { at = at_point 503000 503000; line = 4 } ∷ [];
   }
 
-  has_tube : (i : ℕ) → i < 3 → (curve quarter i).kind ≡ kind.HalfArc → IsTube (arc (curve quarter i)) (bays i)
+  has_tube : (i : ℕ) → i < 3 → (curve quarter i).kind ≡ kind.HalfArc
+      → IsTube (arc (curve quarter i)) (bays i)
   has_tube zero l e = absurd (straight_or_bent e)
   has_tube (suc zero) l e = rim_tube
   has_tube (suc (suc zero)) l e = absurd (straight_or_bent e)
@@ -115,10 +117,12 @@ module _ (w : Window2) where
   unfolding same_point
   quarter_run = tubed_by_test quarter bays 7 edge steps has_tube refl quarter_runs refl refl
 
-  pub quarter_labels : (u : ℤ) → AreTubeLabels quarter bays (replay u 7 edge steps) labels within inside outside
+  pub quarter_labels : (u : ℤ)
+      → AreTubeLabels quarter bays (replay u 7 edge steps) labels within inside outside
   unfolding same_point bend
   quarter_labels u = labels_by_test quarter bays (replay u 7 edge steps) labels within inside outside refl refl
 
   -- so its tube is one of the run
-  pub quarter_tubes : (u : ℤ) → WeighedRun u 7 edge steps → AreTubes (replay u 7 edge steps) labels (tubes quarter bays within inside outside) (MeetsArc quarter)
+  pub quarter_tubes : (u : ℤ) → WeighedRun u 7 edge steps
+      → AreTubes (replay u 7 edge steps) labels (tubes quarter bays within inside outside) (MeetsArc quarter)
   quarter_tubes u s = are_tubes u quarter bays 7 edge steps labels within inside outside s quarter_run (quarter_labels u)

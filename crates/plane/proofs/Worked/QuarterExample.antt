@@ -4,7 +4,8 @@ use Rattle.std.proofs.lemmas.Int.{ints}
 use Rattle.plane.specs.declared.kinds.Point.{Point}
 use Rattle.plane.specs.declared.kinds.Curve.{Curve}
 use Rattle.plane.specs.Rule.Places.{point}
-use Rattle.plane.specs.Rule.HalfArcs.{bend, circle_x, circle_y, power, bow, IsOnHalfArc, HasCircle, HasSide}
+use Rattle.plane.specs.Rule.HalfArcs.{bend, circle_x, circle_y, power, bow, IsOnHalfArc, HasCircle}
+use Rattle.plane.specs.Rule.HalfArcs.{HasSide}
 use Rattle.plane.specs.Rule.Plans.{straight, half_arc}
 use Rattle.plane.specs.Rule.Curves.{arc}
 use Rattle.plane.specs.Rule.BadPairs.{sixteenth, HaveNoCommonEnd, IsTrialCrossing, AreBad, crossed}

@@ -1,5 +1,6 @@
 -- The quarter of a disc is settled; points of it by their cells and by their least edges.
-use Rattle.std.proofs.Common.{◌≡◌, ℕ, zero, suc, ◌<◌, ◌≤◌, [], pos, ◌<ℤ◌, inl, refl, arith, sym, subst}
+use Rattle.std.proofs.Common.{◌≡◌, ℕ, zero, suc, ◌<◌, ◌≤◌, [], pos, ◌<ℤ◌, inl, refl, arith, sym}
+use Rattle.std.proofs.Common.{subst}
 use Rattle.std.proofs.lemmas.Int.{ints}
 use Rattle.plane.specs.declared.window.Window2.{Window2}
 use Rattle.plane.specs.declared.kinds.CurveKind.TheVariants as kind
@@ -17,7 +18,8 @@ use Rattle.plane.proofs.Runs.RunWeights.{run_weight}
 use Rattle.plane.proofs.Settling.LabelsSettle.{labels_settle}
 use Rattle.plane.proofs.TubedRuns.SettledPoints.{in_cell}
 use Rattle.plane.proofs.Worked.CircleRun.{at_point}
-use Rattle.plane.proofs.Worked.QuarterDisc.{edge, steps, bays, labels, within, inside, outside, quarter, quarter_run, quarter_labels}
+use Rattle.plane.proofs.Worked.QuarterDisc.{edge, steps, bays, labels, within, inside, outside}
+use Rattle.plane.proofs.Worked.QuarterDisc.{quarter, quarter_run, quarter_labels}
 use Rattle.plane.proofs.Covers.CurvePlaces.{no_kind}
 
 abbrev r : Replay
@@ -78,10 +80,12 @@ module _ (w : Window2) where
       coming (suc (suc (suc (suc (suc zero))))) k l = inl (omega (arith, ints))
       coming (suc (suc (suc (suc (suc (suc j)))))) k l = absurd (omega (arith, l))
 
-      above : (e : ℕ) → AtBefore (r.list 3) 2 e → pos 0 <ℤ side (r.edge e) (point (at_point 506000 508000))
+      above : (e : ℕ) → AtBefore (r.list 3) 2 e
+          → pos 0 <ℤ side (r.edge e) (point (at_point 506000 508000))
       above e b = subst (λ (x : ℕ). pos 0 <ℤ side (r.edge x) (point (at_point 506000 508000))) (sym b) (omega (arith, ints))
 
-      below : (e : ℕ) → At (r.list 3) 2 e → side (r.edge e) (point (at_point 506000 508000)) <ℤ pos 0
+      below : (e : ℕ) → At (r.list 3) 2 e
+          → side (r.edge e) (point (at_point 506000 508000)) <ℤ pos 0
       below e b = subst (λ (x : ℕ). side (r.edge x) (point (at_point 506000 508000)) <ℤ pos 0) (sym b) (omega (arith, ints))
 
   lies : LiesInTube (quarter w) bays 1 (at_point 506000 508000)

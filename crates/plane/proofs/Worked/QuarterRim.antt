@@ -12,12 +12,14 @@ use Rattle.plane.specs.Faces.Halves.{Half, under, over, mark, Beside}
 use Rattle.plane.specs.Faces.Classes.{Lead, root, across, AreLeads}
 use Rattle.plane.specs.Faces.Parity.{same_point}
 use Rattle.plane.specs.CurveRuns.TubedRuns.{IsTubedRun, AreTubeLabels}
-use Rattle.plane.specs.CurveRuns.CertifiedCurves.{IsInTube, ArePlaced, BoundsSide, IsCurveRoot, CertifiedCurves}
+use Rattle.plane.specs.CurveRuns.CertifiedCurves.{IsInTube, ArePlaced, BoundsSide, IsCurveRoot}
+use Rattle.plane.specs.CurveRuns.CertifiedCurves.{CertifiedCurves}
 use Rattle.plane.proofs.Worked.TubeTests.{labels_by_test}
 use Rattle.plane.proofs.CurveAreas.TubedFaces.{run_without}
 use Rattle.plane.proofs.CurveAreas.TubedPartition.{tubed_partition}
 use Rattle.plane.proofs.Worked.CircleRun.{at_point}
-use Rattle.plane.proofs.Worked.QuarterDisc.{edge, steps, bays, labels, within, inside, outside, quarter, quarter_run}
+use Rattle.plane.proofs.Worked.QuarterDisc.{edge, steps, bays, labels, within, inside, outside}
+use Rattle.plane.proofs.Worked.QuarterDisc.{quarter, quarter_run}
 
 abbrev r : Replay
 r = replay (pos 0) 7 edge steps
@@ -64,10 +66,12 @@ module _ (w : Window2) where
   abbrev Root : Half → Type 0
   Root = IsCurveRoot rim bays r labels within inside outside
 
-  border : (h : Half) (c : Sector) → mark labels h ≡ 0 → IsSector r c → Beside r h c → IsBorder r c → Root h
+  border : (h : Half) (c : Sector) → mark labels h ≡ 0 → IsSector r c → Beside r h c → IsBorder r c
+      → Root h
   border h c e C b t = inr (inl (e, (c, C, b, t)))
 
-  beyond : (e : ℕ) → BoundsSide rim bays r within inside outside (under e) 0 → mark labels (under e) ≡ 1 → Root (under e)
+  beyond : (e : ℕ) → BoundsSide rim bays r within inside outside (under e) 0
+      → mark labels (under e) ≡ 1 → Root (under e)
   beyond e b m = inr (inr (0, omega arith, m, inr b))
 
   side_one : BoundsSide rim bays r within inside outside (under 1) 0

@@ -4,10 +4,12 @@ use Rattle.plane.specs.declared.window.Window2.{Window2}
 use Rattle.plane.specs.Rule.Cuts.{HasNoCut}
 use Rattle.plane.specs.CurveRuns.TubedRuns.{whole, owned}
 use Rattle.plane.proofs.CurveAreas.CutCurves.{all_uncut}
-use Rattle.plane.proofs.Worked.QuarterDisc.{edge, steps, bays, labels, within, inside, outside, quarter, quarter_run, quarter_labels}
+use Rattle.plane.proofs.Worked.QuarterDisc.{edge, steps, bays, labels, within, inside, outside}
+use Rattle.plane.proofs.Worked.QuarterDisc.{quarter, quarter_run, quarter_labels}
 
 module _ (w : Window2) where
-  sides : (e : ℕ) → e < 7 → (owned (quarter w) bays e).part ≡ whole → labels.above e ≡ labels.below e → ⊥
+  sides : (e : ℕ) → e < 7 → (owned (quarter w) bays e).part ≡ whole
+      → labels.above e ≡ labels.below e → ⊥
   sides zero l p k = absurd (omega (arith, k))
   sides (suc zero) l p k = absurd (omega (arith, k))
   sides (suc (suc zero)) l p k = absurd (omega (arith, k))

@@ -1,6 +1,7 @@
 -- A complete run is decided by tests that compute: where they all answer true, the steps are a run over the edges.
 -- So a drawing that is worked out in whole numbers is shown to have a run by one computation.
-use Rattle.std.proofs.Common.{◌≡◌, ℕ, zero, suc, ◌<◌, ◌≤◌, ◌⊎◌, Bool, true, false, pos, ◌-ℤ◌, ◌<ℤ◌, List, [], ◌∷◌, inl, inr, refl, arith, ap, sym, ◌∙◌, subst}
+use Rattle.std.proofs.Common.{◌≡◌, ℕ, zero, suc, ◌<◌, ◌≤◌, ◌⊎◌, Bool, true, false, pos, ◌-ℤ◌, ◌<ℤ◌}
+use Rattle.std.proofs.Common.{List, [], ◌∷◌, inl, inr, refl, arith, ap, sym, ◌∙◌, subst}
 use Rattle.std.proofs.lemmas.Int.{ints}
 use Rattle.plane.specs.declared.kinds.Point.{Point}
 use Rattle.plane.specs.Forms.Vectors.{Edge, point, side, Before}
@@ -78,7 +79,8 @@ abbrev pub all_of : {X : Type 0} → (X → Bool) → List X → Bool
 all_of f [] = true
 all_of f (x ∷ xs) = both (f x) (all_of f xs)
 
-pub all_of_is : {X : Type 0} (f : X → Bool) (xs : List X) → all_of f xs ≡ true → (x : X) → Has x xs → f x ≡ true
+pub all_of_is : {X : Type 0} (f : X → Bool) (xs : List X) → all_of f xs ≡ true → (x : X) → Has x xs
+    → f x ≡ true
 all_of_is f [] h x k = absurd k
 all_of_is f (y ∷ xs) h x (inl e) = ap f e ∙ (both_true (f y) (all_of f xs) h).0
 all_of_is f (y ∷ xs) h x (inr k) = all_of_is f xs (both_true (f y) (all_of f xs) h).1 x k
@@ -108,11 +110,13 @@ last_test f [] = true
 last_test f (x ∷ []) = f x
 last_test f (x ∷ (y ∷ ys)) = last_test f (y ∷ ys)
 
-first_is : {X : Type 0} (f : X → Bool) (P : X → Type 0) (xs : List X) → ((x : X) → f x ≡ true → P x) → first_test f xs ≡ true → First P xs
+first_is : {X : Type 0} (f : X → Bool) (P : X → Type 0) (xs : List X) → ((x : X) → f x ≡ true → P x)
+    → first_test f xs ≡ true → First P xs
 first_is f P [] g h = tt
 first_is f P (x ∷ xs) g h = g x h
 
-last_is : {X : Type 0} (f : X → Bool) (P : X → Type 0) (xs : List X) → ((x : X) → f x ≡ true → P x) → last_test f xs ≡ true → Last P xs
+last_is : {X : Type 0} (f : X → Bool) (P : X → Type 0) (xs : List X) → ((x : X) → f x ≡ true → P x)
+    → last_test f xs ≡ true → Last P xs
 last_is f P [] g h = tt
 last_is f P (x ∷ []) g h = g x h
 last_is f P (x ∷ (y ∷ ys)) g h = last_is f P (y ∷ ys) g h
@@ -121,7 +125,8 @@ abbrev neighbours : {X : Type 0} → (X → X → Bool) → List X → Bool
 neighbours f [] = true
 neighbours f (x ∷ xs) = both (first_test (f x) xs) (neighbours f xs)
 
-neighbours_is : {X : Type 0} (f : X → X → Bool) (R : X → X → Type 0) (xs : List X) → ((x y : X) → f x y ≡ true → R x y) → neighbours f xs ≡ true → Neighbours R xs
+neighbours_is : {X : Type 0} (f : X → X → Bool) (R : X → X → Type 0) (xs : List X)
+    → ((x y : X) → f x y ≡ true → R x y) → neighbours f xs ≡ true → Neighbours R xs
 neighbours_is f R [] g h = tt
 neighbours_is f R (x ∷ xs) g h = let k = both_true (first_test (f x) xs) (neighbours f xs) h in (first_is (f x) (R x) xs (g x) k.0, neighbours_is f R xs g k.1)
 
@@ -152,10 +157,12 @@ comes_before_is p q h = elim (either_is (is_positive (q.x -ℤ p.x)) (both (same
       inr (whole_is p.x q.x b.0, omega (arith, ints, l))
 ]
 
-above_is : (E : ℕ → Edge) (e : ℕ) (v : Point) → is_positive (turn_at E e v) ≡ true → pos 0 <ℤ side (E e) (point v)
+above_is : (E : ℕ → Edge) (e : ℕ) (v : Point) → is_positive (turn_at E e v) ≡ true
+    → pos 0 <ℤ side (E e) (point v)
 above_is E e v h = let l = is_true (turn_at E e v) h in let q = side-cross (E e) v in omega (arith, ints, l, q)
 
-below_is : (E : ℕ → Edge) (e : ℕ) (v : Point) → is_positive (pos 0 -ℤ turn_at E e v) ≡ true → side (E e) (point v) <ℤ pos 0
+below_is : (E : ℕ → Edge) (e : ℕ) (v : Point) → is_positive (pos 0 -ℤ turn_at E e v) ≡ true
+    → side (E e) (point v) <ℤ pos 0
 below_is E e v h = let l = is_true (pos 0 -ℤ turn_at E e v) h in let q = side-cross (E e) v in omega (arith, ints, l, q)
 
 -- ---- a step
@@ -209,7 +216,8 @@ abbrev replay_test : ℕ → (ℕ → Edge) → List ℕ → List Step → Bool
 replay_test m E now [] = same_list now []
 replay_test m E now (s ∷ steps) = both (same_list now (before s)) (both (good_test m E s) (replay_test m E (after s) steps))
 
-replay_is : (m : ℕ) (E : ℕ → Edge) (now : List ℕ) (steps : List Step) → replay_test m E now steps ≡ true → IsReplay m E now steps
+replay_is : (m : ℕ) (E : ℕ → Edge) (now : List ℕ) (steps : List Step)
+    → replay_test m E now steps ≡ true → IsReplay m E now steps
 replay_is m E now [] h = same_list_is now [] h
 replay_is m E now (s ∷ steps) h =
     let a = both_true (same_list now (before s)) (both (good_test m E s) (replay_test m E (after s) steps)) h in
@@ -237,7 +245,8 @@ run_test m E steps =
     (both (all_below m (λ e. both (at_some (E e).low steps) (at_some (E e).high steps)))
     (both (all_of (λ s. some_below m (λ e. is_end (E e) s.at)) steps) (all_below m (λ e. comes_before (E e).low (E e).high)))))
 
-pub run_by_test : (m : ℕ) (E : ℕ → Edge) (steps : List Step) → run_test m E steps ≡ true → Run m E steps
+pub run_by_test : (m : ℕ) (E : ℕ → Edge) (steps : List Step) → run_test m E steps ≡ true
+    → Run m E steps
 run_by_test m E steps h =
     let a = both_true _ _ h in
     let b = both_true _ _ a.1 in

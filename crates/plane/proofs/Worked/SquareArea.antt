@@ -89,5 +89,6 @@ module _ (w : Window2) where
   pub inner_point : IsOuter square (point (at_point (pos 3) (pos 1))) → ⊥
   inner_point = square_holds.bounded 0 (omega arith)
 
-  pub two_faces : Joined square (point (at_point (pos 3) (pos 1))) (point (at_point (pos 1) (pos 3))) → ⊥
+  pub two_faces : Joined square (point (at_point (pos 3) (pos 1))) (point (at_point (pos 1) (pos 3)))
+      → ⊥
   two_faces = square_holds.alone 0 1 (omega arith) (omega arith) (λ e. absurd (omega (arith, e)))

@@ -1,5 +1,6 @@
 -- The square with a chord as a timetable with positions: the moves make its steps, and each pair of neighbours is closed once.
-use Rattle.std.proofs.Common.{◌≡◌, ◌↔◌, ℕ, zero, suc, ◌<◌, ◌⊎◌, Option, Some, None, inl, inr, List, [], ◌∷◌, map, get_or, pos, ◌<ℤ◌, refl, arith, sym, subst, take}
+use Rattle.std.proofs.Common.{◌≡◌, ◌↔◌, ℕ, zero, suc, ◌<◌, ◌⊎◌, Option, Some, None, inl, inr, List}
+use Rattle.std.proofs.Common.{[], ◌∷◌, map, get_or, pos, ◌<ℤ◌, refl, arith, sym, subst, take}
 use Rattle.std.proofs.lemmas.Int.{ints}
 use Rattle.plane.specs.declared.kinds.Point.{Point}
 use Rattle.plane.specs.Lists.{Has, Neighbours}
@@ -51,12 +52,14 @@ has_step p [] h = absurd h
 has_step p (s ∷ ss) (inl q) = (s, inl refl, q)
 has_step p (s ∷ ss) (inr h) = let (t, k, q) = has_step p ss h in (t, inr k, q)
 
-rising : (ss : List Step) → Neighbours (λ s t. Before s.at t.at) ss → Neighbours Before (map point_at ss)
+rising : (ss : List Step) → Neighbours (λ s t. Before s.at t.at) ss
+    → Neighbours Before (map point_at ss)
 rising [] h = tt
 rising (s ∷ []) h = (tt, tt)
 rising (s ∷ (t ∷ ss)) h = (h.0, rising (t ∷ ss) h.1)
 
-pub run_events : (m : ℕ) (E : ℕ → Edge) (ss : List Step) → Run m E ss → IsEventList m E (map point_at ss)
+pub run_events : (m : ℕ) (E : ℕ → Edge) (ss : List Step) → Run m E ss
+    → IsEventList m E (map point_at ss)
 run_events m E ss run = record {
   rises = rising ss run.rises;
   ends = λ e l. (at_has (E e).low ss (run.ends e l).0, at_has (E e).high ss (run.ends e l).1);
@@ -67,10 +70,12 @@ run_events m E ss run = record {
 good : (k : ℕ) → k < 4 → GoodStep 5 edge (get_or steps k no_step)
 good k l = run_good 5 edge steps k square_runs l
 
-starts : (k : ℕ) (l : k < 4) (e : ℕ) → Has e (get_or steps k no_step).starting ↔ ((e < 5) × ((edge e).low ≡ (get_or steps k no_step).at))
+starts : (k : ℕ) (l : k < 4) (e : ℕ)
+    → Has e (get_or steps k no_step).starting ↔ ((e < 5) × ((edge e).low ≡ (get_or steps k no_step).at))
 starts k l e = ((λ h. (good k l).starting_only e h), (λ a. (good k l).starting_all e a.0 a.1))
 
-ends : (k : ℕ) (l : k < 4) (e : ℕ) → Has e (get_or steps k no_step).ending ↔ ((e < 5) × ((edge e).high ≡ (get_or steps k no_step).at))
+ends : (k : ℕ) (l : k < 4) (e : ℕ)
+    → Has e (get_or steps k no_step).ending ↔ ((e < 5) × ((edge e).high ≡ (get_or steps k no_step).at))
 ends k l e = ((λ h. (good k l).ending_only e h), (λ a. (good k l).ending_all e a.0 a.1))
 
 turned : (e : ℕ) → Has e (1 ∷ 3 ∷ 4 ∷ []) → Has e (4 ∷ 1 ∷ 3 ∷ [])
@@ -119,7 +124,8 @@ three_of P a b c p q r e (inr (inr (inr n))) = absurd n
 pass_first : PassesAt edge [] (get_or table 0 no_event) 0
 pass_first = record { block = omega arith; ends = λ e h. absurd h; below = λ i q. absurd (omega (arith, q)); above = λ l. absurd (omega (arith, l)); slopes = three }
   where
-    three : (i : ℕ) → suc i < 3 → pos 0 <ℤ turn_at edge (get_or (0 ∷ 1 ∷ 2 ∷ []) i 0) (edge (get_or (0 ∷ 1 ∷ 2 ∷ []) (suc i) 0)).high
+    three : (i : ℕ) → suc i < 3
+        → pos 0 <ℤ turn_at edge (get_or (0 ∷ 1 ∷ 2 ∷ []) i 0) (edge (get_or (0 ∷ 1 ∷ 2 ∷ []) (suc i) 0)).high
     three zero l = omega (arith, ints)
     three (suc zero) l = omega (arith, ints)
     three (suc (suc i)) l = absurd (omega (arith, l))
@@ -127,7 +133,8 @@ pass_first = record { block = omega arith; ends = λ e h. absurd h; below = λ i
 pass_second : PassesAt edge (0 ∷ 1 ∷ 2 ∷ []) (get_or table 1 no_event) 2
 pass_second = record { block = omega arith; ends = one_of (λ e. (edge e).high ≡ at_point (pos 0) (pos 4)) 2 refl; below = lower; above = λ l. absurd (omega (arith, l)); slopes = λ i l. absurd (omega (arith, l)) }
   where
-    lower : (i : ℕ) → 2 ≡ suc i → pos 0 <ℤ turn_at edge (get_or (0 ∷ 1 ∷ 2 ∷ []) i 0) (at_point (pos 0) (pos 4))
+    lower : (i : ℕ) → 2 ≡ suc i
+        → pos 0 <ℤ turn_at edge (get_or (0 ∷ 1 ∷ 2 ∷ []) i 0) (at_point (pos 0) (pos 4))
     lower zero q = absurd (omega (arith, q))
     lower (suc zero) q = omega (arith, ints)
     lower (suc (suc i)) q = absurd (omega (arith, q))

@@ -1,6 +1,7 @@
 -- A triangle with the corners (0, 0), (2, 3) and (4, 0): it has a swept run, and the cells of places compute.
 -- The place (2, 1) is in the cell (1, 1).
-use Rattle.std.proofs.Common.{◌<◌, ◌<ℤ◌, ◌⊎◌, inl, inr, ap, sym, subst, arith, ◌≡◌, ℕ, zero, suc, List, [], ◌∷◌, ℤ, pos, negsuc, refl}
+use Rattle.std.proofs.Common.{◌<◌, ◌<ℤ◌, ◌⊎◌, inl, inr, ap, sym, subst, arith, ◌≡◌, ℕ, zero, suc}
+use Rattle.std.proofs.Common.{List, [], ◌∷◌, ℤ, pos, negsuc, refl}
 use Rattle.plane.specs.declared.kinds.Point.{Point}
 use Rattle.plane.specs.Forms.Vectors.{Edge, side, sweep, rise, point}
 use Rattle.std.proofs.lemmas.Int.{ints}
@@ -119,7 +120,8 @@ triangle_swept = record {
   rises = each_edge (λ e. pos 0 <ℤ rise (pos 4) (edge e)) (omega (arith, ints)) (omega (arith, ints)) (omega (arith, ints));
 }
   where
-    met : (s : Step) → Has s steps → (e : ℕ) × (e < 3) × (((edge e).low ≡ s.at) ⊎ ((edge e).high ≡ s.at))
+    met : (s : Step) → Has s steps
+        → (e : ℕ) × (e < 3) × (((edge e).low ≡ s.at) ⊎ ((edge e).high ≡ s.at))
     met s (inl h) = (0, omega arith, inl (sym (ap (λ (t : Step). t.at) h)))
     met s (inr (inl h)) = (1, omega arith, inr (sym (ap (λ (t : Step). t.at) h)))
     met s (inr (inr (inl h))) = (0, omega arith, inr (sym (ap (λ (t : Step). t.at) h)))

@@ -1,6 +1,7 @@
 -- The inside of the triangle is not outer.
 -- A label that openings keep tells its cell from the first one.
-use Rattle.std.proofs.Common.{◌≡◌, ℕ, zero, suc, ◌+◌, ◌<◌, ◌≤◌, inl, inr, length, pos, refl, arith, ap, sym, ◌∙◌}
+use Rattle.std.proofs.Common.{◌≡◌, ℕ, zero, suc, ◌+◌, ◌<◌, ◌≤◌, inl, inr, length, pos, refl, arith}
+use Rattle.std.proofs.Common.{ap, sym, ◌∙◌}
 use Rattle.std.proofs.lemmas.Int.{ints}
 use Rattle.plane.specs.Forms.Vectors.{Vector, point, side, On}
 use Rattle.plane.specs.Faces.Replays.{Replay, replay, IsOffEdges}
@@ -24,10 +25,12 @@ label (suc zero) (suc zero) = 1
 label (suc (suc zero)) (suc zero) = 1
 label k i = 0
 
-label_eq : (k i l j a b c : ℕ) → i ≡ a → l ≡ b → j ≡ c → label k a ≡ label b c → label k i ≡ label l j
+label_eq : (k i l j a b c : ℕ) → i ≡ a → l ≡ b → j ≡ c → label k a ≡ label b c
+    → label k i ≡ label l j
 label_eq k i l j a b c e f g h = ap (label k) e ∙ h ∙ sym (ap (λ x. label x j) f ∙ ap (label b) g)
 
-low_kept : (k i l j : ℕ) → k < 3 → l ≡ suc k → i ≤ length (triangle.step k).below → j ≡ i → label k i ≡ label l j
+low_kept : (k i l j : ℕ) → k < 3 → l ≡ suc k → i ≤ length (triangle.step k).below → j ≡ i
+    → label k i ≡ label l j
 low_kept zero i l j h e a b = label_eq 0 i l j 0 1 0 (omega arith) e (omega arith) refl
 low_kept (suc zero) zero l j h e a b = label_eq 1 0 l j 0 2 0 refl e b refl
 low_kept (suc zero) (suc zero) l j h e a b = label_eq 1 1 l j 1 2 1 refl e b refl
@@ -35,7 +38,8 @@ low_kept (suc zero) (suc (suc i)) l j h e a b = absurd (omega arith)
 low_kept (suc (suc zero)) i l j h e a b = label_eq 2 i l j 0 3 0 (omega arith) e (omega arith) refl
 low_kept (suc (suc (suc k))) i l j h e a b = absurd (omega arith)
 
-high_kept : (k i l j : ℕ) → k < 3 → l ≡ suc k → i ≤ length (triangle.list k) → length (triangle.step k).below + length (triangle.step k).ending ≤ i
+high_kept : (k i l j : ℕ) → k < 3 → l ≡ suc k → i ≤ length (triangle.list k)
+    → length (triangle.step k).below + length (triangle.step k).ending ≤ i
     → j + length (triangle.step k).ending ≡ i + length (triangle.step k).starting → label k i ≡ label l j
 high_kept zero i l j h e t a b = label_eq 0 i l j 0 1 2 (omega arith) e (omega arith) refl
 high_kept (suc zero) i l j h e t a b = label_eq 1 i l j 2 2 2 (omega arith) e (omega arith) refl

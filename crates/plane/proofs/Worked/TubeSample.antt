@@ -103,7 +103,8 @@ fits h (inr (inr (inr (inl e)))) = few _ 3 (omega arith) (ap edge_of e)
 fits h (inr (inr (inr (inr (inl e))))) = few _ 4 (omega arith) (ap edge_of e)
 fits h (inr (inr (inr (inr (inr e))))) = absurd e
 
-not_among : (n a b c d : ℕ) → (n ≡ a → ⊥) → (n ≡ b → ⊥) → (n ≡ c → ⊥) → (n ≡ d → ⊥) → Has n (a ∷ b ∷ c ∷ d ∷ []) → ⊥
+not_among : (n a b c d : ℕ) → (n ≡ a → ⊥) → (n ≡ b → ⊥) → (n ≡ c → ⊥) → (n ≡ d → ⊥)
+    → Has n (a ∷ b ∷ c ∷ d ∷ []) → ⊥
 not_among n a b c d x y z w (inl e) = x e
 not_among n a b c d x y z w (inr (inl e)) = y e
 not_among n a b c d x y z w (inr (inr (inl e))) = z e

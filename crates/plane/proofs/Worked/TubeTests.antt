@@ -1,5 +1,6 @@
 -- A run over the edges of a drawing with tubes, and the labels of their sides, are decided by tests that compute.
-use Rattle.std.proofs.Common.{◌≡◌, ℕ, ◌<◌, Bool, true, false, List, length, get_or, inl, inr, refl, ap, sym, ◌∙◌, subst}
+use Rattle.std.proofs.Common.{◌≡◌, ℕ, ◌<◌, Bool, true, false, List, length, get_or, inl, inr, refl}
+use Rattle.std.proofs.Common.{ap, sym, ◌∙◌, subst}
 use Rattle.plane.specs.declared.kinds.Point.{Point}
 use Rattle.plane.specs.declared.kinds.CurveKind.TheVariants as kind
 use Rattle.plane.specs.Forms.Vectors.{Edge}
@@ -13,10 +14,13 @@ use Rattle.plane.specs.Faces.Labels.{Labels, last_label, first_label}
 use Rattle.plane.specs.Faces.Parity.{both, either, same_point, same_number}
 use Rattle.plane.specs.Tubes.Bays.{Bay, IsTube}
 use Rattle.plane.specs.Tubes.Facing.{way}
-use Rattle.plane.specs.CurveRuns.TubedRuns.{Part, whole, inner, outer, edge_list, owned, owner, Connects, IsOfTube, IsTubedRun, tube_label, third_is_left, inward, AreTubeLabels}
+use Rattle.plane.specs.CurveRuns.TubedRuns.{Part, whole, inner, outer, edge_list, owned, owner}
+use Rattle.plane.specs.CurveRuns.TubedRuns.{Connects, IsOfTube, IsTubedRun, tube_label}
+use Rattle.plane.specs.CurveRuns.TubedRuns.{third_is_left, inward, AreTubeLabels}
 use Rattle.plane.proofs.ParityLemmas.Parities.{both_true, same_is, same_self}
 use Rattle.plane.proofs.ParityLemmas.ByNumber.{number_is}
-use Rattle.plane.proofs.Worked.RunTests.{either_is, implies, implies_is, most, most_is, all_below, all_below_is, is_end}
+use Rattle.plane.proofs.Worked.RunTests.{either_is, implies, implies_is, most, most_is, all_below}
+use Rattle.plane.proofs.Worked.RunTests.{all_below_is, is_end}
 use Rattle.plane.proofs.Worked.CertificateTests.{match_test, match_is}
 
 -- ---- parts of curves
@@ -89,7 +93,8 @@ module _ (d : Plan) (bays : ℕ → List Bay) (m : ℕ) (E : ℕ → Edge) (step
   abbrev pub corner_test : ℕ → Bool
   corner_test k = all_below m (corner_at k)
 
-  pub tubed_by_test : ((i : ℕ) → i < length d.curves → (curve d i).kind ≡ kind.HalfArc → IsTube (arc (curve d i)) (bays i)) → m ≡ length (edge_list bays 0 d.curves) → Run m E steps
+  pub tubed_by_test : ((i : ℕ) → i < length d.curves → (curve d i).kind ≡ kind.HalfArc → IsTube (arc (curve d i)) (bays i))
+      → m ≡ length (edge_list bays 0 d.curves) → Run m E steps
       → all_below m connect_test ≡ true → all_below (length steps) corner_test ≡ true → IsTubedRun d bays m E steps
   tubed_by_test tube count run c t = record {
     tube = tube;
@@ -133,7 +138,8 @@ module _ (d : Plan) (bays : ℕ → List Bay) (r : Replay) (lab : Labels) (withi
   abbrev pub matching_test : ℕ → Bool
   matching_test k = match_test lab (last_label lab 0 (r.step k).below) (r.step k).starting (first_label lab (r.step k).above 0)
 
-  pub labels_by_test : all_below r.steps matching_test ≡ true → all_below r.edges label_test ≡ true → AreTubeLabels d bays r lab within inside outside
+  pub labels_by_test : all_below r.steps matching_test ≡ true → all_below r.edges label_test ≡ true
+      → AreTubeLabels d bays r lab within inside outside
   labels_by_test n t = record {
     matched = λ k l. match_is lab (last_label lab 0 (r.step k).below) (r.step k).starting (first_label lab (r.step k).above 0) (all_below_is r.steps matching_test n k l);
     faces = λ e l o. let k = both_true _ _ (both_true _ _ (tube e l o)).0 in record { edge = number_is _ _ k.0; left = same_edge (way r.edge (within e)) (arrow_of e) k.1 };
@@ -146,11 +152,13 @@ module _ (d : Plan) (bays : ℕ → List Bay) (r : Replay) (lab : Labels) (withi
     outer_chain = λ e l o. number_is _ _ (implies_is (same_part (owned d bays e).part outer) _ (both_true _ _ (both_true _ _ (rest e l)).1).1 (part_is _ _ o));
   }
     where
-      whole_test : (e : ℕ) → e < r.edges → (implies (of_tube (owned d bays e).part) (tube_test e) ≡ true) × (both (implies (same_part (owned d bays e).part whole) (straight_test e)) (chains_test e) ≡ true)
+      whole_test : (e : ℕ) → e < r.edges
+          → (implies (of_tube (owned d bays e).part) (tube_test e) ≡ true) × (both (implies (same_part (owned d bays e).part whole) (straight_test e)) (chains_test e) ≡ true)
       whole_test e l = both_true _ _ (all_below_is r.edges label_test t e l)
 
       tube : (e : ℕ) → e < r.edges → IsOfTube (owned d bays e).part → tube_test e ≡ true
       tube e l o = implies_is (of_tube (owned d bays e).part) (tube_test e) (whole_test e l).0 (tube_is (owned d bays e).part o)
 
-      rest : (e : ℕ) → e < r.edges → both (implies (same_part (owned d bays e).part whole) (straight_test e)) (chains_test e) ≡ true
+      rest : (e : ℕ) → e < r.edges
+          → both (implies (same_part (owned d bays e).part whole) (straight_test e)) (chains_test e) ≡ true
       rest e l = (whole_test e l).1

@@ -2,7 +2,8 @@ use Rattle.std.proofs.Common.{FitsSigned, of_z, to_z-of_z, rules, arith, ap, ◌
 use Rattle.std.specs.Int.{w128, w64}
 use Rattle.plane.specs.Numbers.{IsWithin}
 use Rattle.arc_predicates.proofs.Sums.{product_within}
-use Rattle.arc_predicates.proofs.CircleNumbers.{AreSeen, centre_x_is, centre_y_is, near_close, no_circle, squares_within, turn_is}
+use Rattle.arc_predicates.proofs.CircleNumbers.{AreSeen, centre_x_is, centre_y_is, near_close}
+use Rattle.arc_predicates.proofs.CircleNumbers.{no_circle, squares_within, turn_is}
 use Rattle.arc_predicates.proofs.circling.near_circle.Goals as goal
 
 pub difference-mx-requires : goal.difference-mx-requires

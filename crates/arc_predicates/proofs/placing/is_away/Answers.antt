@@ -4,7 +4,8 @@ use Rattle.plane.specs.Numbers.{IsWithin}
 use Rattle.plane.proofs.Algebra.Bounds.{within_fits}
 use Rattle.arc_predicates.specs.Circles.{half_arc, place}
 use Rattle.arc_predicates.proofs.Sums.{product_within, within_by}
-use Rattle.arc_predicates.proofs.PlaceNumbers.{away_by, bend_within, bow_is, close_above, close_right, near_much_wider, turned_within}
+use Rattle.arc_predicates.proofs.PlaceNumbers.{away_by, bend_within, bow_is, close_above}
+use Rattle.arc_predicates.proofs.PlaceNumbers.{close_right, near_much_wider, turned_within}
 use Rattle.arc_predicates.proofs.placing.is_away.Goals as goal
 
 pub offset-right-requires-clause-close : goal.offset-right-requires-clause-close

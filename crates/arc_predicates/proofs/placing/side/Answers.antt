@@ -1,7 +1,8 @@
 use Rattle.std.proofs.Common.{◌≡◌, ◌*ℤ◌, ◌-ℤ◌, FitsSigned, to_z-of_z, rules, subst}
 use Rattle.std.specs.Int.{w128, w64}
 use Rattle.arc_predicates.specs.Circles.{HasSign, half_arc, place}
-use Rattle.arc_predicates.proofs.PlaceNumbers.{close_above, close_right, has_side, power_is, short_within, side_has}
+use Rattle.arc_predicates.proofs.PlaceNumbers.{close_above, close_right, has_side, power_is}
+use Rattle.arc_predicates.proofs.PlaceNumbers.{short_within, side_has}
 use Rattle.arc_predicates.proofs.TestParts.{refuted}
 use Rattle.arc_predicates.proofs.placing.side.Goals as goal
 

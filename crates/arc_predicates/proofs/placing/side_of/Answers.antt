@@ -4,7 +4,9 @@ use Rattle.plane.specs.Numbers.{IsWithin}
 use Rattle.plane.proofs.Algebra.Bounds.{within_fits}
 use Rattle.arc_predicates.specs.Circles.{HasSign, half_arc}
 use Rattle.arc_predicates.proofs.Sums.{product_within, within_by}
-use Rattle.arc_predicates.proofs.PlaceNumbers.{ahead_within, bend_within, circle_x_within, circle_y_within, far_within, over_within, part_within, seen_is}
+use Rattle.arc_predicates.proofs.PlaceNumbers.{ahead_within, bend_within, circle_x_within}
+use Rattle.arc_predicates.proofs.PlaceNumbers.{circle_y_within, far_within, over_within}
+use Rattle.arc_predicates.proofs.PlaceNumbers.{part_within, seen_is}
 use Rattle.arc_predicates.proofs.placing.side_of.Goals as goal
 
 pub dot-ahead-requires-clause-first : goal.dot-ahead-requires-clause-first

@@ -1,5 +1,6 @@
 use Rattle.field_values.specs.Places.{place_view}
-use Rattle.area_drawings.proofs.CurveLemmas.{close_points, on_one_straight, left_of_straight, right_of_straight}
+use Rattle.area_drawings.proofs.CurveLemmas.{close_points, on_one_straight, left_of_straight}
+use Rattle.area_drawings.proofs.CurveLemmas.{right_of_straight}
 use Rattle.area_drawings.proofs.curves.are_collinear.Goals as goal
 
 pub turn-requires-clause-b_close : goal.turn-requires-clause-b_close

@@ -1,5 +1,6 @@
 use Rattle.std.proofs.Common.{refl, arith, get_or, ◌∙◌}
-use Rattle.area_drawings.proofs.StrokeSteps.{rest_inside, count_within, count_after, strokes_step, split_few}
+use Rattle.area_drawings.proofs.StrokeSteps.{rest_inside, count_within, count_after, strokes_step}
+use Rattle.area_drawings.proofs.StrokeSteps.{split_few}
 use Rattle.area_drawings.proofs.drawing.add_strokes.Goals as goal
 
 pub loop-count-preserved : goal.loop-count-preserved

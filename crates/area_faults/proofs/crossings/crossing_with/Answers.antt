@@ -23,7 +23,8 @@ near c z on =
     let y : IsRounded s.from.y (s.to.y -ℤ s.from.y) c.part_before-part.result c.args.turn c.rounded-y.result = simp to_z-of_z at c.rounded-y.ensures in
     rounded_meeting s.from s.to c.args.e c.args.f c.part_before-part.result c.args.turn c.rounded-x.result c.rounded-y.result part_is turn_is x y c.requires.left c.rounded_meetings_are_near.ensures z on
 
-fits : (c : goal.After-rounded-y) → FitsSigned w64 c.rounded-x.result × FitsSigned w64 c.rounded-y.result
+fits : (c : goal.After-rounded-y)
+    → FitsSigned w64 c.rounded-x.result × FitsSigned w64 c.rounded-y.result
 fits c =
     let s = c.args.straight.now in
     let ax : FitsSigned w64 s.from.x = search rules in

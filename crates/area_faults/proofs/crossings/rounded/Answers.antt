@@ -1,4 +1,5 @@
-use Rattle.std.proofs.Common.{rules, ◌≡◌, ◌^◌, ◌*ℤ◌, ◌-ℤ◌, ℤ, negsuc, FitsSigned, to_z, of_z, to_z-of_z, ap, arith, refl, subst, sym, ◌∙◌}
+use Rattle.std.proofs.Common.{rules, ◌≡◌, ◌^◌, ◌*ℤ◌, ◌-ℤ◌, ℤ, negsuc, FitsSigned, to_z, of_z}
+use Rattle.std.proofs.Common.{to_z-of_z, ap, arith, refl, subst, sym, ◌∙◌}
 use Rattle.std.proofs.lemmas.Int.{ints}
 use Rattle.std.specs.Int.{int_div_euclid, w128}
 use Rattle.plane.specs.Numbers.{IsWithin}

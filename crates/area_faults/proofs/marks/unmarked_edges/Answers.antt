@@ -1,7 +1,8 @@
 use Rattle.std.proofs.Common.{ap, ◌∙◌}
 use Rattle.area_faults.proofs.Unmarked.{one_more, passed_over, refuted_mark}
 use Rattle.area_faults.proofs.marks.unmarked_edges.Goals as goal
-use Rattle.area_faults.proofs.marks.unmarked_edges.Goals.{then-is_unmarked+in_ok-push+in_ok-push-2, else-is_unmarked}
+use Rattle.area_faults.proofs.marks.unmarked_edges.Goals.{then-is_unmarked+in_ok-push+in_ok-push-2}
+use Rattle.area_faults.proofs.marks.unmarked_edges.Goals.{else-is_unmarked}
 
 pub loop-number-preserved : goal.loop-number-preserved
 loop-number-preserved c =

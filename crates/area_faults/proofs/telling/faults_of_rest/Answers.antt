@@ -2,7 +2,8 @@ use Rattle.std.proofs.Common.{Bool, List, subst, ◌∙◌}
 use Rattle.plane.specs.Rule.Plans.{plan}
 use Rattle.fault_lists.specs.DrawingFaces.{HasFaces}
 use Rattle.near_pairs.specs.Boxes.{mark_of}
-use Rattle.area_faults.proofs.ToldFaults.{all_faults, both_out, met_below, out_of_curves, pairs_for, points_below, some_of_all}
+use Rattle.area_faults.proofs.ToldFaults.{all_faults, both_out, met_below, out_of_curves, pairs_for}
+use Rattle.area_faults.proofs.ToldFaults.{points_below, some_of_all}
 use Rattle.area_faults.proofs.telling.faults_of_rest.Goals as goal
 
 pub left_out_marks-requires : goal.left_out_marks-requires

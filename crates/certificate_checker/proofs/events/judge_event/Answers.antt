@@ -1,12 +1,15 @@
-use Rattle.std.proofs.Common.{rules, arith, ap, sym, subst, refl, IsTrue, false, ◌≡◌, ◌↔◌, ◌∙◌, length}
+use Rattle.std.proofs.Common.{rules, arith, ap, sym, subst, refl, IsTrue, false, ◌≡◌, ◌↔◌, ◌∙◌}
+use Rattle.std.proofs.Common.{length}
 use Rattle.straight_predicates.specs.EdgeLists.{AreBelow, IsCloseToAll}
 use Rattle.straight_predicates.specs.Tables.{table_of}
 use Rattle.certificate_checker.specs.Cases.{judged}
-use Rattle.certificate_checker.specs.Rules.{BetweenAt, BlockAt, HasBlock, IsBetween, LabelsAt, SlopesAt}
+use Rattle.certificate_checker.specs.Rules.{BetweenAt, BlockAt, HasBlock, IsBetween, LabelsAt}
+use Rattle.certificate_checker.specs.Rules.{SlopesAt}
 use Rattle.certificate_checker.specs.Subjects.{edge}
 use Rattle.certificate_checker.specs.Verdicts.{between, block, labels, slopes}
 use Rattle.certificate_checker.proofs.Closeness.{event_close, starting_below}
-use Rattle.certificate_checker.proofs.ListParts.{event_rule, labels_at, notes_of, slopes_rule, unfit}
+use Rattle.certificate_checker.proofs.ListParts.{event_rule, labels_at, notes_of, slopes_rule}
+use Rattle.certificate_checker.proofs.ListParts.{unfit}
 use Rattle.certificate_checker.proofs.events.judge_event.Goals as goal
 
 pub is_between-requires-clause-close : goal.is_between-requires-clause-close

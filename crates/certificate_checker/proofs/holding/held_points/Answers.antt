@@ -1,4 +1,5 @@
-use Rattle.std.proofs.Common.{rules, arith, ◌≡◌, ◌↔◌, ◌∙◌, ◌<◌, ℕ, Bool, false, IsTrue, get_or, length, subst, sym}
+use Rattle.std.proofs.Common.{rules, arith, ◌≡◌, ◌↔◌, ◌∙◌, ◌<◌, ℕ, Bool, false, IsTrue, get_or}
+use Rattle.std.proofs.Common.{length, subst, sym}
 use Rattle.plane.specs.Rule.Plans.{object, plan}
 use Rattle.plane.specs.Rule.Windows.{IsInside}
 use Rattle.plane.specs.declared.kinds.Placed.{Placed}

@@ -7,5 +7,6 @@ use Rattle.certificate_checker.proofs.holding.held_points.Given as goal
 abbrev pub invariant-loop-j : goal.invariant-loop-j
 invariant-loop-j l = record {
   size : length l.held.items ≡ l.j;
-  each : (k : ℕ) → k < l.j → IsTrue (get_or l.held.items k false) ↔ IsHeldAt (plan l.drawing) l.level (get_or l.places k (Cell 0)) (object (plan l.drawing) k);
+  each : (k : ℕ) → k < l.j
+      → IsTrue (get_or l.held.items k false) ↔ IsHeldAt (plan l.drawing) l.level (get_or l.places k (Cell 0)) (object (plan l.drawing) k);
 }

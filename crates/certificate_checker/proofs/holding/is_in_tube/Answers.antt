@@ -1,7 +1,8 @@
 use Rattle.std.proofs.Common.{rules, ◌≡◌, false, IsTrue, subst}
 use Rattle.plane.specs.Rule.Curves.{arc}
 use Rattle.tubes.specs.Making.{IsTubeAt}
-use Rattle.certificate_checker.proofs.HeldPoints.{has_side, holds_in, in_holds, inner_close, outer_close}
+use Rattle.certificate_checker.proofs.HeldPoints.{has_side, holds_in, in_holds, inner_close}
+use Rattle.certificate_checker.proofs.HeldPoints.{outer_close}
 use Rattle.certificate_checker.proofs.ListParts.{refused, unfit}
 use Rattle.certificate_checker.proofs.holding.is_in_tube.Goals as goal
 

@@ -3,7 +3,8 @@ use Rattle.plane.specs.Faces.Halves.{half_of}
 use Rattle.certificate.specs.declared.notes.Link.TheVariants as link
 use Rattle.certificate_checker.specs.Cases.{judged}
 use Rattle.certificate_checker.specs.Rules.{FallsTo}
-use Rattle.certificate_checker.proofs.Linking.{linked_by, next_leads, not_across, prev_leads, root_leads}
+use Rattle.certificate_checker.proofs.Linking.{linked_by, next_leads, not_across, prev_leads}
+use Rattle.certificate_checker.proofs.Linking.{root_leads}
 use Rattle.certificate_checker.proofs.ListParts.{refused, unfit}
 use Rattle.certificate_checker.proofs.links.is_linked.Goals as goal
 

@@ -1,4 +1,5 @@
-use Rattle.std.proofs.Common.{rules, arith, ◌≡◌, ◌↔◌, ◌∙◌, ℕ, IsTrue, false, add-one, get_or, subst, sym}
+use Rattle.std.proofs.Common.{rules, arith, ◌≡◌, ◌↔◌, ◌∙◌, ℕ, IsTrue, false, add-one, get_or, subst}
+use Rattle.std.proofs.Common.{sym}
 use Rattle.certificate_checker.specs.Cases.{judged}
 use Rattle.certificate_checker.specs.Subjects.{side_label}
 use Rattle.certificate_checker.proofs.ListParts.{refused, unfit}

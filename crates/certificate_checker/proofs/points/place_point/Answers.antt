@@ -1,4 +1,5 @@
-use Rattle.std.proofs.Common.{rules, refl, inl, inr, IsTrue, false, arith, w32, ℕ, ◌≡◌, ◌↔◌, ◌⊎◌, ◌+◌, ◌-◌, ◌*◌, subst}
+use Rattle.std.proofs.Common.{rules, refl, inl, inr, IsTrue, false, arith, w32, ℕ, ◌≡◌, ◌↔◌, ◌⊎◌}
+use Rattle.std.proofs.Common.{◌+◌, ◌-◌, ◌*◌, subst}
 use Rattle.std.proofs.Math.Facts.{Fits-of_lt}
 use Rattle.certificate_checker.specs.Cases.{judged}
 use Rattle.plane.specs.Faces.Halves.{Half, half_of}

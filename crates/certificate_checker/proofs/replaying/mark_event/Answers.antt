@@ -6,7 +6,8 @@ use Rattle.certificate_checker.specs.Cases.{judged}
 use Rattle.certificate_checker.specs.Marked.{AreMarked, IsAtBorder, NamesAcross}
 use Rattle.certificate_checker.proofs.Closeness.{starting_below}
 use Rattle.certificate_checker.proofs.ListParts.{at_note, before_note, notes_of}
-use Rattle.certificate_checker.proofs.Moving.{across_event, block_within, border_event, live_below, marked_at, marked_more, opened_is}
+use Rattle.certificate_checker.proofs.Moving.{across_event, block_within, border_event, live_below}
+use Rattle.certificate_checker.proofs.Moving.{marked_at, marked_more, opened_is}
 use Rattle.certificate_checker.proofs.replaying.mark_event.Goals as goal
 
 pub mark_neighbours-requires-clause-lower : goal.mark_neighbours-requires-clause-lower

@@ -3,7 +3,8 @@ use Rattle.plane.specs.Runs.Moves.{steps_from}
 use Rattle.straight_predicates.specs.EdgeEvents.{width}
 use Rattle.certificate_checker.specs.Cases.{judged}
 use Rattle.certificate_checker.specs.Subjects.{edge, event, moves}
-use Rattle.certificate_checker.proofs.Moving.{can_turn_at, events_are, is_event, next_live, passes_to}
+use Rattle.certificate_checker.proofs.Moving.{can_turn_at, events_are, is_event, next_live}
+use Rattle.certificate_checker.proofs.Moving.{passes_to}
 use Rattle.certificate_checker.proofs.replaying.move_event.Goals as goal
 
 pub turn_event-requires-clause-can : goal.turn_event-requires-clause-can

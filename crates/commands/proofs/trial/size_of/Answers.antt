@@ -2,7 +2,9 @@ use Rattle.std.proofs.Common.{arith, ◌≡◌, ℕ, Some, None, true, false, de
 use Rattle.std.proofs.lemmas.Slice.Eq.{bytes_eq-Decides}
 use Rattle.commands.proofs.TrialSizes.{spelled_size}
 use Rattle.commands.proofs.trial.size_of.Goals as goal
-use Rattle.commands.proofs.trial.size_of.Goals.{else-size-ge1-via-then-size-ge1+then-size-le500+else-eq, else-size-ge1-via-then-size-ge1+else-size-le500, else-size-ge1-via-else-size-ge1}
+use Rattle.commands.proofs.trial.size_of.Goals.{else-size-ge1-via-then-size-ge1+then-size-le500+else-eq}
+use Rattle.commands.proofs.trial.size_of.Goals.{else-size-ge1-via-then-size-ge1+else-size-le500}
+use Rattle.commands.proofs.trial.size_of.Goals.{else-size-ge1-via-else-size-ge1}
 
 pub returns-in_err-size-clause-none : goal.returns-in_err-size-clause-none
 returns-in_err-size-clause-none c =

@@ -1,5 +1,6 @@
 use Rattle.std.proofs.Common.{◌≡◌, length, get_or, arith, refl}
-use Rattle.decimals.proofs.PlainNumbers.{whole_fits, whole_below, whole_zeros_fit, plain_whole, plain_if_some}
+use Rattle.decimals.proofs.PlainNumbers.{whole_fits, whole_below, whole_zeros_fit, plain_whole}
+use Rattle.decimals.proofs.PlainNumbers.{plain_if_some}
 use Rattle.decimals.proofs.plain.read_plain.Goals as goal
 
 pub front_number-whole-requires : goal.front_number-whole-requires

@@ -1,4 +1,5 @@
-use Rattle.std.proofs.Common.{arith, ◌∙◌, ℕ, ℤ, length, ◌≤◌, ◌/◌, ◌^◌, decimal, ◌-◌, ◌≡◌, ap, to_z-of_z, unsigned_abs}
+use Rattle.std.proofs.Common.{arith, ◌∙◌, ℕ, ℤ, length, ◌≤◌, ◌/◌, ◌^◌, decimal, ◌-◌, ◌≡◌, ap}
+use Rattle.std.proofs.Common.{to_z-of_z, unsigned_abs}
 use Rattle.decimals.proofs.Places.{drop_later}
 use Rattle.decimals.proofs.WrittenParts.{power_positive, sign_short, whole_short, decimals_short}
 use Rattle.decimals.specs.Numerals.{sign_bytes}

@@ -12,7 +12,9 @@ use Rattle.plane.specs.Rule.Plans.{plan}
 use Rattle.table_layout.specs.Values.{area_view, areas_view, layout_view}
 use Rattle.reports.specs.AreaKinds.{plans}
 use Rattle.delivery.specs.AnswerViews.{certificates_in}
-use Rattle.delivery.proofs.AnswerLemmas.{both_ended, shorter_both, few_first, few_rest, named_first, named_rest, fit_more, count_more, go_on, all_answered, tolerance_first, tolerance_rest}
+use Rattle.delivery.proofs.AnswerLemmas.{both_ended, shorter_both, few_first, few_rest, named_first}
+use Rattle.delivery.proofs.AnswerLemmas.{named_rest, fit_more, count_more, go_on, all_answered}
+use Rattle.delivery.proofs.AnswerLemmas.{tolerance_first, tolerance_rest}
 use Rattle.delivery.proofs.NamedAreas.{all_titled, areas_few}
 use Rattle.delivery.proofs.area_answers.answers_of.Goals as goal
 

@@ -1,8 +1,10 @@
 use Rattle.std.proofs.Common.{◌≡◌, ◌<◌, length, get_or, arith, sym, ◌∙◌, rules, vec_len}
 use Rattle.std.proofs.lemmas.List.{get_or_read}
 use Rattle.faces.specs.Searching.{IsSet, unset}
-use Rattle.faces.proofs.Numbering.{has_face, has_none, never_zero, none_joins, number_kept, number_next}
-use Rattle.faces.proofs.Passing.{given_all, has_reached, kept_all, reached_face, reached_given, reached_kept}
+use Rattle.faces.proofs.Numbering.{has_face, has_none, never_zero, none_joins, number_kept}
+use Rattle.faces.proofs.Numbering.{number_next}
+use Rattle.faces.proofs.Passing.{given_all, has_reached, kept_all, reached_face, reached_given}
+use Rattle.faces.proofs.Passing.{reached_kept}
 use Rattle.faces.proofs.Searches.{room_left}
 use Rattle.faces.specs.Joins.{cells_of}
 use Rattle.faces.proofs.labelling.number_next.Goals as goal

@@ -2,7 +2,8 @@ use Rattle.std.proofs.Common.{◌≡◌, ℕ, length, get_or, arith, ap, sym, �
 use Rattle.std.proofs.lemmas.List.{get_or_read}
 use Rattle.plane.specs.Lists.{Has}
 use Rattle.faces.specs.Joins.{cells_of}
-use Rattle.faces.proofs.Borders.{side_face, side_kept, side_room, side_searched, side_waiting, side_within}
+use Rattle.faces.proofs.Borders.{side_face, side_kept, side_room, side_searched, side_waiting}
+use Rattle.faces.proofs.Borders.{side_within}
 use Rattle.faces.proofs.PairRows.{place_of}
 use Rattle.faces.proofs.Passes.{row_next}
 use Rattle.faces.proofs.PlaneLaws.{has_at}

@@ -1,4 +1,5 @@
-use Rattle.std.proofs.Common.{◌≡◌, ℕ, ◌+◌, ◌<◌, inl, inr, length, get_or, arith, ap, sym, ◌∙◌, subst, refl, rules, vec_len}
+use Rattle.std.proofs.Common.{◌≡◌, ℕ, ◌+◌, ◌<◌, inl, inr, length, get_or, arith, ap, sym, ◌∙◌}
+use Rattle.std.proofs.Common.{subst, refl, rules, vec_len}
 use Rattle.std.proofs.lemmas.List.{get_or_read}
 use Rattle.half_edges.specs.HalfEdges.{next_of, prev_of, size}
 use Rattle.faces.specs.Ranking.{HasRankMost, IsRankReached, IsRanking, first_of, first_rank}
@@ -7,7 +8,9 @@ use Rattle.faces.specs.Searching.{IsNear}
 use Rattle.faces.proofs.Passes.{in_row, row_is}
 use Rattle.faces.proofs.Passing.{kept_all}
 use Rattle.faces.proofs.RankPasses.{all_ranked, omega_lt, row_ranked, still_most}
-use Rattle.faces.proofs.Rankings.{later_all, rank_reached, rank_stays, rank_within, ranked_one, ranking_next, ranking_room, ranking_sized, ranking_small, ranking_within, reached_later}
+use Rattle.faces.proofs.Rankings.{later_all, rank_reached, rank_stays, rank_within, ranked_one}
+use Rattle.faces.proofs.Rankings.{ranking_next, ranking_room, ranking_sized, ranking_small}
+use Rattle.faces.proofs.Rankings.{ranking_within, reached_later}
 use Rattle.faces.specs.Joins.{cells_of}
 use Rattle.faces.proofs.ranks.pass.Goals as goal
 

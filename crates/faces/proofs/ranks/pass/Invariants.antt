@@ -13,6 +13,7 @@ invariant-loop-g l = record {
   later : AreLater l.fn.search.ranks.items l.search.ranks.items;
   next : HasRankMost l.search.ranks.items (next_of l.graph.mesh.now (first_of l.fn.search)) (first_rank l.fn.search + 1);
   prev : HasRankMost l.search.ranks.items (prev_of l.graph.mesh.now (first_of l.fn.search)) (first_rank l.fn.search + 1);
-  row : (i : ℕ) → i < l.g-index → HasRankMost l.search.ranks.items (get_or l.g-items i 0) (first_rank l.fn.search + 1);
+  row : (i : ℕ) → i < l.g-index
+      → HasRankMost l.search.ranks.items (get_or l.g-items i 0) (first_rank l.fn.search + 1);
   rank : l.rank ≡ first_rank l.fn.search + 1;
 }

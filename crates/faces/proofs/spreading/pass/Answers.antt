@@ -1,9 +1,12 @@
-use Rattle.std.proofs.Common.{◌≡◌, ℕ, ◌+◌, ◌^◌, ◌<◌, inl, inr, length, get_or, arith, ap, sym, ◌∙◌, subst, refl, rules, vec_len}
+use Rattle.std.proofs.Common.{◌≡◌, ℕ, ◌+◌, ◌^◌, ◌<◌, inl, inr, length, get_or, arith, ap, sym, ◌∙◌}
+use Rattle.std.proofs.Common.{subst, refl, rules, vec_len}
 use Rattle.std.proofs.lemmas.List.{get_or_read}
 use Rattle.half_edges.specs.HalfEdges.{next_of, prev_of, size}
 use Rattle.faces.specs.Rows.{row_of}
 use Rattle.faces.specs.Searching.{IsNear, IsPassing, head_of}
-use Rattle.faces.proofs.Passing.{given_all, kept_all, passed_one, passed_waiting, passing_kept, passing_next, passing_reached, passing_room, passing_sized, passing_within, reached_given, step_within}
+use Rattle.faces.proofs.Passing.{given_all, kept_all, passed_one, passed_waiting, passing_kept}
+use Rattle.faces.proofs.Passing.{passing_next, passing_reached, passing_room, passing_sized}
+use Rattle.faces.proofs.Passing.{passing_within, reached_given, step_within}
 use Rattle.faces.proofs.Passes.{all_near, in_row, row_is, row_next, still_faced}
 use Rattle.faces.specs.Joins.{cells_of}
 use Rattle.faces.proofs.spreading.pass.Goals as goal

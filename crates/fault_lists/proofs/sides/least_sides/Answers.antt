@@ -1,7 +1,8 @@
 use Rattle.std.proofs.Common.{rules, None, sym, ◌∙◌, arith}
 use Rattle.std.proofs.lemmas.List.{get_or_default}
 use Rattle.fault_lists.proofs.LeastSides.{no_side_told, curve_told, curve_passed, all_sides_told}
-use Rattle.fault_lists.proofs.sides.least_sides.Goals.{in-Some+in_ok-add_side+in_ok-add_side-2, in_default}
+use Rattle.fault_lists.proofs.sides.least_sides.Goals.{in-Some+in_ok-add_side+in_ok-add_side-2}
+use Rattle.fault_lists.proofs.sides.least_sides.Goals.{in_default}
 use Rattle.fault_lists.proofs.sides.least_sides.Goals as goal
 
 pub loop-number-init : goal.loop-number-init

@@ -2,7 +2,8 @@ use Rattle.std.proofs.Common.{rules, sym, ◌∙◌, arith}
 use Rattle.std.proofs.lemmas.Bool.{false≢true}
 use Rattle.fault_lists.specs.FaceLists.{IsOutside}
 use Rattle.fault_lists.proofs.Walks.{none_yet, number_told, number_passed, all_below}
-use Rattle.fault_lists.proofs.telling.points_outside.Goals.{then-is_outside+in_ok-push, else-is_outside}
+use Rattle.fault_lists.proofs.telling.points_outside.Goals.{then-is_outside+in_ok-push}
+use Rattle.fault_lists.proofs.telling.points_outside.Goals.{else-is_outside}
 use Rattle.fault_lists.proofs.telling.points_outside.Goals as goal
 
 pub loop-number-init : goal.loop-number-init

@@ -2,7 +2,8 @@ use Rattle.std.proofs.Common.{rules, sym, ◌∙◌, arith}
 use Rattle.std.proofs.lemmas.Bool.{false≢true}
 use Rattle.fault_lists.specs.FaceLists.{IsUnjudged}
 use Rattle.fault_lists.proofs.Walks.{none_yet, number_told, number_passed, all_below}
-use Rattle.fault_lists.proofs.telling.points_unjudged.Goals.{then-is_unjudged+in_ok-push, else-is_unjudged}
+use Rattle.fault_lists.proofs.telling.points_unjudged.Goals.{then-is_unjudged+in_ok-push}
+use Rattle.fault_lists.proofs.telling.points_unjudged.Goals.{else-is_unjudged}
 use Rattle.fault_lists.proofs.telling.points_unjudged.Goals as goal
 
 pub loop-number-init : goal.loop-number-init

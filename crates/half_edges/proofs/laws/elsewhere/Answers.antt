@@ -1,4 +1,5 @@
-use Rattle.half_edges.proofs.Elsewhere.{star_stays, turned_elsewhere, loose_elsewhere, turns_elsewhere}
+use Rattle.half_edges.proofs.Elsewhere.{star_stays, turned_elsewhere, loose_elsewhere}
+use Rattle.half_edges.proofs.Elsewhere.{turns_elsewhere}
 use Rattle.half_edges.proofs.laws.elsewhere.Goals as goal
 
 pub returns : goal.returns

@@ -1,5 +1,6 @@
 use Rattle.ili_lexer.specs.declared.tokens.LexFault.{LexFault}
-use Rattle.ili_lexer.specs.declared.tokens.LexFault.TheVariants.{BadByte, OpenExplanation, LongNumber, Memory}
+use Rattle.ili_lexer.specs.declared.tokens.LexFault.TheVariants.{BadByte, OpenExplanation}
+use Rattle.ili_lexer.specs.declared.tokens.LexFault.TheVariants.{LongNumber, Memory}
 use Rattle.std.proofs.Common.{ℕ, List}
 use Rattle.ili_lexer.specs.Tokens.{IsFault, IsFaultByTable}
 use Rattle.ili_lexer.proofs.Whole as whole

@@ -1,5 +1,6 @@
 use Rattle.std.proofs.Common.{rules}
-use Rattle.ili_lexer.proofs.Progress.{read_on, read_token, read_all, read_bad_byte, read_open_explanation, read_long_number}
+use Rattle.ili_lexer.proofs.Progress.{read_on, read_token, read_all, read_bad_byte}
+use Rattle.ili_lexer.proofs.Progress.{read_open_explanation, read_long_number}
 use Rattle.ili_lexer.proofs.Orders.{in_order}
 use Rattle.ili_lexer.proofs.lexing.lex.Goals as goal
 

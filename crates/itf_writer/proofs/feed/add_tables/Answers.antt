@@ -1,4 +1,5 @@
-use Rattle.std.proofs.Common.{◌≡◌, ◌<◌, ◌≤◌, ◌∙◌, ◌++◌, ◌∷◌, List, ℕ, ap, sym, subst, drop, length, map, arith}
+use Rattle.std.proofs.Common.{◌≡◌, ◌<◌, ◌≤◌, ◌∙◌, ◌++◌, ◌∷◌, List, ℕ, ap, sym, subst, drop, length}
+use Rattle.std.proofs.Common.{map, arith}
 use Rattle.itf_lines.specs.LogicalLines.{LogicalLine}
 use Rattle.itf_reader.specs.Layouts.{wanted_of}
 use Rattle.table_layout.specs.ByTopic.{AreByTopic}

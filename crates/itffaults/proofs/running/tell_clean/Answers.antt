@@ -1,4 +1,5 @@
-use Rattle.itffaults.proofs.Calls.{all_small, all_tolerant, as_many, tells, told_memory, told_writes}
+use Rattle.itffaults.proofs.Calls.{all_small, all_tolerant, as_many, tells, told_memory}
+use Rattle.itffaults.proofs.Calls.{told_writes}
 use Rattle.itffaults.proofs.running.tell_clean.Goals as goal
 
 pub tell-requires-clause-valid : goal.tell-requires-clause-valid

@@ -6,7 +6,8 @@ use Rattle.fault_text.specs.Text.{tellings}
 use Rattle.plane.specs.Rule.Plans.{plan}
 use Rattle.reports.specs.AreaKinds.{plans}
 use Rattle.table_layout.specs.Values.{area_view, areas_view, layout_view}
-use Rattle.itffaults.proofs.Tellings.{all_told, both_ended, few_first, few_rest, go_on, shorter_both, tolerance_first, tolerance_rest}
+use Rattle.itffaults.proofs.Tellings.{all_told, both_ended, few_first, few_rest, go_on}
+use Rattle.itffaults.proofs.Tellings.{shorter_both, tolerance_first, tolerance_rest}
 use Rattle.itffaults.proofs.telling.tell_areas.Goals as goal
 
 pub loop-area-init : goal.loop-area-init

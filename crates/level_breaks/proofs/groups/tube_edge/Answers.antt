@@ -1,9 +1,11 @@
-use Rattle.std.proofs.Common.{ℕ, [], ◌+◌, ◌-◌, ◌<◌, ◌≤◌, List, length, ◌++◌, ◌∷◌, arith, ap, sym, subst, ◌∙◌}
+use Rattle.std.proofs.Common.{ℕ, [], ◌+◌, ◌-◌, ◌<◌, ◌≤◌, List, length, ◌++◌, ◌∷◌, arith, ap, sym}
+use Rattle.std.proofs.Common.{subst, ◌∙◌}
 use Rattle.plane.specs.declared.kinds.Point.{Point}
 use Rattle.straight_predicates.specs.EdgeLists.{HasEnds, edge_of, no_point}
 use Rattle.tubes.specs.TubedEdges.{AreDistinct, chain_edges}
 use Rattle.level_breaks.specs.Groups.{nth}
-use Rattle.level_breaks.proofs.GroupEdges.{inner_differs, inner_edge, inner_sizes, one_default, outer_edge, outer_number}
+use Rattle.level_breaks.proofs.GroupEdges.{inner_differs, inner_edge, inner_sizes, one_default}
+use Rattle.level_breaks.proofs.GroupEdges.{outer_edge, outer_number}
 use Rattle.level_breaks.proofs.groups.tube_edge.Goals as goal
 
 pub edge_between-requires : goal.edge_between-requires

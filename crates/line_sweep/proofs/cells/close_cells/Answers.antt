@@ -1,4 +1,5 @@
-use Rattle.std.proofs.Common.{◌≡◌, OnOk, ap, arith, subst, get_or, ◌∙◌, ◌+◌, ◌++◌, ◌∷◌, [], length, List, ℕ, Option, drop, filter}
+use Rattle.std.proofs.Common.{◌≡◌, OnOk, ap, arith, subst, get_or, ◌∙◌, ◌+◌, ◌++◌, ◌∷◌, [], length}
+use Rattle.std.proofs.Common.{List, ℕ, Option, drop, filter}
 use Rattle.plane.specs.Runs.Gaps.{Gap, is_real}
 use Rattle.line_sweep.specs.Kinds.{gaps_of}
 use Rattle.line_sweep.specs.OpenGaps.{gaps_by}

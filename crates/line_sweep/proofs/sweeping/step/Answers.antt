@@ -1,4 +1,5 @@
-use Rattle.std.proofs.Common.{arith, ap, sym, ◌∙◌, ◌+◌, ◌++◌, ◌∷◌, [], ℕ, List, length, suc, take, drop, replicate}
+use Rattle.std.proofs.Common.{arith, ap, sym, ◌∙◌, ◌+◌, ◌++◌, ◌∷◌, [], ℕ, List, length, suc, take}
+use Rattle.std.proofs.Common.{drop, replicate}
 use Rattle.straight_predicates.specs.Tables.{table_of}
 use Rattle.line_sweep.specs.Kinds.{gaps_of, moves_at_blocks}
 use Rattle.line_sweep.proofs.BlockMoves.{moves_more}

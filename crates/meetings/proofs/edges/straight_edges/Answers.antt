@@ -1,7 +1,8 @@
 use Rattle.std.proofs.Common.{ap, ◌∙◌}
 use Rattle.meetings.proofs.StraightLists.{more_lent, over_lent}
 use Rattle.meetings.proofs.edges.straight_edges.Goals as goal
-use Rattle.meetings.proofs.edges.straight_edges.Goals.{then-is_straight+in_ok-push+in_ok-push-2, else-is_straight}
+use Rattle.meetings.proofs.edges.straight_edges.Goals.{then-is_straight+in_ok-push+in_ok-push-2}
+use Rattle.meetings.proofs.edges.straight_edges.Goals.{else-is_straight}
 
 pub loop-number-preserved : goal.loop-number-preserved
 loop-number-preserved c =

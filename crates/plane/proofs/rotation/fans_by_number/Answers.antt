@@ -1,4 +1,5 @@
-use Rattle.plane.proofs.Turning.FanNumbers.{fan_length, over_at, under_at, numbers_in, in_numbers, fan_is, numbers_once, round_is}
+use Rattle.plane.proofs.Turning.FanNumbers.{fan_length, over_at, under_at, numbers_in, in_numbers}
+use Rattle.plane.proofs.Turning.FanNumbers.{fan_is, numbers_once, round_is}
 use Rattle.plane.proofs.rotation.fans_by_number.Goals as goal
 
 pub returns-clause-size : goal.returns-clause-size

@@ -1,4 +1,5 @@
-use Rattle.plane.proofs.Turning.NextOnly.{next_clockwise_is, clockwise_is_next, some_next, next_one, some_previous, previous_one}
+use Rattle.plane.proofs.Turning.NextOnly.{next_clockwise_is, clockwise_is_next, some_next, next_one}
+use Rattle.plane.proofs.Turning.NextOnly.{some_previous, previous_one}
 use Rattle.plane.proofs.rotation.next_half_edge_is_clockwise.Goals as goal
 
 pub returns-clause-is : goal.returns-clause-is

@@ -6,7 +6,8 @@ use Rattle.straight_predicates.specs.declared.turns.Turn.TheVariants.{Straight}
 use Rattle.point_location.proofs.PlaneLaws.{has_at}
 use Rattle.point_location.proofs.Signs.{not_straight, straight}
 use Rattle.point_location.proofs.between.place_between.Goals as goal
-use Rattle.point_location.proofs.between.place_between.Goals.{else-position-len-via-then-position-len+else-eq, else-position-len-via-else-position-len}
+use Rattle.point_location.proofs.between.place_between.Goals.{else-position-len-via-then-position-len+else-eq}
+use Rattle.point_location.proofs.between.place_between.Goals.{else-position-len-via-else-position-len}
 
 pub returns-then-eq : goal.returns-then-eq
 returns-then-eq c =

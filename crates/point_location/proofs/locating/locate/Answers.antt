@@ -3,7 +3,8 @@ use Rattle.std.proofs.lemmas.List.{length-set}
 use Rattle.point_location.specs.declared.numbered.Numbered.{Numbered}
 use Rattle.point_location.specs.Numbered.{IsInOrder, nothing}
 use Rattle.point_location.specs.Places.{IsPlaceOf}
-use Rattle.point_location.proofs.Placed.{IsReady, before_next, moment_at, placed_all, placed_next, ready_again, ready_anew}
+use Rattle.point_location.proofs.Placed.{IsReady, before_next, moment_at, placed_all, placed_next}
+use Rattle.point_location.proofs.Placed.{ready_again, ready_anew}
 use Rattle.point_location.proofs.locating.locate.Goals as goal
 use Rattle.point_location.proofs.locating.locate.Goals.{then-ne+in_ok-applied, else-ne}
 

@@ -11,7 +11,9 @@ abbrev pub invariant-loop-point : goal.invariant-loop-point
 invariant-loop-point l = record {
   done : IsApplied l.swept.events l.applied l.live;
   last : IfSome l.last (λ p. IsPlaceOf l.edges l.swept.events p l.place);
-  passed : (j : ℕ) → j < l.applied → l.point-index < length l.point-items → Before (get_or l.swept.events j no_move).at (get_or l.point-items l.point-index nothing).at;
+  passed : (j : ℕ) → j < l.applied → l.point-index < length l.point-items
+      → Before (get_or l.swept.events j no_move).at (get_or l.point-items l.point-index nothing).at;
   size : length l.places.items ≡ length l.points;
-  each : (i : ℕ) → i < l.point-index → IsPlaceOf l.edges l.swept.events (get_or l.point-items i nothing).at (get_or l.places.items (get_or l.point-items i nothing).number no_place);
+  each : (i : ℕ) → i < l.point-index
+      → IsPlaceOf l.edges l.swept.events (get_or l.point-items i nothing).at (get_or l.places.items (get_or l.point-items i nothing).number no_place);
 }

@@ -3,9 +3,11 @@ use Rattle.plane.specs.Runs.Moves.{Move}
 use Rattle.point_location.specs.Replaying.{EndsOrStarts}
 use Rattle.plane.specs.Runs.Moves.{step_of}
 use Rattle.point_location.proofs.PlaneLaws.{decides_equal}
-use Rattle.point_location.proofs.PointPlaces.{event_fits, least_at_event, now_known, now_room, place_is, some_edge}
+use Rattle.point_location.proofs.PointPlaces.{event_fits, least_at_event, now_known, now_room}
+use Rattle.point_location.proofs.PointPlaces.{place_is, some_edge}
 use Rattle.point_location.proofs.placing.place_at.Goals as goal
-use Rattle.point_location.proofs.placing.place_at.Goals.{else-applied-len-via-then-applied-len+else-eq, else-applied-len-via-else-applied-len}
+use Rattle.point_location.proofs.placing.place_at.Goals.{else-applied-len-via-then-applied-len+else-eq}
+use Rattle.point_location.proofs.placing.place_at.Goals.{else-applied-len-via-else-applied-len}
 
 pub edge_of_event-requires-clause-block : goal.edge_of_event-requires-clause-block
 edge_of_event-requires-clause-block c =

@@ -1,4 +1,5 @@
-use Rattle.std.proofs.Common.{◌≡◌, ℕ, suc, length, map, List, [], ◌∷◌, ◌++◌, refl, sym, ap, ◌∙◌, arith, append-nil, append_assoc, inl, inr, rules}
+use Rattle.std.proofs.Common.{◌≡◌, ℕ, suc, length, map, List, [], ◌∷◌, ◌++◌, refl, sym, ap, ◌∙◌}
+use Rattle.std.proofs.Common.{arith, append-nil, append_assoc, inl, inr, rules}
 use Rattle.std.proofs.lemmas.List.{map-append}
 use Rattle.plane.specs.declared.kinds.Placed.{Placed}
 use Rattle.plane.specs.declared.kinds.Point.{Point}
@@ -22,7 +23,8 @@ more points a rest ps p left old new all e f g h =
     ∙ h
 
 -- no point is left
-ended : (points : List Placed) (os : List (List (List Point))) (old : List Object) (all : List Object) → length points ≡ 0 → old ++ with_lines points os ≡ all → old ≡ all
+ended : (points : List Placed) (os : List (List (List Point))) (old : List Object) (all : List Object)
+    → length points ≡ 0 → old ++ with_lines points os ≡ all → old ≡ all
 ended [] os old all e h = sym (append-nil old) ∙ h
 ended (p ∷ points) os old all e h = absurd (omega (arith, e))
 

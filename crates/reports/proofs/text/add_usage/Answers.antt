@@ -4,7 +4,8 @@ use Rattle.std.proofs.lemmas.Result.{on_ok_weaker}
 use Rattle.reports.proofs.text.add_usage.Goals as goal
 
 -- two parts are added one behind the other
-two_parts : (old mid new first last : List ℕ) → mid ≡ old ++ first → new ≡ mid ++ last → new ≡ old ++ (first ++ last)
+two_parts : (old mid new first last : List ℕ) → mid ≡ old ++ first → new ≡ mid ++ last
+    → new ≡ old ++ (first ++ last)
 two_parts old mid new first last e f = f ∙ ap (λ (s : List ℕ). s ++ last) e ∙ append_assoc old first last
 
 pub returns : goal.returns

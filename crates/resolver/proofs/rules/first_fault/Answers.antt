@@ -15,7 +15,8 @@ use Rattle.resolver.proofs.Within.{bounded_everywhere, bounded_topics}
 use Rattle.resolver.proofs.rules.first_fault.Goals as goal
 
 -- what is wrong outside the topics was reported, and then what is wrong in them
-all_told : (m : ModelSyntax) (above : List DomainSyntax) (topics : List TopicSyntax) (none outer all : Option Fault) → above ≡ everywhere m → topics ≡ m.topics → none ≡ None
+all_told : (m : ModelSyntax) (above : List DomainSyntax) (topics : List TopicSyntax) (none outer all : Option Fault)
+    → above ≡ everywhere m → topics ≡ m.topics → none ≡ None
     → outer ≡ first_from none (domains_faults (outside above))
     → all ≡ first_from outer (twice_in (map (λ t. t.name) topics) ++ flat_map (topic_faults above) topics) → all ≡ first_fault m
 all_told m above topics none outer all a t n o e =

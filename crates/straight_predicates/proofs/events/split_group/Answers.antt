@@ -1,7 +1,8 @@
 use Rattle.std.proofs.Common.{ap, ◌∙◌}
 use Rattle.straight_predicates.proofs.Groups.{split_low, split_high, nothing_split, split_whole}
 use Rattle.straight_predicates.proofs.events.split_group.Goals as goal
-use Rattle.straight_predicates.proofs.events.split_group.Goals.{then-end+in_ok-push, else-end+in_ok-push-2}
+use Rattle.straight_predicates.proofs.events.split_group.Goals.{then-end+in_ok-push}
+use Rattle.straight_predicates.proofs.events.split_group.Goals.{else-end+in_ok-push-2}
 
 pub loop-end-init : goal.loop-end-init
 loop-end-init c = nothing_split c.args.edges.now c.args.numbers.now.items _ c.clear.ensures.items

@@ -5,7 +5,8 @@ use Rattle.straight_predicates.proofs.Choices.{differ, refuted}
 use Rattle.straight_predicates.proofs.OneLine.{AreSorted, line_apart, line_touch, line_bad}
 use Rattle.straight_predicates.proofs.TurnSigns.{crosses_line}
 use Rattle.straight_predicates.proofs.meeting.meet_in_line.Goals as goal
-use Rattle.straight_predicates.proofs.meeting.meet_in_line.Goals.{then-before, else-before, then-eq, else-eq}
+use Rattle.straight_predicates.proofs.meeting.meet_in_line.Goals.{then-before, else-before, then-eq}
+use Rattle.straight_predicates.proofs.meeting.meet_in_line.Goals.{else-eq}
 
 pub returns-then-before-2 : goal.returns-then-before-2
 returns-then-before-2 c =

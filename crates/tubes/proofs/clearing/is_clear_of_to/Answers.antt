@@ -2,7 +2,8 @@ use Rattle.std.proofs.Common.{◌^◌, FitsSigned, arith, rules, to_z-of_z}
 use Rattle.std.specs.Int.{w128, w64}
 use Rattle.plane.proofs.Algebra.Bounds.{within_more}
 use Rattle.arc_predicates.proofs.Sums.{product_within}
-use Rattle.tubes.proofs.ClearNumbers.{a_within, ahead_to_is, at_most_by, b_within, d_within, sum_within}
+use Rattle.tubes.proofs.ClearNumbers.{a_within, ahead_to_is, at_most_by, b_within, d_within}
+use Rattle.tubes.proofs.ClearNumbers.{sum_within}
 use Rattle.tubes.proofs.clearing.is_clear_of_to.Goals as goal
 
 pub seen_from_end-a-requires-clause-d : goal.seen_from_end-a-requires-clause-d

@@ -1,4 +1,5 @@
-use Rattle.std.proofs.Common.{◌^◌, ◌*ℤ◌, ◌-ℤ◌, FitsSigned, ap, arith, pos, rules, subst, sym, ◌∙◌, to_z-of_z}
+use Rattle.std.proofs.Common.{◌^◌, ◌*ℤ◌, ◌-ℤ◌, FitsSigned, ap, arith, pos, rules, subst, sym, ◌∙◌}
+use Rattle.std.proofs.Common.{to_z-of_z}
 use Rattle.std.specs.Int.{w128}
 use Rattle.plane.specs.Numbers.{IsWithin}
 use Rattle.arc_predicates.proofs.Sums.{product_within}

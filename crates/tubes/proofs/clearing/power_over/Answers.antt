@@ -2,7 +2,8 @@ use Rattle.std.proofs.Common.{◌^◌, FitsSigned, arith, pos, rules, to_z-of_z}
 use Rattle.std.specs.Int.{w128, w64}
 use Rattle.std.proofs.lemmas.Int.{ints}
 use Rattle.arc_predicates.proofs.Sums.{product_within}
-use Rattle.tubes.proofs.ClearNumbers.{a_within, b_within, d_within, over_is, over_within, sum_within}
+use Rattle.tubes.proofs.ClearNumbers.{a_within, b_within, d_within, over_is, over_within}
+use Rattle.tubes.proofs.ClearNumbers.{sum_within}
 use Rattle.tubes.proofs.clearing.power_over.Goals as goal
 
 pub dot-far-requires-clause-first : goal.dot-far-requires-clause-first

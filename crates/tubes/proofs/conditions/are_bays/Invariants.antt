@@ -6,7 +6,9 @@ use Rattle.tubes.proofs.conditions.are_bays.Given as goal
 
 abbrev pub invariant-loop-i : goal.invariant-loop-i
 invariant-loop-i l = record {
-  rest : AreBays (half_arc l.circle) l.circle.s (bays l.inner l.outer) → AreBays (half_arc l.circle) l.before (bays (drop l.i l.inner) (drop l.i l.outer));
-  all : AreBays (half_arc l.circle) l.before (bays (drop l.i l.inner) (drop l.i l.outer)) → AreBays (half_arc l.circle) l.circle.s (bays l.inner l.outer);
+  rest : AreBays (half_arc l.circle) l.circle.s (bays l.inner l.outer)
+      → AreBays (half_arc l.circle) l.before (bays (drop l.i l.inner) (drop l.i l.outer));
+  all : AreBays (half_arc l.circle) l.before (bays (drop l.i l.inner) (drop l.i l.outer))
+      → AreBays (half_arc l.circle) l.circle.s (bays l.inner l.outer);
   before : AreNear (2 ^ 28) l.circle.s l.before;
 }

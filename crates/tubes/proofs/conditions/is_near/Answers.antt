@@ -1,4 +1,5 @@
-use Rattle.std.proofs.Common.{◌≡◌, ◌<◌, ◌^◌, ◌-ℤ◌, FitsSigned, IsTrue, nat_lt, rules, subst, sym, to_z-of_z, ℕ}
+use Rattle.std.proofs.Common.{◌≡◌, ◌<◌, ◌^◌, ◌-ℤ◌, FitsSigned, IsTrue, nat_lt, rules, subst, sym}
+use Rattle.std.proofs.Common.{to_z-of_z, ℕ}
 use Rattle.std.specs.Int.{w64}
 use Rattle.std.specs.Prelude.{unsigned_abs}
 use Rattle.tubes.proofs.CornerTests.{near_by_sizes}

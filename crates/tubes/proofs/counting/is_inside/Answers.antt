@@ -1,4 +1,5 @@
-use Rattle.std.proofs.Common.{◌≡◌, ◌-ℤ◌, ◌^◌, pos, ap, arith, rules, subst, sym, ◌∙◌, to_z-of_z, FitsSigned}
+use Rattle.std.proofs.Common.{◌≡◌, ◌-ℤ◌, ◌^◌, pos, ap, arith, rules, subst, sym, ◌∙◌, to_z-of_z}
+use Rattle.std.proofs.Common.{FitsSigned}
 use Rattle.std.specs.Int.{w64}
 use Rattle.std.proofs.lemmas.Int.{ints}
 use Rattle.plane.specs.Rule.Turns.{AreNear}

@@ -1,4 +1,5 @@
-use Rattle.std.proofs.Common.{◌≡◌, ◌^◌, ◌*◌, ◌%◌, ◌+◌, ◌-◌, ◌≤◌, arith, ap, refl, subst, sym, ◌∙◌, cond}
+use Rattle.std.proofs.Common.{◌≡◌, ◌^◌, ◌*◌, ◌%◌, ◌+◌, ◌-◌, ◌≤◌, arith, ap, refl, subst, sym, ◌∙◌}
+use Rattle.std.proofs.Common.{cond}
 use Rattle.arc_predicates.specs.Circles.{half_arc}
 use Rattle.tubes.specs.HalfArcTubes.{is_inside, with_bits}
 use Rattle.tubes.proofs.CountNumbers.{bits_end, bits_skip, preserved, small_test, top_small}

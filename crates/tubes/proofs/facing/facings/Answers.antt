@@ -1,4 +1,5 @@
-use Rattle.std.proofs.Common.{◌≡◌, ◌∙◌, ◌<◌, ◌≤◌, ◌+◌, ℕ, List, refl, rules, ap, arith, length, slice_index_or, subst, sym}
+use Rattle.std.proofs.Common.{◌≡◌, ◌∙◌, ◌<◌, ◌≤◌, ◌+◌, ℕ, List, refl, rules, ap, arith, length}
+use Rattle.std.proofs.Common.{slice_index_or, subst, sym}
 use Rattle.std.specs.Vec.{vec_len}
 use Rattle.plane.specs.Rule.Plans.{plan}
 use Rattle.plane.specs.declared.kinds.Edge.{Edge}

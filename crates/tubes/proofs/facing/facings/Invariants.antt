@@ -7,5 +7,6 @@ use Rattle.tubes.proofs.facing.facings.Given as goal
 abbrev pub invariant-loop-e : goal.invariant-loop-e
 invariant-loop-e l = record {
   size : length l.facings.items ≡ l.e;
-  each : (k : ℕ) → k < l.e → slice_index_or l.facings.items k facing.Neither ≡ listed_side (plan l.drawing) l.list k;
+  each : (k : ℕ) → k < l.e
+      → slice_index_or l.facings.items k facing.Neither ≡ listed_side (plan l.drawing) l.list k;
 }

@@ -1,4 +1,5 @@
-use Rattle.tubes.proofs.LevelEdges.{first_inner, first_outer, of_a_straight, of_half_arc, owner_within}
+use Rattle.tubes.proofs.LevelEdges.{first_inner, first_outer, of_a_straight, of_half_arc}
+use Rattle.tubes.proofs.LevelEdges.{owner_within}
 use Rattle.tubes.proofs.laws.chains_have_edges.Goals as goal
 
 pub returns-clause-inner : goal.returns-clause-inner

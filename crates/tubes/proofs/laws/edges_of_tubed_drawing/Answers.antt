@@ -1,4 +1,5 @@
-use Rattle.tubes.proofs.ListedEdges.{count_by_curves, edge_by_number, straights_list, tube_by_number}
+use Rattle.tubes.proofs.ListedEdges.{count_by_curves, edge_by_number, straights_list}
+use Rattle.tubes.proofs.ListedEdges.{tube_by_number}
 use Rattle.tubes.proofs.laws.edges_of_tubed_drawing.Goals as goal
 
 pub returns-clause-tubes : goal.returns-clause-tubes

@@ -1,4 +1,5 @@
-use Rattle.std.proofs.Common.{◌≡◌, ◌+◌, ◌*◌, ◌^◌, ◌<◌, List, Some, ap, arith, length, subst, sym, ◌∙◌}
+use Rattle.std.proofs.Common.{◌≡◌, ◌+◌, ◌*◌, ◌^◌, ◌<◌, List, Some, ap, arith, length, subst, sym}
+use Rattle.std.proofs.Common.{◌∙◌}
 use Rattle.plane.specs.Lists.{Each}
 use Rattle.plane.specs.Rule.Turns.{AreNear}
 use Rattle.plane.specs.declared.kinds.Point.{Point}

@@ -1,11 +1,13 @@
-use Rattle.std.proofs.Common.{◌+◌, ◌*◌, ◌^◌, ◌<◌, ap, arith, subst, sym, ◌∙◌, length, List, [], ◌∷◌, ◌++◌}
+use Rattle.std.proofs.Common.{◌+◌, ◌*◌, ◌^◌, ◌<◌, ap, arith, subst, sym, ◌∙◌, length, List, [], ◌∷◌}
+use Rattle.std.proofs.Common.{◌++◌}
 use Rattle.plane.specs.Lists.{Each}
 use Rattle.plane.specs.Rule.Turns.{AreNear}
 use Rattle.plane.specs.declared.kinds.Point.{Point}
 use Rattle.arc_predicates.specs.Circles.{half_arc}
 use Rattle.tubes.specs.HalfArcTubes.{refine}
 use Rattle.tubes.specs.Making.{AreMade, AreSteps, IsInDisk}
-use Rattle.tubes.proofs.Rounds.{each_near, first_round, few_points, inner_at_hand, next_round, rounds_stop}
+use Rattle.tubes.proofs.Rounds.{each_near, first_round, few_points, inner_at_hand, next_round}
+use Rattle.tubes.proofs.Rounds.{rounds_stop}
 use Rattle.tubes.proofs.TubePoints.{inner_in_disk}
 use Rattle.tubes.proofs.refining.inner_points.Goals as goal
 

@@ -6,7 +6,8 @@ use Rattle.tubes.proofs.TubePoints.{from_in_disk}
 use Rattle.arc_predicates.specs.Circles.{half_arc}
 use Rattle.tubes.specs.HalfArcTubes.{outer_points}
 use Rattle.tubes.specs.Making.{AreSteps, IsInDisk}
-use Rattle.tubes.proofs.Rounds.{put_before, put_nothing, self_near, outer_ends, outer_step, outer_stops, all_dropped, dropped}
+use Rattle.tubes.proofs.Rounds.{put_before, put_nothing, self_near, outer_ends, outer_step}
+use Rattle.tubes.proofs.Rounds.{outer_stops, all_dropped, dropped}
 use Rattle.tubes.proofs.refining.outer_points.Goals as goal
 
 pub loop-point-init : goal.loop-point-init

@@ -1,4 +1,5 @@
-use Rattle.std.proofs.Common.{◌≡◌, ◌+◌, ◌*◌, ◌/◌, FitsSigned, Some, ap, arith, pos, rules, subst, sym, ◌∙◌, to_z-of_z}
+use Rattle.std.proofs.Common.{◌≡◌, ◌+◌, ◌*◌, ◌/◌, FitsSigned, Some, ap, arith, pos, rules, subst}
+use Rattle.std.proofs.Common.{sym, ◌∙◌, to_z-of_z}
 use Rattle.std.specs.Int.{w64}
 use Rattle.std.proofs.lemmas.Int.{ints}
 use Rattle.arc_predicates.specs.Circles.{half_arc}

@@ -6,7 +6,8 @@ use Rattle.tubes.proofs.TubePoints.{from_in_disk}
 use Rattle.arc_predicates.specs.Circles.{half_arc}
 use Rattle.tubes.specs.HalfArcTubes.{refine}
 use Rattle.tubes.specs.Making.{AreSteps, IsInDisk}
-use Rattle.tubes.proofs.Rounds.{put_before, put_nothing, self_near, refine_ends, refine_step, refine_stops, all_dropped, dropped, pushed_two}
+use Rattle.tubes.proofs.Rounds.{put_before, put_nothing, self_near, refine_ends, refine_step}
+use Rattle.tubes.proofs.Rounds.{refine_stops, all_dropped, dropped, pushed_two}
 use Rattle.tubes.proofs.refining.refine.Goals as goal
 
 pub loop-point-init : goal.loop-point-init

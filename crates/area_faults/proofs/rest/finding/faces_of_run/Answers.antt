@@ -1,4 +1,5 @@
-use Rattle.std.proofs.Common.{◌≡◌, ℕ, ◌<◌, List, [], ◌∙◌, ap, arith, length, map, slice_index, slice_index_or, subst, sym, take}
+use Rattle.std.proofs.Common.{◌≡◌, ℕ, ◌<◌, List, [], ◌∙◌, ap, arith, length, map, slice_index}
+use Rattle.std.proofs.Common.{slice_index_or, subst, sym, take}
 use Rattle.fault_lists.specs.declared.faces.DrawingFaces.{DrawingFaces}
 use Rattle.half_edges.specs.HalfEdges.{size}
 use Rattle.plane.specs.declared.kinds.Curve.{Curve}
@@ -9,7 +10,8 @@ use Rattle.plane.specs.Runs.Steps.{Run}
 use Rattle.point_location.specs.declared.places.Place.{Place}
 use Rattle.point_location.specs.Places.{ArePlaces, no_place}
 use Rattle.straight_predicates.specs.EdgeLists.{edge_of}
-use Rattle.area_faults.specs.RestFaces.{AreCurveFacesTo, AreOpenTo, IsKnownPlace, half_points, point_place}
+use Rattle.area_faults.specs.RestFaces.{AreCurveFacesTo, AreOpenTo, IsKnownPlace, half_points}
+use Rattle.area_faults.specs.RestFaces.{point_place}
 use Rattle.area_faults.proofs.CallFacts.{edges_size, few_edges, known_places}
 use Rattle.area_faults.proofs.FoundFaces.{has_all, numbered, sizes}
 use Rattle.area_faults.proofs.PlacedFaces.{points_count}

@@ -1,4 +1,5 @@
-use Rattle.std.proofs.Common.{◌≡◌, ℕ, ◌<◌, List, [], ◌∙◌, ap, arith, length, slice_index, subst, sym}
+use Rattle.std.proofs.Common.{◌≡◌, ℕ, ◌<◌, List, [], ◌∙◌, ap, arith, length, slice_index, subst}
+use Rattle.std.proofs.Common.{sym}
 use Rattle.line_sweep.specs.Kinds.{IsRefused}
 use Rattle.near_pairs.specs.Boxes.{mark_of}
 use Rattle.plane.specs.declared.kinds.Edge.{Edge}

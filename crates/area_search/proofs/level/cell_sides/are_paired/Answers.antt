@@ -2,7 +2,8 @@ use Rattle.std.proofs.Common.{rules, ◌≡◌, arith, false, subst, sym}
 use Rattle.line_sweep.specs.Kinds.{gap_of}
 use Rattle.line_sweep.specs.declared.kinds.Cell.{Cell}
 use Rattle.area_search.specs.Level.CellSides.{IsPaired}
-use Rattle.area_search.proofs.LevelLemmas.CellSideLemmas.{all_cells, granted, nth_cell, refused, unfit}
+use Rattle.area_search.proofs.LevelLemmas.CellSideLemmas.{all_cells, granted, nth_cell, refused}
+use Rattle.area_search.proofs.LevelLemmas.CellSideLemmas.{unfit}
 use Rattle.area_search.proofs.level.cell_sides.are_paired.Goals as goal
 
 pub returns-then-not-is_paired : goal.returns-then-not-is_paired

@@ -1,6 +1,7 @@
 use Rattle.plane.specs.Rule.Plans.{plan}
 use Rattle.straight_predicates.specs.Tables.{table_of}
-use Rattle.area_search.proofs.LevelLemmas.OwnCornerLemmas.{found_is, none_found, one_found, table_at}
+use Rattle.area_search.proofs.LevelLemmas.OwnCornerLemmas.{found_is, none_found, one_found}
+use Rattle.area_search.proofs.LevelLemmas.OwnCornerLemmas.{table_at}
 use Rattle.area_search.proofs.level.corners.has_foreign_corner.Goals as goal
 
 pub returns-clause-own : goal.returns-clause-own

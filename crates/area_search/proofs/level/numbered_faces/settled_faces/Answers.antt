@@ -6,7 +6,8 @@ use Rattle.area_search.specs.declared.level.bad_edges.CurvePair.{CurvePair}
 use Rattle.area_search.proofs.SettledLemmas.CaseEdges.{no_bad_pair}
 use Rattle.area_search.proofs.level.numbered_faces.settled_faces.Goals as goal
 
-same_pair : (d : Plan) (bad : Option CurvePair) → IsBadIfAny d bad → MeetsBadlyIfAny d (pair_if_any bad)
+same_pair : (d : Plan) (bad : Option CurvePair) → IsBadIfAny d bad
+    → MeetsBadlyIfAny d (pair_if_any bad)
 same_pair d None h = h
 same_pair d (Some p) h = h
 

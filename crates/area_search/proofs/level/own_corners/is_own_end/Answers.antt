@@ -6,7 +6,8 @@ use Rattle.tubes.specs.declared.kinds.Owner.{Owner}
 use Rattle.area_search.specs.Settled.CaseRoots.{no_owner}
 use Rattle.area_search.proofs.LevelLemmas.OwnCornerLemmas.{earlier_end, end_of_curve, same_point}
 use Rattle.area_search.proofs.level.own_corners.is_own_end.Goals as goal
-use Rattle.area_search.proofs.level.own_corners.is_own_end.Goals.{then-eq-via-then-eq, then-eq-via-else-eq+then-eq-2}
+use Rattle.area_search.proofs.level.own_corners.is_own_end.Goals.{then-eq-via-then-eq}
+use Rattle.area_search.proofs.level.own_corners.is_own_end.Goals.{then-eq-via-else-eq+then-eq-2}
 
 pub index-curve-requires : goal.index-curve-requires
 index-curve-requires c =

@@ -1,10 +1,13 @@
-use Rattle.std.proofs.Common.{rules, arith, pos, ℕ, ◌≡◌, ◌<◌, false, IsTrue, List, [], length, sym, subst}
+use Rattle.std.proofs.Common.{rules, arith, pos, ℕ, ◌≡◌, ◌<◌, false, IsTrue, List, [], length, sym}
+use Rattle.std.proofs.Common.{subst}
 use Rattle.plane.specs.Rule.Plans.{plan}
 use Rattle.plane.specs.Runs.Moves.{steps_from}
 use Rattle.tubes.specs.TubedEdges.{drawn_bays}
 use Rattle.tubes.specs.declared.kinds.Owner.{Owner}
 use Rattle.area_search.specs.Settled.CaseRoots.{owner_at}
-use Rattle.area_search.proofs.LevelLemmas.CellSideLemmas.{curves_below, is_case, is_settled, paired_lent, paired_level, settled_pairs, unfit}
+use Rattle.area_search.proofs.LevelLemmas.CellSideLemmas.{curves_below, is_case, is_settled}
+use Rattle.area_search.proofs.LevelLemmas.CellSideLemmas.{paired_lent, paired_level, settled_pairs}
+use Rattle.area_search.proofs.LevelLemmas.CellSideLemmas.{unfit}
 use Rattle.area_search.proofs.level.settled_runs.settled_facings.Goals as goal
 
 pub are_paired-requires-clause-curves : goal.are_paired-requires-clause-curves

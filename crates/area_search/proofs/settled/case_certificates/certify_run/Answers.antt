@@ -9,7 +9,9 @@ use Rattle.area_search.specs.declared.settled.case.Spot.{Spot}
 use Rattle.area_search.specs.Settled.CaseNotes.{AreNamed}
 use Rattle.area_search.specs.Settled.CaseRoots.{AreCaseRoots, IsSpotIn, owner_at}
 use Rattle.area_search.specs.Settled.Writing.{positions_of}
-use Rattle.area_search.proofs.SettledLemmas.CaseCalls.{faces_known, few_edges, list_rooted, list_within, notes_size, owners_known, roots_as, small_spots, spots_in}
+use Rattle.area_search.proofs.SettledLemmas.CaseCalls.{faces_known, few_edges, list_rooted}
+use Rattle.area_search.proofs.SettledLemmas.CaseCalls.{list_within, notes_size, owners_known}
+use Rattle.area_search.proofs.SettledLemmas.CaseCalls.{roots_as, small_spots, spots_in}
 use Rattle.area_search.proofs.ChosenLemmas.ChosenClaims.{chosen_claims}
 use Rattle.area_search.proofs.SettledLemmas.CaseCertified.{certifies}
 use Rattle.area_search.specs.Chosen.{IsChosen}

@@ -1,9 +1,11 @@
-use Rattle.std.proofs.Common.{◌≡◌, ℕ, Option, Some, None, List, ◌<◌, length, slice_index, refl, ap, sym, subst, ◌∙◌, arith}
+use Rattle.std.proofs.Common.{◌≡◌, ℕ, Option, Some, None, List, ◌<◌, length, slice_index, refl, ap}
+use Rattle.std.proofs.Common.{sym, subst, ◌∙◌, arith}
 use Rattle.std.proofs.lemmas.List.{length-map}
 use Rattle.plane.specs.Rule.Plans.{plan}
 use Rattle.plane.specs.declared.kinds.Curve.{Curve}
 use Rattle.area_search.specs.Settled.Cases.{spot_face, spot_faces, edges_of}
-use Rattle.area_search.specs.Settled.CaseSides.{HasNoFree, IsBesideIn, IsFirstOneFaced, IsLeastFree, beside_at}
+use Rattle.area_search.specs.Settled.CaseSides.{HasNoFree, IsBesideIn, IsFirstOneFaced, IsLeastFree}
+use Rattle.area_search.specs.Settled.CaseSides.{beside_at}
 use Rattle.area_search.specs.Settled.Owners.{AreOwners, AreShared, IsLeastShare}
 use Rattle.area_search.specs.Settled.PointFaces.{IsFirstOutside}
 use Rattle.area_search.specs.declared.settled.case_sides.Beside.{Beside}
@@ -13,7 +15,8 @@ use Rattle.area_search.proofs.SettledLemmas.CaseCurves.{arc_first}
 use Rattle.area_search.proofs.SettledLemmas.CaseEdges.{curves_turn}
 use Rattle.area_search.proofs.SettledLemmas.CaseFaces.{outside_answer, two_answer}
 use Rattle.area_search.proofs.SettledLemmas.CaseCuts.{cut_answer, no_cut}
-use Rattle.area_search.proofs.SettledLemmas.CaseFaults.{all_owned, besides_known, empty_answer, filled, point_known}
+use Rattle.area_search.proofs.SettledLemmas.CaseFaults.{all_owned, besides_known, empty_answer}
+use Rattle.area_search.proofs.SettledLemmas.CaseFaults.{filled, point_known}
 use Rattle.area_search.proofs.SettledLemmas.CaseSpots.{spots_have}
 use Rattle.area_search.proofs.settled.case_judging.judge_run.Goals as goal
 

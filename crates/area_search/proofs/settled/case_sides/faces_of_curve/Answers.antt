@@ -1,6 +1,8 @@
 use Rattle.std.proofs.Common.{arith}
 use Rattle.plane.specs.Rule.Plans.{plan}
-use Rattle.area_search.proofs.SettledLemmas.CaseCurves.{arc_beside, arc_first, inner_is, inner_there, outer_is, outer_there, straight_beside, straight_there}
+use Rattle.area_search.proofs.SettledLemmas.CaseCurves.{arc_beside, arc_first, inner_is}
+use Rattle.area_search.proofs.SettledLemmas.CaseCurves.{inner_there, outer_is, outer_there}
+use Rattle.area_search.proofs.SettledLemmas.CaseCurves.{straight_beside, straight_there}
 use Rattle.area_search.specs.Settled.Cases.{edges_of}
 use Rattle.area_search.proofs.settled.case_sides.faces_of_curve.Goals as goal
 

@@ -1,9 +1,11 @@
-use Rattle.std.proofs.Common.{rules, ◌≡◌, ◌∙◌, slice_index, slice_set, get_or-set_same, get_or-set_other}
+use Rattle.std.proofs.Common.{rules, ◌≡◌, ◌∙◌, slice_index, slice_set, get_or-set_same}
+use Rattle.std.proofs.Common.{get_or-set_other}
 use Rattle.std.proofs.lemmas.Grind.{get_or_default_zero}
 use Rattle.std.proofs.lemmas.List.{length-set}
 use Rattle.area_search.proofs.SettledLemmas.FaceNumberLists.{kept_numbers, next_numbers}
 use Rattle.area_search.proofs.settled.face_numbers.add_face.Goals as goal
-use Rattle.area_search.proofs.settled.face_numbers.add_face.Goals.{else-face-ne0-via-then-face-ne0+else-index-eq0, else-face-ne0-via-else-face-ne0}
+use Rattle.area_search.proofs.settled.face_numbers.add_face.Goals.{else-face-ne0-via-then-face-ne0+else-index-eq0}
+use Rattle.area_search.proofs.settled.face_numbers.add_face.Goals.{else-face-ne0-via-else-face-ne0}
 
 pub returns-then-index-eq0-clause-numbers : goal.returns-then-index-eq0-clause-numbers
 returns-then-index-eq0-clause-numbers c = λ met are.

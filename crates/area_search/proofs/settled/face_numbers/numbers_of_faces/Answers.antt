@@ -1,4 +1,5 @@
-use Rattle.std.proofs.Common.{rules, ◌≡◌, ◌+◌, ◌<◌, arith, length, take, sym, ap, subst, ◌∙◌, List, ℕ}
+use Rattle.std.proofs.Common.{rules, ◌≡◌, ◌+◌, ◌<◌, arith, length, take, sym, ap, subst, ◌∙◌, List}
+use Rattle.std.proofs.Common.{ℕ}
 use Rattle.std.proofs.lemmas.List.{take_more}
 use Rattle.area_search.specs.Settled.CaseSides.{beside_at, no_beside}
 use Rattle.area_search.specs.Settled.FaceNumbers.{AreFaceNumbers, faces_met}

@@ -2,7 +2,9 @@ use Rattle.std.proofs.Common.{◌≡◌, ◌<◌, ℕ, List, ap, arith, length, 
 use Rattle.std.proofs.lemmas.List.{with_items_is}
 use Rattle.line_sweep.specs.Kinds.{move_of}
 use Rattle.area_search.specs.Settled.Meshing.{IsWidest}
-use Rattle.area_search.proofs.SettledLemmas.MeshedRuns.{all_turned, block_within, can_turn_event, has_room, listed_ends, listed_mesh, rest_after, turned_next}
+use Rattle.area_search.proofs.SettledLemmas.MeshedRuns.{all_turned, block_within, can_turn_event}
+use Rattle.area_search.proofs.SettledLemmas.MeshedRuns.{has_room, listed_ends, listed_mesh}
+use Rattle.area_search.proofs.SettledLemmas.MeshedRuns.{rest_after, turned_next}
 use Rattle.area_search.proofs.settled.meshing.mesh_of_run.Goals as goal
 
 pub mesh_of-requires-clause-ends : goal.mesh_of-requires-clause-ends

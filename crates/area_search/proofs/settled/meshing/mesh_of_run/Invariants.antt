@@ -12,6 +12,7 @@ invariant-loop-number l = record {
   within : l.from ≤ length l.ended;
   rest : drop l.from l.ended ≡ ended_at (drop l.number (steps_from [] l.swept.events));
   room : IsWidest l.swept.events (length l.swept.events) (length l.fan.items);
-  turned : (E : ℕ → Edge) → Run l.edges E (steps_from [] l.swept.events) → IsTurned l.edges E (steps_from [] l.swept.events) l.mesh l.number;
+  turned : (E : ℕ → Edge) → Run l.edges E (steps_from [] l.swept.events)
+      → IsTurned l.edges E (steps_from [] l.swept.events) l.mesh l.number;
   vertices : l.mesh.vertices ≡ length l.swept.events;
 }

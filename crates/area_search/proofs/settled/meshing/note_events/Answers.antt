@@ -1,7 +1,9 @@
 use Rattle.std.proofs.Common.{◌<◌, ℕ, ap, arith, length, refl, subst, sym, ◌∙◌}
 use Rattle.std.proofs.lemmas.List.{with_items_is}
 use Rattle.line_sweep.specs.Kinds.{move_of}
-use Rattle.area_search.proofs.SettledLemmas.MeshedRuns.{block_within, event_ending, event_starting, is_event, noted_more, noted_through, rest_after}
+use Rattle.area_search.proofs.SettledLemmas.MeshedRuns.{block_within, event_ending, event_starting}
+use Rattle.area_search.proofs.SettledLemmas.MeshedRuns.{is_event, noted_more, noted_through}
+use Rattle.area_search.proofs.SettledLemmas.MeshedRuns.{rest_after}
 use Rattle.area_search.proofs.settled.meshing.note_events.Goals as goal
 
 pub note-requires : goal.note-requires

@@ -2,7 +2,8 @@ use Rattle.std.proofs.Common.{refl, subst}
 use Rattle.plane.specs.Rule.Plans.{plan}
 use Rattle.point_location.specs.Places.{IsPlaceOf}
 use Rattle.area_search.specs.Settled.CaseRoots.{owner_at}
-use Rattle.area_search.proofs.SettledLemmas.CaseSpots.{cell_over, cell_tube, owner_straight, owner_tube}
+use Rattle.area_search.proofs.SettledLemmas.CaseSpots.{cell_over, cell_tube, owner_straight}
+use Rattle.area_search.proofs.SettledLemmas.CaseSpots.{owner_tube}
 use Rattle.area_search.proofs.settled.spots.spot_of.Goals as goal
 
 pub spot_in_tube-requires : goal.spot_in_tube-requires

@@ -11,7 +11,8 @@ use Rattle.meetings.specs.StraightEdges.{AreStraightsTo}
 use Rattle.area_search.specs.Unsettled.CurvePoints.{IsFirstOn}
 use Rattle.area_search.specs.declared.points.OnCurve.{OnCurve}
 use Rattle.area_search.proofs.SettledLemmas.CaseEdges.{get_same}
-use Rattle.area_search.proofs.UnsettledLemmas.PointsOnCurves.{edge_here, first_is, none_on, points_close}
+use Rattle.area_search.proofs.UnsettledLemmas.PointsOnCurves.{edge_here, first_is, none_on}
+use Rattle.area_search.proofs.UnsettledLemmas.PointsOnCurves.{points_close}
 use Rattle.area_search.proofs.unsettled.on_curves.first_on_straight.Goals as goal
 
 pub locate-requires-clause-close : goal.locate-requires-clause-close

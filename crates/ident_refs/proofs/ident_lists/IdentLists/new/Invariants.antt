@@ -12,5 +12,6 @@ invariant-loop-place l = record {
   bare : AreBare l.kept.items;
   numbered : AreNumbered l.parts.items l.kept.items;
   within : All (λ j. j < length l.kept.items) l.order.items;
-  done : (codes : Codes) (t : Table) → picked (lists_view [] l.kept.items) l.order.items ≡ kept_lists codes t [] (places_of (take l.place l.lists));
+  done : (codes : Codes) (t : Table)
+      → picked (lists_view [] l.kept.items) l.order.items ≡ kept_lists codes t [] (places_of (take l.place l.lists));
 }

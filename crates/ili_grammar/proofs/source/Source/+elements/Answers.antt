@@ -3,11 +3,13 @@ use Rattle.ili_grammar.specs.Machine.{more_parts, elements}
 use Rattle.ili_grammar.proofs.Stuck.{deep_parts}
 use Rattle.ili_grammar.proofs.Symbols.{at_parts, last_part, no_parts, open_elements}
 use Rattle.std.proofs.lemmas.Result.{IfErr-weaker}
-use Rattle.ili_grammar.proofs.Follow.{after, and, by_way, first, handed, no_memory, onward, refused_at, stay, within, by_token}
+use Rattle.ili_grammar.proofs.Follow.{after, and, by_way, first, handed, no_memory, onward}
+use Rattle.ili_grammar.proofs.Follow.{refused_at, stay, within, by_token}
 use Rattle.std.proofs.Common.{◌+◌, ◌-◌, arith, [], ◌∷◌, refl}
 use Rattle.ili_grammar.specs.Values.{ident_of, elements_of}
 use Rattle.ili_grammar.specs.Steps.{rest, all}
-use Rattle.ili_grammar.proofs.Lists.{element_roll, elements_on, elements_end, parts_read, element_read, parts_none, if_ok}
+use Rattle.ili_grammar.proofs.Lists.{element_roll, elements_on, elements_end, parts_read}
+use Rattle.ili_grammar.proofs.Lists.{element_read, parts_none, if_ok}
 use Rattle.ili_grammar.proofs.source.Source.+elements.Goals as goal
 
 pub element-returns-clause-reads : goal.element-returns-clause-reads

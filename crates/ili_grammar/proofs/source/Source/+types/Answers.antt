@@ -1,18 +1,29 @@
-use Rattle.ili_grammar.proofs.Symbols.{at_attribute, at_elements, at_line_attributes, at_type_name, no_attribute_at, no_line_attributes_at, no_reference}
+use Rattle.ili_grammar.proofs.Symbols.{at_attribute, at_elements, at_line_attributes, at_type_name}
+use Rattle.ili_grammar.proofs.Symbols.{no_attribute_at, no_line_attributes_at, no_reference}
 use Rattle.ili_grammar.proofs.Stuck.{deep_line, deep_type, stuck_type}
 use Rattle.ili_grammar.proofs.NoType.{numbered}
-use Rattle.ili_grammar.specs.Machine.{a_type, content, maybe_line_attributes, the_line, want, attributes}
-use Rattle.ili_grammar.proofs.Follow.{after, and, by_token, by_way, first, handed, leads_name, no_memory, onward, refused_at, within, stay}
+use Rattle.ili_grammar.specs.Machine.{a_type, content, maybe_line_attributes, the_line, want}
+use Rattle.ili_grammar.specs.Machine.{attributes}
+use Rattle.ili_grammar.proofs.Follow.{after, and, by_token, by_way, first, handed, leads_name}
+use Rattle.ili_grammar.proofs.Follow.{no_memory, onward, refused_at, within, stay}
 use Rattle.std.proofs.Common.{◌+◌, ◌-◌, map, subst, arith, rules, [], refl, ◌∷◌}
 use Rattle.ili_lexer.specs.declared.keywords.Keyword.{Keyword}
-use Rattle.ili_grammar.specs.Tokens.{word, AREA, DATE, HALIGNMENT, POLYLINE, SURFACE, VALIGNMENT, arrow, left_bracket, name, number, right_bracket, two_periods}
+use Rattle.ili_grammar.specs.Tokens.{word, AREA, DATE, HALIGNMENT, POLYLINE, SURFACE, VALIGNMENT}
+use Rattle.ili_grammar.specs.Tokens.{arrow, left_bracket, name, number, right_bracket, two_periods}
 use Rattle.ili_grammar.specs.Slices.{word_of}
 use Rattle.ili_grammar.specs.Steps.{rest, Leads, all}
-use Rattle.ili_grammar.specs.Values.{ident_of, span_of, elements_of, type_of, line_of, attribute_of, attributes_of, content_of, lists_of}
+use Rattle.ili_grammar.specs.Values.{ident_of, span_of, elements_of, type_of, line_of, attribute_of}
+use Rattle.ili_grammar.specs.Values.{attributes_of, content_of, lists_of}
 use Rattle.ili_grammar.specs.Parts.{head_of}
 use Rattle.ili_grammar.proofs.Lists.{pushed}
-use Rattle.ili_grammar.proofs.Views.{attribute_roll, bare, type-named, type-range, type-enumeration, type-date, type-halignment, type-valignment, type-polyline, type-surface, type-area, content-value, content-reference}
-use Rattle.ili_grammar.proofs.RulesRead.{date_read, halignment_read, valignment_read, polyline_read, surface_read, area_read, named_read, range_read, enumeration_read, attributes_on, attributes_end, attribute_read, reference_read, value_read, bare_line_read, full_line_read, optional_at}
+use Rattle.ili_grammar.proofs.Views.{attribute_roll, bare, type-named, type-range, type-enumeration}
+use Rattle.ili_grammar.proofs.Views.{type-date, type-halignment, type-valignment, type-polyline}
+use Rattle.ili_grammar.proofs.Views.{type-surface, type-area, content-value, content-reference}
+use Rattle.ili_grammar.proofs.RulesRead.{date_read, halignment_read, valignment_read, polyline_read}
+use Rattle.ili_grammar.proofs.RulesRead.{surface_read, area_read, named_read, range_read}
+use Rattle.ili_grammar.proofs.RulesRead.{enumeration_read, attributes_on, attributes_end}
+use Rattle.ili_grammar.proofs.RulesRead.{attribute_read, reference_read, value_read, bare_line_read}
+use Rattle.ili_grammar.proofs.RulesRead.{full_line_read, optional_at}
 use Rattle.ili_grammar.proofs.source.Source.+types.Goals as goal
 
 pub keyword_type-returns-in-Date-clause-reads : goal.keyword_type-returns-in-Date-clause-reads

@@ -1,8 +1,10 @@
-use Rattle.ili_grammar.proofs.source.Source.body.Goals.{else-not-is_keyword-via-then-not-is_keyword+else-not-is_keyword-2, else-not-is_keyword-via-else-not-is_keyword}
+use Rattle.ili_grammar.proofs.source.Source.body.Goals.{else-not-is_keyword-via-then-not-is_keyword+else-not-is_keyword-2}
+use Rattle.ili_grammar.proofs.source.Source.body.Goals.{else-not-is_keyword-via-else-not-is_keyword}
 use Rattle.ili_grammar.proofs.Symbols.{at_optional_table, at_table, no_part_at}
 use Rattle.ili_grammar.specs.Machine.{body, items, the_table}
 use Rattle.ili_grammar.specs.Tokens.{DOMAIN, OPTIONAL, word}
-use Rattle.ili_grammar.proofs.Follow.{by_token, first, handed, no_memory, onward, refused_at, within, and, by_way, stay}
+use Rattle.ili_grammar.proofs.Follow.{by_token, first, handed, no_memory, onward, refused_at}
+use Rattle.ili_grammar.proofs.Follow.{within, and, by_way, stay}
 use Rattle.std.proofs.Common.{◌+◌, arith, [], refl, ◌∷◌}
 use Rattle.ili_grammar.specs.Steps.{rest, Goes, past}
 use Rattle.ili_grammar.specs.Values.{domain_of, domains_of, table_of, tables_of}

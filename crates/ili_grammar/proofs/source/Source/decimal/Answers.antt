@@ -1,4 +1,5 @@
-use Rattle.std.proofs.Common.{ℕ, List, ◌≤◌, get_or, ap, ◌∙◌, sym, subst, rules, count_by, FitsSigned, to_z-of_z, w64}
+use Rattle.std.proofs.Common.{ℕ, List, ◌≤◌, get_or, ap, ◌∙◌, sym, subst, rules, count_by}
+use Rattle.std.proofs.Common.{FitsSigned, to_z-of_z, w64}
 use Rattle.std.specs.Char.{is_ascii_digit}
 use Rattle.ili_grammar.specs.Numbers.{decimal, decimals, signed}
 use Rattle.ili_grammar.specs.Tokens.{number}

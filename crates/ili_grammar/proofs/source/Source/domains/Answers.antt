@@ -1,5 +1,6 @@
 use Rattle.ili_grammar.specs.Machine.{items}
-use Rattle.ili_grammar.proofs.Follow.{first, handed, no_memory, onward, refused_at, within, and, by_way, stay}
+use Rattle.ili_grammar.proofs.Follow.{first, handed, no_memory, onward, refused_at, within, and}
+use Rattle.ili_grammar.proofs.Follow.{by_way, stay}
 use Rattle.ili_grammar.proofs.Symbols.{at_domain, no_item}
 use Rattle.std.proofs.Common.{arith, [], ◌∷◌}
 use Rattle.ili_grammar.specs.Steps.{rest}

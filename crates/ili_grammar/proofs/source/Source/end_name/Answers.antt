@@ -1,6 +1,7 @@
 use Rattle.ili_grammar.proofs.source.Source.end_name.Goals.{then-is+else-eq, else-is}
 use Rattle.ili_grammar.specs.Values.{ident_of}
-use Rattle.ili_grammar.proofs.Stuck.{goes_ended, not_a_name, other_bytes, other_name, stuck_end_name}
+use Rattle.ili_grammar.proofs.Stuck.{goes_ended, not_a_name, other_bytes, other_name}
+use Rattle.ili_grammar.proofs.Stuck.{stuck_end_name}
 use Rattle.std.proofs.Common.{◌+◌, sym, ap, ◌∙◌}
 use Rattle.ili_grammar.specs.Steps.{rest, all}
 use Rattle.ili_grammar.specs.Tokens.{Info, name}

@@ -5,7 +5,10 @@ use Rattle.std.proofs.Common.{[], refl}
 use Rattle.ili_grammar.specs.Steps.{all, rest}
 use Rattle.ili_grammar.specs.Tokens.{tok, explanation, word, I16, I32, ANY}
 use Rattle.ili_grammar.specs.Models.{free, i16, i32, any}
-use Rattle.ili_grammar.proofs.source.Source.identification_form.Goals.{then-is-via-then-is, then-is-via-else-is+then-is_keyword, then-is-via-else-is+else-is_keyword+then-is_keyword-2, then-is-via-else-is+else-is_keyword+else-is_keyword-2+then-is_keyword-3}
+use Rattle.ili_grammar.proofs.source.Source.identification_form.Goals.{then-is-via-then-is}
+use Rattle.ili_grammar.proofs.source.Source.identification_form.Goals.{then-is-via-else-is+then-is_keyword}
+use Rattle.ili_grammar.proofs.source.Source.identification_form.Goals.{then-is-via-else-is+else-is_keyword+then-is_keyword-2}
+use Rattle.ili_grammar.proofs.source.Source.identification_form.Goals.{then-is-via-else-is+else-is_keyword+else-is_keyword-2+then-is_keyword-3}
 use Rattle.ili_grammar.proofs.source.Source.identification_form.Goals as goal
 
 pub returns-then-is-clause-reads : goal.returns-then-is-clause-reads

@@ -1,7 +1,9 @@
 use Rattle.std.proofs.Common.{rules}
-use Rattle.ili_grammar.proofs.Leads.{nothing, leads_kind, not_leads, not_at_end, leads_true, leads_false}
+use Rattle.ili_grammar.proofs.Leads.{nothing, leads_kind, not_leads, not_at_end, leads_true}
+use Rattle.ili_grammar.proofs.Leads.{leads_false}
 use Rattle.ili_grammar.proofs.source.Source.is.Goals as goal
-use Rattle.ili_grammar.proofs.source.Source.is.Goals.{else-at-self-via-then-at-self+else-eq, else-at-self-via-else-at-self}
+use Rattle.ili_grammar.proofs.source.Source.is.Goals.{else-at-self-via-then-at-self+else-eq}
+use Rattle.ili_grammar.proofs.source.Source.is.Goals.{else-at-self-via-else-at-self}
 use Rattle.ili_grammar.specs.Slices.{kind_of}
 use Rattle.ili_grammar.specs.Steps.{rest}
 

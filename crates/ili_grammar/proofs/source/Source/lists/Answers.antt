@@ -1,5 +1,6 @@
 use Rattle.ili_grammar.specs.Machine.{lists}
-use Rattle.ili_grammar.proofs.Follow.{first, handed, no_memory, onward, refused_at, within, and, stay, by_way}
+use Rattle.ili_grammar.proofs.Follow.{first, handed, no_memory, onward, refused_at, within, and}
+use Rattle.ili_grammar.proofs.Follow.{stay, by_way}
 use Rattle.ili_grammar.proofs.Symbols.{at_list, no_list_at}
 use Rattle.std.proofs.Common.{[], arith, rules, ◌∷◌}
 use Rattle.ili_grammar.specs.Steps.{rest}

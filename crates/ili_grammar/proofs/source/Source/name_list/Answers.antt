@@ -1,6 +1,7 @@
 use Rattle.ili_grammar.specs.Machine.{more_list, name_list}
 use Rattle.ili_grammar.specs.Tokens.{comma}
-use Rattle.ili_grammar.proofs.Follow.{and, by_way, first, handed, no_memory, onward, refused_at, within, by_token}
+use Rattle.ili_grammar.proofs.Follow.{and, by_way, first, handed, no_memory, onward, refused_at}
+use Rattle.ili_grammar.proofs.Follow.{within, by_token}
 use Rattle.ili_grammar.proofs.Symbols.{no_name, open_names}
 use Rattle.std.proofs.Common.{◌+◌, map, arith, [], refl, ◌∷◌}
 use Rattle.ili_grammar.specs.Steps.{rest}

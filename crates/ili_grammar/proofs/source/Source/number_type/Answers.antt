@@ -3,12 +3,15 @@ use Rattle.ili_grammar.proofs.NoType.{stuck_word}
 use Rattle.ili_grammar.proofs.Follow.{by_token, by_way, handed, within}
 use Rattle.std.proofs.Common.{◌+◌, subst, refl}
 use Rattle.ili_lexer.specs.declared.keywords.Keyword.{Keyword}
-use Rattle.ili_grammar.specs.Tokens.{word, COORD2, COORD3, DEGREES, DIM1, DIM2, GRADS, RADIANS, TEXT}
+use Rattle.ili_grammar.specs.Tokens.{word, COORD2, COORD3, DEGREES, DIM1, DIM2, GRADS, RADIANS}
+use Rattle.ili_grammar.specs.Tokens.{TEXT}
 use Rattle.ili_grammar.specs.Slices.{word_of}
 use Rattle.ili_grammar.specs.Steps.{rest, Leads, all}
 use Rattle.ili_grammar.specs.Values.{decimal_of, span_of, corners2_of, corners3_of}
-use Rattle.ili_grammar.proofs.Views.{type-text, type-coord2, type-coord3, type-dim1, type-dim2, type-radians, type-grads, type-degrees}
-use Rattle.ili_grammar.proofs.RulesRead.{text_read, coord2_read, coord3_read, dim1_read, dim2_read, radians_read, grads_read, degrees_read}
+use Rattle.ili_grammar.proofs.Views.{type-text, type-coord2, type-coord3, type-dim1, type-dim2}
+use Rattle.ili_grammar.proofs.Views.{type-radians, type-grads, type-degrees}
+use Rattle.ili_grammar.proofs.RulesRead.{text_read, coord2_read, coord3_read, dim1_read, dim2_read}
+use Rattle.ili_grammar.proofs.RulesRead.{radians_read, grads_read, degrees_read}
 use Rattle.ili_grammar.proofs.source.Source.number_type.Goals as goal
 
 pub returns-in_ok-length-in-Text-clause-reads : goal.returns-in_ok-length-in-Text-clause-reads

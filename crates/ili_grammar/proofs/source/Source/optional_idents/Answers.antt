@@ -1,4 +1,5 @@
-use Rattle.ili_grammar.proofs.source.Source.optional_idents.Goals.{then-is_keyword-via-then-is_keyword, then-is_keyword-via-else-is_keyword+then-is_keyword-2}
+use Rattle.ili_grammar.proofs.source.Source.optional_idents.Goals.{then-is_keyword-via-then-is_keyword}
+use Rattle.ili_grammar.proofs.source.Source.optional_idents.Goals.{then-is_keyword-via-else-is_keyword+then-is_keyword-2}
 use Rattle.ili_grammar.proofs.Follow.{by_way, handed, within}
 use Rattle.ili_grammar.proofs.Symbols.{at_idents, at_no_ident, no_idents}
 use Rattle.std.proofs.Common.{List, sym, subst}

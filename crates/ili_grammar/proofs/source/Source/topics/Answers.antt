@@ -1,5 +1,7 @@
-use Rattle.ili_grammar.proofs.source.Source.topics.Goals.{then-is_keyword, else-is_keyword+then-is_keyword-2}
-use Rattle.ili_grammar.proofs.Follow.{first, handed, no_memory, onward, refused_at, within, and, by_way, stay}
+use Rattle.ili_grammar.proofs.source.Source.topics.Goals.{then-is_keyword}
+use Rattle.ili_grammar.proofs.source.Source.topics.Goals.{else-is_keyword+then-is_keyword-2}
+use Rattle.ili_grammar.proofs.Follow.{first, handed, no_memory, onward, refused_at, within, and}
+use Rattle.ili_grammar.proofs.Follow.{by_way, stay}
 use Rattle.ili_grammar.specs.Tokens.{OPTIONAL, word}
 use Rattle.ili_grammar.proofs.Symbols.{at_optional_topic, at_topic, no_topic_at}
 use Rattle.ili_grammar.specs.Machine.{the_topic, topics}

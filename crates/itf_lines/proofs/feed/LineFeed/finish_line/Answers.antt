@@ -1,4 +1,5 @@
-use Rattle.std.proofs.Common.{◌≡◌, ◌+◌, [], length, subst, refl, sym, ap, ◌∙◌, arith, vec_len, ℕ, List}
+use Rattle.std.proofs.Common.{◌≡◌, ◌+◌, [], length, subst, refl, sym, ap, ◌∙◌, arith, vec_len, ℕ}
+use Rattle.std.proofs.Common.{List}
 use Rattle.std.proofs.lemmas.Bool.{eqb-true}
 use Rattle.std.proofs.lemmas.List.{nil_from_length}
 use Rattle.itf_lines.specs.contracts.feed.LineFeed.{the_view}

@@ -2,7 +2,8 @@ use Rattle.std.proofs.Common.{ap, ◌∙◌, subst}
 use Rattle.plane.specs.Lists.{Has}
 use Rattle.line_sweep.proofs.LiveNumbers.{one_more}
 use Rattle.line_sweep.proofs.clashes.ClashSweep.choose_unmarked.Goals as goal
-use Rattle.line_sweep.proofs.clashes.ClashSweep.choose_unmarked.Goals.{then-not-is_marked+in_ok-push, else-not-is_marked}
+use Rattle.line_sweep.proofs.clashes.ClashSweep.choose_unmarked.Goals.{then-not-is_marked+in_ok-push}
+use Rattle.line_sweep.proofs.clashes.ClashSweep.choose_unmarked.Goals.{else-not-is_marked}
 
 pub loop-edge-preserved : goal.loop-edge-preserved
 loop-edge-preserved c =

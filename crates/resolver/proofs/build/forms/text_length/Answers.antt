@@ -1,4 +1,5 @@
-use Rattle.std.proofs.Common.{◌≡◌, ◌≤◌, ℕ, pos, true, unsigned_abs, arith, sym, subst, ap, ◌∙◌, FitsSigned, to_z, of_z, to_z-of_z}
+use Rattle.std.proofs.Common.{◌≡◌, ◌≤◌, ℕ, pos, true, unsigned_abs, arith, sym, subst, ap, ◌∙◌}
+use Rattle.std.proofs.Common.{FitsSigned, to_z, of_z, to_z-of_z}
 use Rattle.std.specs.Int.{w64}
 use Rattle.std.proofs.lemmas.Int.{ints}
 use borrow.Author.Differences.{fits_in}
@@ -12,7 +13,8 @@ use Rattle.resolver.proofs.build.forms.text_length.Goals as goal
 fits : (n : ℕ) → n ≤ 65535 → FitsSigned w64 (pos n)
 fits n le = fits_in w64 (pos n) (omega (arith, ints, le))
 
-digits_back : (d : Decimal) → is_text_length d ≡ true → to_z w64 (of_z w64 d.digits) ≡ pos (text_length d)
+digits_back : (d : Decimal) → is_text_length d ≡ true
+    → to_z w64 (of_z w64 d.digits) ≡ pos (text_length d)
 digits_back d e = let h = length_kept d e in to_z-of_z (subst (FitsSigned w64) (sym h.value) (fits (text_length d) h.few)) ∙ h.value
 
 pub overflow_cast-result : goal.overflow_cast-result

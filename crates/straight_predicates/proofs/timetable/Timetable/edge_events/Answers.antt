@@ -4,7 +4,8 @@ use Rattle.plane.specs.Lists.{Has}
 use Rattle.plane.specs.Runs.Timetables.{Timed}
 use Rattle.straight_predicates.specs.EdgeEvents.{AreNoted}
 use Rattle.straight_predicates.specs.Tables.{table_of}
-use Rattle.straight_predicates.proofs.NotedEvents.{starting_known, ending_known, low_noted, high_noted, all_noted}
+use Rattle.straight_predicates.proofs.NotedEvents.{starting_known, ending_known, low_noted}
+use Rattle.straight_predicates.proofs.NotedEvents.{high_noted, all_noted}
 use Rattle.straight_predicates.proofs.timetable.Timetable.edge_events.Goals as goal
 
 pub note-requires : goal.note-requires
