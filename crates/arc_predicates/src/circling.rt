@@ -8,7 +8,7 @@ use super::circles::Circle;
 use super::numbers::{determinant, difference, dot};
 use plane::Point;
 
-/// What the points of a circle may differ by in each coordinate: less than this.
+// What the points of a circle may differ by in each coordinate: less than this.
 const WIDE: i128 = 67_108_864;
 
 /// The circle through three points; `None` exactly where they are collinear or two of them differ
@@ -41,7 +41,7 @@ fn is_small(z: i128) -> bool
     -WIDE < z && z < WIDE
 }
 
-/// With the other two points seen from s below 2^26, d is below 2^53 and a and b are below 2^80.
+// With the other two points seen from s below 2^26, d is below 2^53 and a and b are below 2^80.
 fn near_circle(s: Point, m: Point, e: Point) -> Option<Circle>
     requires first { AreNear (2 ^ 26) s m }
     requires second { AreNear (2 ^ 26) s e }

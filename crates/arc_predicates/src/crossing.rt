@@ -43,7 +43,7 @@ fn first_trial(circle: &Circle, straight: &Curve) -> Option<Trial>
     None
 }
 
-/// Whether one of the two is inside and the other outside.
+// Whether one of the two is inside and the other outside.
 fn are_either_side(first: Option<Side>, second: Option<Side>) -> bool
     ensures { IsTrue result ↔ AreEitherSide first second }
 {
@@ -53,8 +53,8 @@ fn are_either_side(first: Option<Side>, second: Option<Side>) -> bool
     )
 }
 
-/// The side of the straight's place of that number, where it has one and is not on the third
-/// point's side of the chord.
+// The side of the straight's place of that number, where it has one and is not on the third
+// point's side of the chord.
 fn side_away(circle: &Circle, straight: &Curve, number: u8) -> Option<Side>
     requires number { number ≤ 16 }
     requires from { AreClose circle.now.s straight.now.from }
@@ -70,7 +70,7 @@ fn side_away(circle: &Circle, straight: &Curve, number: u8) -> Option<Side>
     }
 }
 
-/// (16 - k) a + k b
+// (16 - k) a + k b
 fn mean(a: i64, b: i64, k: u8) -> i128
     requires { k ≤ 16 }
     ensures { result ≡ (pos (16 - k) *ℤ a) +ℤ (pos k *ℤ b) }

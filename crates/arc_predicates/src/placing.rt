@@ -12,7 +12,7 @@ use super::numbers::{determinant, difference, dot, offset};
 use super::sides::Side;
 use plane::Point;
 
-/// Places that differ by as much or more from the first point of a circle have no side.
+// Places that differ by as much or more from the first point of a circle have no side.
 const FAR: i128 = 268_435_456;
 
 /// The side of the place (x / n, y / n), where n is 1 or 16; `None` exactly where it differs from
@@ -38,7 +38,7 @@ fn has_side(x: i128, y: i128, n: i128) -> bool
     is_short(x, n) && is_short(y, n)
 }
 
-/// Whether z / n is below 2^28 and above -2^28.
+// Whether z / n is below 2^28 and above -2^28.
 fn is_short(z: i128, n: i128) -> bool
     requires { IsPart n }
     ensures { IsTrue result ↔ IsShort z n }
@@ -82,8 +82,8 @@ pub fn is_away(circle: &Circle, x: i128, y: i128, n: i128) -> bool
     is_at_most_zero(circle.d, over)
 }
 
-/// With d below 2^53, a and b below 2^80 and x and y below 2^32: d (x² + y²) is below 2^118, and so
-/// is (a x + b y) n.
+// With d below 2^53, a and b below 2^80 and x and y below 2^32: d (x² + y²) is below 2^118, and so
+// is (a x + b y) n.
 fn side_of(circle: &Circle, x: i128, y: i128, n: i128) -> Side
     requires part { IsPart n }
     requires x { IsWithin (2 ^ 32) x }
@@ -105,7 +105,7 @@ pub fn is_at_most_zero(d: i128, z: i128) -> bool
     side_by(d, z) != Side::Outside
 }
 
-/// The side that the product d z says.
+// The side that the product d z says.
 fn side_by(d: i128, z: i128) -> Side
     requires bent { d ≡ pos 0 → ⊥ }
     requires bound { IsWithin (2 ^ 126) z }

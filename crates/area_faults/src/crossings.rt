@@ -27,7 +27,7 @@ pub(crate) fn crossing(first: &Curve, second: &Curve) -> Point
     }
 }
 
-/// The same of a straight and that from `e` to `f`, where it turns left from the first to that one.
+// The same of a straight and that from `e` to `f`, where it turns left from the first to that one.
 fn crossing_with(straight: &Curve, e: Point, f: Point, turn: i128) -> Point
     requires first { AreNear (2 ^ 41) straight.now.from straight.now.to }
     requires e_close { AreNear (2 ^ 41) straight.now.from e }
@@ -47,7 +47,7 @@ fn crossing_with(straight: &Curve, e: Point, f: Point, turn: i128) -> Point
     }
 }
 
-/// from + (to - from) part / turn, rounded down
+// from + (to - from) part / turn, rounded down
 fn rounded(from: i64, to: i64, part: i128, turn: i128) -> i128
     requires near { IsNear (2 ^ 41) from to }
     requires part { IsWithin (2 ^ 83) part }
@@ -60,7 +60,7 @@ fn rounded(from: i64, to: i64, part: i128, turn: i128) -> i128
     i128::from(from) + quotient
 }
 
-/// The turn from the direction of the straight to that from `e` to `f`.
+// The turn from the direction of the straight to that from `e` to `f`.
 fn turn_between(straight: &Curve, e: Point, f: Point) -> i128
     requires first { AreNear (2 ^ 41) straight.now.from straight.now.to }
     requires second { AreNear (2 ^ 41) e f }
@@ -73,7 +73,7 @@ fn turn_between(straight: &Curve, e: Point, f: Point) -> i128
     cross(ux, uy, vx, vy)
 }
 
-/// How far along the way of a straight from `a` the line from `e` to `f` is met, times the turn.
+// How far along the way of a straight from `a` the line from `e` to `f` is met, times the turn.
 fn part_before(a: Point, e: Point, f: Point) -> i128
     requires first { AreNear (2 ^ 41) a e }
     requires second { AreNear (2 ^ 41) e f }
@@ -87,7 +87,7 @@ fn part_before(a: Point, e: Point, f: Point) -> i128
     cross(ux, uy, vx, vy)
 }
 
-/// a d - b c, below 2^83
+// a d - b c, below 2^83
 fn cross(a: i128, b: i128, c: i128, d: i128) -> i128
     requires a { IsWithin (2 ^ 41) a }
     requires b { IsWithin (2 ^ 41) b }
@@ -101,7 +101,7 @@ fn cross(a: i128, b: i128, c: i128, d: i128) -> i128
     ad - bc
 }
 
-/// a b, below 2^82
+// a b, below 2^82
 fn product(a: i128, b: i128) -> i128
     requires a { IsWithin (2 ^ 41) a }
     requires b { IsWithin (2 ^ 41) b }
@@ -111,7 +111,7 @@ fn product(a: i128, b: i128) -> i128
     a * b
 }
 
-/// step part, below 2^124
+// step part, below 2^124
 fn scaled(step: i128, part: i128) -> i128
     requires step { IsWithin (2 ^ 41) step }
     requires part { IsWithin (2 ^ 83) part }
@@ -121,7 +121,7 @@ fn scaled(step: i128, part: i128) -> i128
     step * part
 }
 
-/// a - b, below 2^41
+// a - b, below 2^41
 fn difference(a: i64, b: i64) -> i128
     requires { IsNear (2 ^ 41) b a }
     ensures value { result ≡ a -ℤ b }

@@ -15,7 +15,7 @@ use ports::Memory;
 use std::alloc::Global;
 use straight_predicates::edge_between;
 
-/// The most sweeps before all curves are marked.
+// The most sweeps before all curves are marked.
 const ROUNDS: u32 = 8;
 
 /// Marks for curves of which each pair that meets badly has one: half arcs, and straights without
@@ -40,8 +40,8 @@ pub(crate) fn meeting_marks(
     Ok(all)
 }
 
-/// Marks for the half arcs, and where there are none and two straights are known that are bad, for
-/// those that a sweep marks which goes past bad edges.
+// Marks for the half arcs, and where there are none and two straights are known that are bad, for
+// those that a sweep marks which goes past bad edges.
 fn first_marks(
     alloc: Global,
     drawing: &Drawing,
@@ -82,8 +82,8 @@ fn all_marks(alloc: Global, count: usize) -> Result<Vec<bool>, Memory>
     Ok(vec![in alloc; true; count]?)
 }
 
-/// Marks for more curves, by a sweep of those that are not marked; None where no two of these are
-/// bad.
+// Marks for more curves, by a sweep of those that are not marked; None where no two of these are
+// bad.
 fn next_marks(alloc: Global, drawing: &Drawing, marks: &[bool]) -> Result<Option<Vec<bool>>, Memory>
     requires { HasArcMarks (plan drawing.now) marks.now }
     ensures next { IfOk result (λ r. IfSome r (λ next. HasArcMarks (plan drawing.now)
@@ -101,14 +101,14 @@ fn next_marks(alloc: Global, drawing: &Drawing, marks: &[bool]) -> Result<Option
     }
 }
 
-/// Edges, each with the number of its curve.
+// Edges, each with the number of its curve.
 #[derive(Drop)]
 struct CurveEdges {
     edges: Vec<Edge>,
     numbers: Vec<u32>,
 }
 
-/// The edge between the two ends of each curve that is not marked.
+// The edge between the two ends of each curve that is not marked.
 fn unmarked_edges(alloc: Global, curves: &[Curve], marks: &[bool]) -> Result<CurveEdges, Memory>
     requires size { length marks.now ≡ length curves.now }
     requires few { length curves.now < 2 ^ 30 }
@@ -133,7 +133,7 @@ fn is_unmarked(marks: &[bool], number: usize) -> bool
     !marks[number]
 }
 
-/// The marks, and marks for curves of edges that are bad, by these two and others.
+// The marks, and marks for curves of edges that are bad, by these two and others.
 fn with_clashing(
     alloc: Global,
     edges: &CurveEdges,
@@ -150,7 +150,7 @@ fn with_clashing(
     either(alloc, marks, &near)
 }
 
-/// Marks for what one of the two lists marks.
+// Marks for what one of the two lists marks.
 fn either(alloc: Global, first: &[bool], second: &[bool]) -> Result<Vec<bool>, Memory>
     requires { length second.now ≡ length first.now }
     ensures { IfOk result (λ marks. AreMoreMarks first.now marks.items) }

@@ -15,7 +15,7 @@ use plane::Drawing;
 use ports::Memory;
 use std::alloc::Global;
 
-/// So many findings of pairs, each from one of its curves or from both, are made at most.
+// So many findings of pairs, each from one of its curves or from both, are made at most.
 const MOST: usize = 2_000_000;
 
 /// Pairs of curves that meet badly, by their first curves, then by their second ones: all of them,
@@ -26,7 +26,7 @@ pub enum MeetingList {
     Many(Vec<MeetingAt>),
 }
 
-/// The curves of a drawing, of which pairs are tested.
+// The curves of a drawing, of which pairs are tested.
 #[derive(Drop)]
 struct MeetingTest<'a> {
     drawing: &'a Drawing,
@@ -71,7 +71,7 @@ pub fn all_meetings(
     }
 }
 
-/// The pairs of these codes, each with its place.
+// The pairs of these codes, each with its place.
 fn meetings_at(alloc: Global, drawing: &Drawing, codes: &[u64]) -> Result<Vec<MeetingAt>, Memory>
     requires { AreCodes (IsBadPair (plan drawing.now)) (length (plan drawing.now).curves)
         codes.now }

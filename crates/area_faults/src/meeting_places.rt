@@ -38,7 +38,7 @@ fn have_half_arc(first: &Curve, second: &Curve) -> bool
     first.kind == CurveKind::HalfArc || second.kind == CurveKind::HalfArc
 }
 
-/// An end of one of the two that is on the other.
+// An end of one of the two that is on the other.
 fn end_on_other(first: &Curve, second: &Curve) -> Option<Point>
     requires { ArePlaced first.now second.now }
     ensures some { IfSome result (IsEndOnOther first.now second.now) }
@@ -50,7 +50,7 @@ fn end_on_other(first: &Curve, second: &Curve) -> Option<Point>
         .or(end_on(second, first))
 }
 
-/// An end of the curve that is on the other one and no end of it.
+// An end of the curve that is on the other one and no end of it.
 fn inner_end(curve: &Curve, other: &Curve) -> Option<Point>
     requires { ArePlaced curve.now other.now }
     ensures { IfSome result (IsEndOn curve.now other.now) }
@@ -71,7 +71,7 @@ fn is_inner(curve: &Curve, p: Point) -> bool
     curve.from != p && curve.to != p && is_on(curve, p)
 }
 
-/// An end of the curve that is on the other one.
+// An end of the curve that is on the other one.
 fn end_on(curve: &Curve, other: &Curve) -> Option<Point>
     requires { ArePlaced curve.now other.now }
     ensures some { IfSome result (IsEndOn curve.now other.now) }

@@ -25,7 +25,7 @@ use plane::{Curve, CurveKind, Drawing};
 use ports::Memory;
 use std::alloc::Global;
 
-/// The most pairs of a point and a curve that is left out.
+// The most pairs of a point and a curve that is left out.
 const MOST: usize = 4_000_000;
 
 /// All faults of a drawing of at most 16,000,000 curves. The only error is out of memory. For the

@@ -30,7 +30,7 @@ use crate::kinds::{AreaAnswer, AreaFinding, FoundObjects, without_regions};
 use crate::level::meeting;
 use crate::points::OnCurve;
 use alone::alone_curves;
-use aside::{Aside, set_aside};
+use aside::{ExcludedCurves, set_aside};
 use bent::bent_answer;
 use level_breaks::first_break_among;
 use line_sweep::Swept;
@@ -63,8 +63,8 @@ pub(crate) fn answer_unsettled(
     }
 }
 
-/// The least point on a straight, and the least straight with it, by the run of the straights,
-/// which is then freed.
+// The least point on a straight, and the least straight with it, by the run of the straights,
+// which is then freed.
 fn point_on_straight(
     alloc: Global,
     drawing: &Drawing,
@@ -77,7 +77,7 @@ fn point_on_straight(
     first_on_straight(alloc, drawing, &straights, &swept)
 }
 
-/// The answer to the drawing, where no two straights are bad.
+// The answer to the drawing, where no two straights are bad.
 fn answer_clear(
     alloc: Global,
     drawing: &Drawing,
@@ -98,12 +98,12 @@ fn answer_clear(
     }
 }
 
-/// The answer to the drawing, where no two curves are bad.
+// The answer to the drawing, where no two curves are bad.
 fn answer_good(
     alloc: Global,
     drawing: &Drawing,
     places: &[Point],
-    aside: &Aside,
+    aside: &ExcludedCurves,
 ) -> Result<FoundObjects, Memory>
     requires few { length (plan drawing.now).curves ≤ 16000000 }
     requires near { AreInWindow (plan drawing.now) places.now }
@@ -122,13 +122,13 @@ fn answer_good(
     }
 }
 
-/// The answer to the drawing, where no two curves are bad and no point is on a curve: that of the
-/// bent drawing, named by curves of the drawing, or the first pair that breaks the last level.
+// The answer to the drawing, where no two curves are bad and no point is on a curve: that of the
+// bent drawing, named by curves of the drawing, or the first pair that breaks the last level.
 fn answer_bent(
     alloc: Global,
     drawing: &Drawing,
     places: &[Point],
-    aside: &Aside,
+    aside: &ExcludedCurves,
 ) -> Result<FoundObjects, Memory>
     requires few { length (plan drawing.now).curves ≤ 16000000 }
     requires near { AreInWindow (plan drawing.now) places.now }
@@ -146,7 +146,7 @@ fn answer_bent(
     }
 }
 
-/// The first pair that breaks the last level, where no curve is at fault.
+// The first pair that breaks the last level, where no curve is at fault.
 fn first_undecided(alloc: Global, drawing: &Drawing, marks: &[bool]) -> Result<AreaAnswer, Memory>
     requires few { length (plan drawing.now).curves ≤ 16000000 }
     requires size { length marks.now ≡ length drawing.now.curves.items }

@@ -77,7 +77,7 @@ fn has_tube_labels(case: &Case, edge: u32, curve: u32, inside: bool) -> bool
     is_side_label(case, outside, inside, curve)
 }
 
-/// Whether the half-edge has the label outside the first edge of that chain of the curve's tube.
+// Whether the half-edge has the label outside the first edge of that chain of the curve's tube.
 fn is_side_label(case: &Case, h: u32, inside: bool, curve: u32) -> bool
     requires fit { IsFit case.now }
     requires half { h < length (judged case.now).claims.notes }
@@ -88,7 +88,7 @@ fn is_side_label(case: &Case, h: u32, inside: bool, curve: u32) -> bool
     label_at(case, h) == side_label(case, inside, curve)
 }
 
-/// Whether the half-edge has the label of the curve's tube.
+// Whether the half-edge has the label of the curve's tube.
 fn is_tube_label(case: &Case, h: u32, curve: u32) -> bool
     requires fit { IsFit case.now }
     requires half { h < length (judged case.now).claims.notes }

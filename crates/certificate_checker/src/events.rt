@@ -70,7 +70,7 @@ fn has_block(
     all_end_at(edges, live, position, position + ending, at)
 }
 
-/// Whether the edges at the places from one up to another end at the point.
+// Whether the edges at the places from one up to another end at the point.
 fn all_end_at(edges: &[Edge], live: &ChunkedList<u32>, from: usize, upto: usize, at: Point) -> bool
     requires known { AreBelow (length edges.now) live.now }
     requires order { from ≤ upto }

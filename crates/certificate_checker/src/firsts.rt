@@ -43,7 +43,7 @@ pub fn edge_total(drawing: &Drawing, level: u8) -> usize
     total
 }
 
-/// How many edges stand for the curve where it has a tube, if it is a half arc.
+// How many edges stand for the curve where it has a tube, if it is a half arc.
 fn edge_count(curve: &Curve, level: u8) -> u32
     requires level { level ≤ 5 }
     ensures count { (curve.now.kind ≡ kind.HalfArc → HasTube (arc curve.now) level)

@@ -68,7 +68,7 @@ fn is_half_arc(drawing: &Drawing, number: u32) -> bool
     i < drawing.curves.len() && drawing.curves[i].kind == CurveKind::HalfArc
 }
 
-/// Whether the half arc's tube holds the point, which is on that side of the circle.
+// Whether the half arc's tube holds the point, which is on that side of the circle.
 fn is_in_tube(
     alloc: Global,
     window: &Window2,
@@ -94,7 +94,7 @@ fn is_in_tube(
     Ok(is_on_side(curve, inside, at))
 }
 
-/// Whether the point is strictly inside the half arc's circle, or strictly outside.
+// Whether the point is strictly inside the half arc's circle, or strictly outside.
 fn is_on_side(curve: &Curve, inside: bool, at: Point) -> bool
     requires { HasSide (arc curve.now) (point at) }
     ensures { IsTrue result ↔ IsOnSide inside (power (arc curve.now) (point at)) }

@@ -69,7 +69,7 @@ fn mark_across(across: &mut [bool], notes: &[HalfNote], lower: Option<u32>, uppe
     mark_named(across, notes, 2 * e, 2 * d + 1);
 }
 
-/// Marks the half-edge where its note names the other one across a cell.
+// Marks the half-edge where its note names the other one across a cell.
 fn mark_named(across: &mut [bool], notes: &[HalfNote], half: u32, other: u32)
     requires size { length across.old ≡ length notes.now }
     requires half { half < length notes.now }

@@ -103,7 +103,7 @@ fn nth_spot(spots: &[Spot], place: usize) -> Spot
     spots[place]
 }
 
-/// The point of the event of that number, if there is one.
+// The point of the event of that number, if there is one.
 fn next_event(case: &Case, event: u32) -> Option<Point>
     requires event { event ≤ length (judged case.now).table }
     ensures { IsNextEvent (judged case.now) event result }
@@ -115,7 +115,7 @@ fn next_event(case: &Case, event: u32) -> Option<Point>
     }
 }
 
-/// Whether the point comes after the next event.
+// Whether the point comes after the next event.
 fn is_later(at: Point, upto: Option<Point>) -> bool
     ensures { IsTrue result ↔ IsAfter upto at }
 {
@@ -125,8 +125,8 @@ fn is_later(at: Point, upto: Option<Point>) -> bool
     }
 }
 
-/// Marks the half-edges that bound the cell of the point, or notes that it is neither in such a
-/// cell nor in a tube.
+// Marks the half-edges that bound the cell of the point, or notes that it is neither in such a
+// cell nor in a tube.
 fn place_point(
     case: &Case,
     event: u32,
@@ -160,8 +160,8 @@ fn place_point(
     }
 }
 
-/// Whether the point is placed in a tube that holds it, with its label outside the chain on its
-/// side.
+// Whether the point is placed in a tube that holds it, with its label outside the chain on its
+// side.
 fn is_in_own_tube(case: &Case, number: u32) -> bool
     requires fit { IsFit case.now }
     requires number { number < length (judged case.now).points }
@@ -176,7 +176,7 @@ fn is_in_own_tube(case: &Case, number: u32) -> bool
     is_side_labelled(case, inside, curve, number + 1)
 }
 
-/// Whether that is the label outside the first edge of that chain of the curve's tube.
+// Whether that is the label outside the first edge of that chain of the curve's tube.
 fn is_side_labelled(case: &Case, inside: bool, curve: u32, label: u32) -> bool
     requires fit { IsFit case.now }
     requires half_arc { IsHalfArc (judged case.now).drawing curve }
@@ -185,8 +185,8 @@ fn is_side_labelled(case: &Case, inside: bool, curve: u32, label: u32) -> bool
     side_label(case, inside, curve) == label
 }
 
-/// The place of the edge over the point in the live list, where the point is in the cell that the
-/// certificate says, with its label on both sides, and is no event.
+// The place of the edge over the point in the live list, where the point is in the cell that the
+// certificate says, with its label on both sides, and is no event.
 fn cell_of(
     case: &Case,
     event: u32,
@@ -224,7 +224,7 @@ pub fn place_of(case: &Case, number: u32) -> PointPlace
     places[number as usize]
 }
 
-/// Whether the point is the next event.
+// Whether the point is the next event.
 fn is_at(at: Point, upto: Option<Point>) -> bool
     ensures { IsTrue result ↔ (upto ≡ Some at) }
 {
@@ -234,7 +234,7 @@ fn is_at(at: Point, upto: Option<Point>) -> bool
     }
 }
 
-/// Whether the point is between the edges on both sides of the place, with its label at both.
+// Whether the point is between the edges on both sides of the place, with its label at both.
 fn is_in_cell(case: &Case, live: &ChunkedList<u32>, place: usize, spot: Spot) -> bool
     requires fit { IsFit case.now }
     requires known { AreBelow (length case.now.edges.now) live.now }

@@ -36,7 +36,7 @@ pub fn replay(case: &Case, state: &mut State) -> Result<(), Stop>
     Ok(())
 }
 
-/// Places the points up to the event of that number.
+// Places the points up to the event of that number.
 fn place_to(case: &Case, event: u32, state: &mut State)
     requires fit { IsFit case.now }
     requires event { event ≤ length (judged case.now).table }
@@ -80,8 +80,8 @@ fn test_event(case: &Case, event: u32, state: &State) -> Result<(), Broken>
     }
 }
 
-/// Marks the half-edges beside the new neighbours, turns the event, and puts the edges that start
-/// there in the place of those that end.
+// Marks the half-edges beside the new neighbours, turns the event, and puts the edges that start
+// there in the place of those that end.
 fn go_on(case: &Case, event: u32, state: &mut State) -> Result<(), Memory>
     requires fit { IsFit case.now }
     requires event { event < length (judged case.now).table }

@@ -28,8 +28,8 @@ use Rattle.commands.specs.RefusalViews.{refusal_of, IsReading, IsLaidOut, IsMode
 use Rattle.resolver.specs.First.{IsFirstBroken}
 use Rattle.resolver.specs.Resolved.{ResolvedModel}
 use Rattle.resolver.specs.Standing.{IsModel}
-use Rattle.resolver.proofs.OneFirstBroken.{one_first_broken}
-use Rattle.resolver.proofs.OneModel.{one_model}
+use Rattle.resolver.proofs.TextLemmas.OneFirstBroken.{one_first_broken}
+use Rattle.resolver.proofs.TextLemmas.OneModel.{one_model}
 use Rattle.table_layout.specs.Layouts.{Layout}
 use Rattle.table_layout.specs.Tables.{layout_of}
 use Rattle.commands.specs.ModelTexts.{Refusal, lex_refusal, end_refusal, token_refusal}

@@ -43,6 +43,6 @@ Compiles held counted t text g =
     ⊎ ((l : Layout) × HasLayout text l × ReadsAll held counted l [] (further_files t) g)
 
 -- this is read of the files of a command
-abbrev pub Gathers : Option Files → (List ℕ → Type 0) → Command → Gathered → Type 0
-Gathers held counted c g =
+abbrev pub InputsOf : Option Files → (List ℕ → Type 0) → Command → Gathered → Type 0
+InputsOf held counted c g =
     Reads held counted (model_of c) g (λ text. Compiles held counted (task_of c) text g)

@@ -58,7 +58,7 @@ pub enum DecimalFault {
     MoreDecimals,
 }
 
-/// One more than the greatest magnitude: magnitudes are counted up to here.
+// One more than the greatest magnitude: magnitudes are counted up to here.
 const LIMIT: u64 = 1_000_000_000_000_000_000;
 
 /// The value of the bytes in units of the last of `scale` decimals, or the first fault.
@@ -79,7 +79,7 @@ pub fn read_scaled(bytes: &[u8], scale: u8) -> Result<i64, DecimalFault>
     Ok(with_sign(negative, magnitude))
 }
 
-/// The magnitude, or its negative.
+// The magnitude, or its negative.
 fn with_sign(negative: bool, magnitude: u64) -> i64
     requires { magnitude < 10 ^ 18 }
     ensures { result ≡ (if negative then neg_ℤ (pos magnitude) else pos magnitude) }
@@ -88,7 +88,7 @@ fn with_sign(negative: bool, magnitude: u64) -> i64
     if negative { -value } else { value }
 }
 
-/// Whether a minus stands first, and what stands after the sign.
+// Whether a minus stands first, and what stands after the sign.
 fn split_sign(bytes: &[u8]) -> (bool, &[u8])
     ensures negative { IsTrue result.0 ↔ (sign_of bytes.now ≡ minus) }
     ensures rest { result.1.now ≡ after_sign bytes.now }
@@ -100,7 +100,7 @@ fn split_sign(bytes: &[u8]) -> (bool, &[u8])
     }
 }
 
-/// The magnitude of what stands after the sign.
+// The magnitude of what stands after the sign.
 fn read_unsigned(unsigned: &[u8], scale: u8) -> Result<u64, DecimalFault>
     requires { scale ≤ 9 }
     ensures reading { result ≡ unsigned_of scale unsigned.now }
@@ -112,7 +112,7 @@ fn read_unsigned(unsigned: &[u8], scale: u8) -> Result<u64, DecimalFault>
     }
 }
 
-/// The same of any text: one pass finds the point, and each part is read in another.
+// The same of any text: one pass finds the point, and each part is read in another.
 fn read_in_passes(unsigned: &[u8], scale: u8) -> Result<u64, DecimalFault>
     requires { scale ≤ 9 }
     ensures reading { result ≡ unsigned_of scale unsigned.now }
@@ -125,14 +125,14 @@ fn read_in_passes(unsigned: &[u8], scale: u8) -> Result<u64, DecimalFault>
     }
 }
 
-/// The place of the first point.
+// The place of the first point.
 fn find_point(unsigned: &[u8]) -> Option<usize>
     ensures { result ≡ position (λ byte. byte == 46) unsigned.now }
 {
     unsigned.iter().position(|byte| *byte == b'.')
 }
 
-/// The magnitude of the digits before the point and the decimals after it.
+// The magnitude of the digits before the point and the decimals after it.
 fn read_parts(whole: &[u8], decimals: &[u8], scale: u8) -> Result<u64, DecimalFault>
     requires { scale ≤ 9 }
     ensures { result ≡ parts_of scale whole.now decimals.now }
@@ -147,7 +147,7 @@ fn read_parts(whole: &[u8], decimals: &[u8], scale: u8) -> Result<u64, DecimalFa
     within_limits(digits.saturating_mul(10u64.pow(missing)), past)
 }
 
-/// The magnitude again, where it has at most 18 digits and the decimals past the scale are 0.
+// The magnitude again, where it has at most 18 digits and the decimals past the scale are 0.
 fn within_limits(magnitude: u64, past: u64) -> Result<u64, DecimalFault>
     ensures { result ≡ settled magnitude past }
 {
@@ -160,7 +160,7 @@ fn within_limits(magnitude: u64, past: u64) -> Result<u64, DecimalFault>
     }
 }
 
-/// The number that the digits of `from` and then these write, at most `LIMIT`.
+// The number that the digits of `from` and then these write, at most `LIMIT`.
 fn read_digits(from: u64, digits: &[u8]) -> Result<u64, DecimalFault>
     requires { from ≤ 10 ^ 18 }
     ensures { result ≡ counted from digits.now }

@@ -25,7 +25,7 @@ pub fn read_plain(unsigned: &[u8], scale: u8) -> Option<u64>
     with_decimals(whole, &unsigned[count + 1..], scale)
 }
 
-/// The magnitude of whole digits that write this number and of one to `scale` decimals.
+// The magnitude of whole digits that write this number and of one to `scale` decimals.
 fn with_decimals(whole: u64, decimals: &[u8], scale: u8) -> Option<u64>
     requires whole { whole < 10 ^ 15 }
     requires scale { scale ≤ 3 }
@@ -42,7 +42,7 @@ fn with_decimals(whole: u64, decimals: &[u8], scale: u8) -> Option<u64>
     Some(with_zeros(number, scale - count as u8))
 }
 
-/// The number that the digits of `from` and then those at the front write, and how many these are.
+// The number that the digits of `from` and then those at the front write, and how many these are.
 fn front_number(from: u64, bytes: &[u8]) -> (u64, usize)
     requires { (from + 1) * 10 ^ length bytes.now ≤ 10 ^ 18 }
     ensures within { result.1 ≤ length bytes.now }
@@ -58,7 +58,7 @@ fn front_number(from: u64, bytes: &[u8]) -> (u64, usize)
     (number, bytes.len())
 }
 
-/// The number with so many zeros behind it.
+// The number with so many zeros behind it.
 fn with_zeros(number: u64, zeros: u8) -> u64
     requires zeros { zeros ≤ 3 }
     requires bound { number * 10 ^ zeros < 10 ^ 18 }

@@ -12,7 +12,8 @@ use Rattle.table_layout.specs.Layouts.{Layout}
 use Rattle.commands.specs.declared.files.File.{File}
 use Rattle.reports.specs.declared.status.Status.{Status}
 use Rattle.reports.specs.declared.status.Status.TheVariants.{Accepted, ReadFault, WriteFault}
-use Rattle.delivery.specs.Answers.{GathersFor, Passes, Agree, AgreeUnlessUnread, Answers, IsStopped}
+use Rattle.delivery.specs.Answers.{GathersFor, HoldsOfTexts, Agree, AgreeUnlessUnread, Answers}
+use Rattle.delivery.specs.Answers.{IsStopped}
 use Rattle.delivery.specs.Answers.{IsAnswer}
 use Rattle.delivery.specs.AreaAnswers.{AreAnswers}
 use Rattle.delivery.specs.Verifying.{IsVerification}
@@ -21,7 +22,7 @@ use Rattle.area_drawings.proofs.Windows.{same_drawings}
 use Rattle.commands.specs.Commands.{Command, Source, Target, Task, lists, judges, verifies}
 use Rattle.commands.specs.Commands.{rewrites, tests_points, task_of, from_file, made, limit_of}
 use Rattle.commands.specs.Commands.{model_of, further_files, IsCommand}
-use Rattle.delivery.specs.Deciding.{Decides, formless, formed}
+use Rattle.delivery.specs.Deciding.{CallOutcome, without_command, with_command}
 use Rattle.area_drawings.specs.AreaLimits.{has_too_large}
 use Rattle.area_links.specs.Rules.{Rule, links_of}
 use Rattle.std.specs.Prelude.{Err, Ok, Result}
@@ -29,13 +30,14 @@ use Rattle.delivery.specs.Links.{AreLinked, AreTestedBy, bad, tested}
 use Rattle.delivery.proofs.LinkedOutcomes.{agree_by_rules}
 use Rattle.delivery.specs.FiledTexts.{AreVerified, IsVerified}
 use Rattle.commands.specs.Gathering as gathering
-use Rattle.commands.specs.Gathering.{Gathered, Reads, ReadsAll, Compiles, Gathers}
+use Rattle.commands.specs.Gathering.{Gathered, Reads, ReadsAll, Compiles, InputsOf}
 use Rattle.delivery.specs.Causes.{HasOutcome}
-use Rattle.delivery.specs.Judging.{lines_of, findings, objects, IsMisbuilt, IsTextOf, IsClean}
+use Rattle.delivery.specs.Judging.{lines_of, findings, objects, IsMalformed, IsTextOf, IsClean}
 use Rattle.delivery.specs.Judging.{AreJudged, IsJudgedBy, at_fault, faulty, oversized, sound}
 use Rattle.delivery.specs.Judging.{IsChecked}
 use Rattle.commands.specs.ModelTexts.{Refusal, IsRefused, HasLayout}
-use Rattle.reports.specs.Outcomes.{bad_link, Outcome, filed_text, misbuilt, rejected, areas_outcome}
+use Rattle.reports.specs.Outcomes.{bad_link, Outcome, filed_text, malformed, rejected}
+use Rattle.reports.specs.Outcomes.{areas_outcome}
 use Rattle.reports.specs.Outcomes.{verified, canonical, report_of}
 use Rattle.delivery.specs.Rewriting.{canon_of, IsRewritten, misread, without_text, written}
 use Rattle.commands.specs.Reading.{IsWhole, IsLonger}
@@ -157,8 +159,8 @@ module _ (files : Files) (far near : List ℕ → Type 0) where
       | inr n ↦ laid_after n.0 n.1 n.2 k
     ]
 
-  pub same_gathered : (c : Command) (g h : Gathered) → Gathers (Some files) far c g
-      → Gathers (Some files) near c h → Same g h
+  pub same_gathered : (c : Command) (g h : Gathered) → InputsOf (Some files) far c g
+      → InputsOf (Some files) near c h → Same g h
   same_gathered c g h r k =
       same_read (model_of c) g h (λ text. Compiles (Some files) far (task_of c) text g) (λ text. Compiles (Some files) near (task_of c) text h)
       (λ text p q. same_compiled (task_of c) text g h p q) r k
@@ -169,13 +171,13 @@ abbrev PassesIn : (Task → Layout → List (List ℕ) → Type 0) → Task → 
 PassesIn P t (gathering.texts l ts) = P t l ts
 PassesIn P t _ = ⊥
 
-module _ (P : Task → Layout → List (List ℕ) → Type 0) (files : Files) (far near : List ℕ → Type 0) (words : List (List ℕ)) (p : Passes (Some files) far words P) where
-  reads_too : (h : Gathered) (c : Command) → IsCommand words c → Gathers (Some files) near c h
+module _ (P : Task → Layout → List (List ℕ) → Type 0) (files : Files) (far near : List ℕ → Type 0) (words : List (List ℕ)) (p : HoldsOfTexts (Some files) far words P) where
+  reads_too : (h : Gathered) (c : Command) → IsCommand words c → InputsOf (Some files) near c h
       → IsUnread h ⊎ PassesIn P (task_of c) h
   reads_too h c i k =
       let e = one_command words p.0 c p.3 i in
       let g = gathering.texts p.1 p.2 in
-      elim (same_gathered files far near c g h (subst (λ (x : Command). Gathers (Some files) far x g) e p.4) k) as (λ z. IsUnread h ⊎ PassesIn P (task_of c) h) [
+      elim (same_gathered files far near c g h (subst (λ (x : Command). InputsOf (Some files) far x g) e p.4) k) as (λ z. IsUnread h ⊎ PassesIn P (task_of c) h) [
         | inl u ↦ absurd u
         | inr n ↦ elim n as (λ z. IsUnread h ⊎ PassesIn P (task_of c) h) [
           | inl u ↦ inl u
@@ -184,7 +186,8 @@ module _ (P : Task → Layout → List (List ℕ) → Type 0) (files : Files) (f
       ]
 
   -- two tests that are passed are passed by the same texts
-  pub both_pass : (Q : Task → Layout → List (List ℕ) → Type 0) → Passes (Some files) near words Q
+  pub both_pass : (Q : Task → Layout → List (List ℕ) → Type 0)
+      → HoldsOfTexts (Some files) near words Q
       → (t : Task) × (l : Layout) × (ts : List (List ℕ)) × P t l ts × Q t l ts
   both_pass Q q = elim (reads_too (gathering.texts q.1 q.2) q.0 q.3 q.4) as (λ z. (t : Task) × (l : Layout) × (ts : List (List ℕ)) × P t l ts × Q t l ts) [
     | inl u ↦ absurd u
@@ -217,14 +220,14 @@ module _ (l : Layout) (text : List ℕ) (Areas : List (List Row) → Outcome →
   one_rows : (t u : List (List Row)) → IsTextOf l text t → IsTextOf l text u → t ≡ u
   one_rows t u h k = one_transfer (form_of l) (lines_of l text).lines t u h.1 k.1
 
-  never_at_fault : (rows : List (List Row)) (n : ℕ) (code : Structure) → IsMisbuilt l text n code
+  never_at_fault : (rows : List (List Row)) (n : ℕ) (code : Structure) → IsMalformed l text n code
       → IsTextOf l text rows → ⊥
   never_at_fault rows n code h t = never_both (form_of l) (lines_of l text) rows n code t h
 
   agree_judged : (o p : Outcome) → IsJudgedBy l text Areas o → IsJudgedBy l text Areas p → Agree o p
   agree_judged o p (at_fault n c h e) (at_fault m d k f) =
       let q = one_fault (form_of l) (lines_of l text) n m c d h k in
-      agree_same o p (e ∙ ap (λ (x : ℕ). misbuilt x c) q.0 ∙ ap (misbuilt m) q.1 ∙ sym f)
+      agree_same o p (e ∙ ap (λ (x : ℕ). malformed x c) q.0 ∙ ap (malformed m) q.1 ∙ sym f)
   agree_judged o p (at_fault n c h e) (faulty rows t m f) = absurd (never_at_fault rows n c h t)
   agree_judged o p (at_fault n c h e) (oversized rows t k b f) = absurd (never_at_fault rows n c h t)
   agree_judged o p (at_fault n c h e) (sound k) = absurd (never_at_fault k.0 n c h k.1)
@@ -246,7 +249,7 @@ module _ (name : List ℕ) (l : Layout) (text : List ℕ) where
   same_rows : (a b : List (List Row)) → IsTextOf l text a → IsTextOf l text b → a ≡ b
   same_rows a b h k = one_transfer (form_of l) (lines_of l text).lines a b h.1 k.1
 
-  no_misread : (rows : List (List Row)) (n : ℕ) (code : Structure) → IsMisbuilt l text n code
+  no_misread : (rows : List (List Row)) (n : ℕ) (code : Structure) → IsMalformed l text n code
       → IsTextOf l text rows → ⊥
   no_misread rows n code h t = never_both (form_of l) (lines_of l text) rows n code t h
 
@@ -254,7 +257,7 @@ module _ (name : List ℕ) (l : Layout) (text : List ℕ) where
       → Agree o p
   agree_rewritten o p (misread n c h e) (misread m d k f) =
       let q = one_fault (form_of l) (lines_of l text) n m c d h k in
-      agree_same o p (e ∙ ap (λ (x : ℕ). misbuilt x c) q.0 ∙ ap (misbuilt m) q.1 ∙ sym f)
+      agree_same o p (e ∙ ap (λ (x : ℕ). malformed x c) q.0 ∙ ap (malformed m) q.1 ∙ sym f)
   agree_rewritten o p (misread n c h e) (without_text rows t k f) = absurd (no_misread rows n c h t)
   agree_rewritten o p (misread n c h e) (written rows t k f) = absurd (no_misread rows n c h t)
   agree_rewritten o p (without_text rows t k e) (misread n c h f) = absurd (no_misread rows n c h t)
@@ -343,24 +346,24 @@ module _ (laws : AreaLaws) where
   ]
 
   pub outcomes_agree : (files : Files) (far near : List ℕ → Type 0) (words : List (List ℕ)) (o p : Outcome)
-      → Decides (Some files) far words o → Decides (Some files) near words p → AgreeUnlessUnread o p
-  outcomes_agree files far near words o p (formless u a) (formless v b) = inr (inr (agree_same o p (a ∙ sym b)))
-  outcomes_agree files far near words o p (formless u a) (formed d h j y b) = absurd (u d j)
-  outcomes_agree files far near words o p (formed c g i x a) (formless v b) = absurd (v c i)
-  outcomes_agree files far near words o p (formed c g i x a) (formed d h j y b) =
+      → CallOutcome (Some files) far words o → CallOutcome (Some files) near words p → AgreeUnlessUnread o p
+  outcomes_agree files far near words o p (without_command u a) (without_command v b) = inr (inr (agree_same o p (a ∙ sym b)))
+  outcomes_agree files far near words o p (without_command u a) (with_command d h j y b) = absurd (u d j)
+  outcomes_agree files far near words o p (with_command c g i x a) (without_command v b) = absurd (v c i)
+  outcomes_agree files far near words o p (with_command c g i x a) (with_command d h j y b) =
       let e = one_command words c d i j in
       files_agree (task_of d) g h o p
-      (same_gathered files far near d g h (subst (λ (z : Command). Gathers (Some files) far z g) e x) y)
+      (same_gathered files far near d g h (subst (λ (z : Command). InputsOf (Some files) far z g) e x) y)
       (subst (λ (z : Command). HasOutcome (task_of z) g o) e a) b
 
 -- an answer that is that of an outcome unless a write failed is that of each outcome, as far as they agree
 pub exactly : (held : Option Files) (far near : List ℕ → Type 0) (words : List (List ℕ)) (p : Outcome) (s : Status) (before after : Option (List ℕ))
-    → ((files : Files) (x y : Outcome) → Decides (Some files) far words x → Decides (Some files) near words y → AgreeUnlessUnread x y) → Decides held near words p
+    → ((files : Files) (x y : Outcome) → CallOutcome (Some files) far words x → CallOutcome (Some files) near words y → AgreeUnlessUnread x y) → CallOutcome held near words p
     → (s ≢ WriteFault → s ≡ p.status) → (s ≢ WriteFault → Adds before (report_of p) after)
-    → (files : Files) → held ≡ Some files → (o : Outcome) → Decides (Some files) far words o → IsAnswer o s before after
+    → (files : Files) → held ≡ Some files → (o : Outcome) → CallOutcome (Some files) far words o → IsAnswer o s before after
 exactly held far near words p s before after agree k e r files t o h read =
     by_write (Answers o s before after ⊎ IsStopped s) s (λ w. inr (inr (inl w)))
-    (λ n. elim (agree files o p h (subst (λ (x : Option Files). Decides x near words p) t k)) as (λ z. Answers o s before after ⊎ IsStopped s) [
+    (λ n. elim (agree files o p h (subst (λ (x : Option Files). CallOutcome x near words p) t k)) as (λ z. Answers o s before after ⊎ IsStopped s) [
       | inl u ↦ absurd (read u)
       | inr m ↦ elim m as (λ z. Answers o s before after ⊎ IsStopped s) [
         | inl u ↦ inr (inl (e n ∙ u))

@@ -12,11 +12,11 @@ use Rattle.reports.specs.Outcomes.{Outcome, report_of}
 use Rattle.reports.specs.declared.status.Status.{Status}
 use Rattle.reports.specs.declared.status.Status.TheVariants.{Accepted, Undecided, WriteFault}
 use Rattle.reports.specs.declared.status.Status.TheVariants.{Memory}
-use Rattle.delivery.specs.Answers.{AgreeUnlessUnread, HasCause, IsStopped, Passes}
+use Rattle.delivery.specs.Answers.{AgreeUnlessUnread, HasCause, IsStopped, HoldsOfTexts}
 use Rattle.delivery.specs.Calls.{AreServed, IsCall, NoCountMoved, PutFailed, ReadFailed, Stores}
 use Rattle.delivery.specs.Calls.{WriteFailed}
 use Rattle.delivery.specs.Causes.{HasStraightAreas, IsValidInput}
-use Rattle.delivery.specs.Deciding.{Decides}
+use Rattle.delivery.specs.Deciding.{CallOutcome}
 use Rattle.delivery.specs.Effects.{HasEffects, IsBegun, IsFiled}
 use Rattle.delivery.specs.Served.{AreReadableFor, HasFilingSpace, IsServedFor}
 use Rattle.delivery.proofs.Agreement.{exactly}
@@ -54,22 +54,22 @@ pub record IsPublished (o : Outcome) (old mid new : Stores) (status : Status) : 
 -- the laws of outcomes
 pub record CallLaws : Type 0 where
   pub cause : (held : Option Files) (before after : List ℕ → ℕ) (words : List (List ℕ)) (o : Outcome)
-      → Decides held (ReadRose before after) words o
+      → CallOutcome held (ReadRose before after) words o
       → HasCause held (ReadRose before after) words o.status
   pub agree : (files : Files) (before after from upto : List ℕ → ℕ) (words : List (List ℕ))
-      (o p : Outcome) → Decides (Some files) (ReadRose before after) words o
-      → Decides (Some files) (ReadRose from upto) words p → AgreeUnlessUnread o p
+      (o p : Outcome) → CallOutcome (Some files) (ReadRose before after) words o
+      → CallOutcome (Some files) (ReadRose from upto) words p → AgreeUnlessUnread o p
   pub straights : (files : Files) (before after from upto : List ℕ → ℕ) (words : List (List ℕ))
-      → Passes (Some files) (ReadRose before after) words HasStraightAreas
+      → HoldsOfTexts (Some files) (ReadRose before after) words HasStraightAreas
       → HasCause (Some files) (ReadRose from upto) words Undecided → ⊥
   pub valid : (files : Files) (before after from upto : List ℕ → ℕ) (words : List (List ℕ))
-      (status : Status) → Passes (Some files) (ReadRose before after) words IsValidInput
+      (status : Status) → HoldsOfTexts (Some files) (ReadRose before after) words IsValidInput
       → HasCause (Some files) (ReadRose from upto) words status
       → (status ≡ Accepted) ⊎ IsStopped status
 
 -- ---- an outcome is published
 module _ (laws : CallLaws) (words : List (List ℕ)) (old mid new : Stores) (o : Outcome)
-    (status : Status) (is_so : Decides old.held (ReadFailed old mid) words o)
+    (status : Status) (is_so : CallOutcome old.held (ReadFailed old mid) words o)
     (read : HasOnlyRead words old mid) (p : IsPublished o old mid new status) where
   rose : (name : List ℕ) → ReadFailed old mid name → ReadFailed old new name
   rose name r =
@@ -79,7 +79,7 @@ module _ (laws : CallLaws) (words : List (List ℕ)) (old mid new : Stores) (o :
   written : WriteFailed mid new → WriteFailed old new
   written r = rose_after old.write_faults mid.write_faults new.write_faults read.writes r
 
-  still : Decides old.held (ReadFailed old new) words o
+  still : CallOutcome old.held (ReadFailed old new) words o
   still = decides_on old.held (ReadFailed old mid) (ReadFailed old new) rose words o is_so
 
   fixed : status ≢ Memory
@@ -91,7 +91,7 @@ module _ (laws : CallLaws) (words : List (List ℕ)) (old mid new : Stores) (o :
       (laws.cause old.held old.read_faults new.read_faults words o) still p.answered
 
   valid : (files : Files) → old.held ≡ Some files
-      → Passes (Some files) (ReadFailed old new) words IsValidInput
+      → HoldsOfTexts (Some files) (ReadFailed old new) words IsValidInput
       → (status ≡ Accepted) ⊎ IsStopped status
   valid =
       accepted old.held (ReadFailed old new) words status cause
@@ -138,7 +138,7 @@ module _ (laws : CallLaws) (words : List (List ℕ)) (old mid new : Stores) (o :
   -- without a fault the outcome is that of files that could be read
   complete : ((name : List ℕ) → ReadFailed old new name → ⊥) → (WriteFailed old new → ⊥)
       → (PutFailed old new → ⊥)
-      → (q : Outcome) × Decides old.held (λ name. ⊥) words q × (status ≡ q.status)
+      → (q : Outcome) × CallOutcome old.held (λ name. ⊥) words q × (status ≡ q.status)
   complete f g h = (
     o,
     decides_on old.held (ReadFailed old mid) (λ name. ⊥) (λ name r. f name (rose name r)) words o
@@ -174,7 +174,7 @@ module _ (laws : CallLaws) (words : List (List ℕ)) (old mid new : Stores) (o :
     unput r = not_rose old.output_faults new.output_faults s.below.put stays.1 r
 
   accepts : (files : Files) → old.held ≡ Some files
-      → Passes (Some files) (λ name. ⊥) words IsValidInput → AreServed words old
+      → HoldsOfTexts (Some files) (λ name. ⊥) words IsValidInput → AreServed words old
       → (status ≡ Accepted) ⊎ (status ≡ Memory)
   accepts files e v s =
       accepted_or_memory old.held (ReadFailed old new) (unread s) words status cause

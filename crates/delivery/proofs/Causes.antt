@@ -13,22 +13,22 @@ use Rattle.reports.specs.declared.status.Status.TheVariants.{NotProved}
 use Rattle.delivery.specs.Answers.{HasCause}
 use Rattle.commands.specs.Commands.{Command, Source, Target, Task, lists, judges, verifies}
 use Rattle.commands.specs.Commands.{rewrites, tests_points, task_of, IsCommand}
-use Rattle.delivery.specs.Deciding.{Decides, formless, formed}
+use Rattle.delivery.specs.Deciding.{CallOutcome, without_command, with_command}
 use Rattle.commands.specs.Gathering as gathering
-use Rattle.commands.specs.Gathering.{Gathered, Gathers}
+use Rattle.commands.specs.Gathering.{Gathered, InputsOf}
 use Rattle.delivery.specs.Causes.{HasOutcome, HasFault, HasLargeArea, Accepts, Rejects}
 use Rattle.delivery.specs.Causes.{LeavesUndecided, Unproves, IsOversized}
 use Rattle.delivery.specs.Judging.{findings, objects, HasSoundRows, AreJudged, IsJudgedBy, at_fault}
 use Rattle.delivery.specs.Judging.{faulty, oversized, sound, IsChecked}
 use Rattle.delivery.specs.Rewriting.{canon_of, IsRewritten, misread, without_text, written}
 use Rattle.reports.specs.Outcomes.{bad_link, Outcome, usage, unread, too_long, area_too_large}
-use Rattle.reports.specs.Outcomes.{refused, compiled, misbuilt, rejected, verified, canonical}
+use Rattle.reports.specs.Outcomes.{refused, compiled, malformed, rejected, verified, canonical}
 use Rattle.reports.specs.Outcomes.{canon_refused}
 use Rattle.std.proofs.Common.{length}
 use Rattle.std.specs.Prelude.{Ok}
 use Rattle.area_links.specs.Rules.{Rule, links_of}
 use Rattle.area_drawings.specs.AreaLimits.{has_too_large}
-use Rattle.delivery.specs.Answers.{Passes}
+use Rattle.delivery.specs.Answers.{HoldsOfTexts}
 use Rattle.delivery.specs.Causes.{AreLinksWrong, AreParted}
 use Rattle.delivery.specs.Judging.{IsClean, IsTextOf}
 use Rattle.delivery.specs.Links.{AreLinked, AreTested, AreTestedBy, IsLinked, bad, pair_count}
@@ -55,19 +55,19 @@ module _ (laws : AreaLaws) (held : Option Files) (counted : List ℕ → Type 0)
 
   -- a task whose transfer is judged, and what its tests say of its texts
   module _ (c : Command) (i : IsCommand words c) (l : Layout) (text : List ℕ) (ts : List (List ℕ))
-      (g_ : Gathers held counted c (gathering.texts l ts))
+      (g_ : InputsOf held counted c (gathering.texts l ts))
       (rejects : HasFault l text → Rejects (task_of c) l ts)
       (exceeds : HasLargeArea l text → IsOversized (task_of c) l ts)
       (Areas : List (List Row) → Outcome → Type 0)
       (areas : (o : Outcome) → HasSoundRows l text (λ rows. Areas rows o) → HasCause held counted words o.status) where
     judged_means : (o : Outcome) → IsJudgedBy l text Areas o → HasCause held counted words o.status
-    judged_means o (at_fault n code h e) = moved o (misbuilt n code) e (c, l, ts, i, g_, rejects (inl (n, code, h)))
+    judged_means o (at_fault n code h e) = moved o (malformed n code) e (c, l, ts, i, g_, rejects (inl (n, code, h)))
     judged_means o (faulty rows t n e) = moved o (rejected (findings l rows)) e (c, l, ts, i, g_, rejects (inr (rows, t, n)))
     judged_means o (oversized rows t k b e) = moved o area_too_large e (inr (c, l, ts, i, g_, exceeds (rows, t, k, b)))
     judged_means o (sound h) = areas o h
 
   -- a transfer whose areas are searched
-  module _ (c : Command) (s : Source) (target : Target) (e : task_of c ≡ judges s target) (i : IsCommand words c) (l : Layout) (text : List ℕ) (g_ : Gathers held counted c (gathering.texts l (text ∷ []))) where
+  module _ (c : Command) (s : Source) (target : Target) (e : task_of c ≡ judges s target) (i : IsCommand words c) (l : Layout) (text : List ℕ) (g_ : InputsOf held counted c (gathering.texts l (text ∷ []))) where
     -- what a test says of the task, said of the command
     by_task : (test : Task → Layout → List (List ℕ) → Type 0) → test (judges s target) l (text ∷ [])
         → test (task_of c) l (text ∷ [])
@@ -161,7 +161,7 @@ module _ (laws : AreaLaws) (held : Option Files) (counted : List ℕ → Type 0)
     checked_means = judged_means c i l text (text ∷ []) g_ (λ h. by_task Rejects (inl h)) (by_task IsOversized) (AreJudged target l) areas_mean
 
   -- a transfer with filed certificates
-  module _ (c : Command) (s r : Source) (e : task_of c ≡ verifies s r) (i : IsCommand words c) (l : Layout) (text filed : List ℕ) (g_ : Gathers held counted c (gathering.texts l (text ∷ filed ∷ []))) where
+  module _ (c : Command) (s r : Source) (e : task_of c ≡ verifies s r) (i : IsCommand words c) (l : Layout) (text filed : List ℕ) (g_ : InputsOf held counted c (gathering.texts l (text ∷ filed ∷ []))) where
     with_filed : (test : Task → Layout → List (List ℕ) → Type 0)
         → test (verifies s r) l (text ∷ filed ∷ []) → test (task_of c) l (text ∷ filed ∷ [])
     with_filed test h = subst (λ (t : Task). test t l (text ∷ filed ∷ [])) (sym e) h
@@ -182,7 +182,7 @@ module _ (laws : AreaLaws) (held : Option Files) (counted : List ℕ → Type 0)
   -- a transfer with links
   module _ (c : Command) (s r : Source) (e : task_of c ≡ tests_points s r) (i : IsCommand words c)
       (l : Layout) (text links : List ℕ)
-      (g_ : Gathers held counted c (gathering.texts l (text ∷ links ∷ []))) where
+      (g_ : InputsOf held counted c (gathering.texts l (text ∷ links ∷ []))) where
     with_links : (test : Task → Layout → List (List ℕ) → Type 0)
         → test (tests_points s r) l (text ∷ links ∷ []) → test (task_of c) l (text ∷ links ∷ [])
     with_links test h = subst (λ (t : Task). test t l (text ∷ links ∷ [])) (sym e) h
@@ -217,7 +217,7 @@ module _ (laws : AreaLaws) (held : Option Files) (counted : List ℕ → Type 0)
             → AreTested l rows j.drawings rules j.misplaced
         found f h = j.tested (fine_all j.answers f h)
 
-        rejects : AreLinksWrong l links rows → Passes held counted words Rejects
+        rejects : AreLinksWrong l links rows → HoldsOfTexts held counted words Rejects
         rejects h =
             (c, l, text ∷ links ∷ [], i, g_, with_links Rejects (inr (rows, t, k, b, h)))
 
@@ -299,10 +299,10 @@ module _ (laws : AreaLaws) (held : Option Files) (counted : List ℕ → Type 0)
   -- a transfer that is written in its canonical text
   rewrite_means : (c : Command) (s : Source) (name : List ℕ) → task_of c ≡ rewrites s name
       → IsCommand words c → (l : Layout) (text : List ℕ)
-      → Gathers held counted c (gathering.texts l (text ∷ [])) → (o : Outcome)
+      → InputsOf held counted c (gathering.texts l (text ∷ [])) → (o : Outcome)
       → IsRewritten name l text o → HasCause held counted words o.status
   rewrite_means c s name e i l text g o (misread n code h q) =
-      moved o (misbuilt n code) q (c, l, text ∷ [], i, g, subst (λ (t : Task). Rejects t l (text ∷ [])) (sym e) (inl (n, code, h)))
+      moved o (malformed n code) q (c, l, text ∷ [], i, g, subst (λ (t : Task). Rejects t l (text ∷ [])) (sym e) (inl (n, code, h)))
   rewrite_means c s name e i l text g o (without_text rows t k q) =
       moved o canon_refused q (c, l, text ∷ [], i, g, subst (λ (t : Task). Rejects t l (text ∷ [])) (sym e) (inr (rows, t, k)))
   rewrite_means c s name e i l text g o (written rows t k q) =
@@ -310,7 +310,7 @@ module _ (laws : AreaLaws) (held : Option Files) (counted : List ℕ → Type 0)
 
   -- a command by its task
   task_means : (c : Command) (t : Task) (g : Gathered) → task_of c ≡ t → IsCommand words c
-      → Gathers held counted c g → (o : Outcome) → HasOutcome t g o
+      → InputsOf held counted c g → (o : Outcome) → HasOutcome t g o
       → HasCause held counted words o.status
   task_means c t (gathering.unread f) e i h o k = moved o (unread f) k (f, (c, i, h))
   task_means c t (gathering.too_long f) e i h o k = moved o (too_long f) k (inl (f, (c, i, h)))
@@ -324,9 +324,10 @@ module _ (laws : AreaLaws) (held : Option Files) (counted : List ℕ → Type 0)
   task_means c t (gathering.texts l ts) e i h o k = absurd k
 
   -- the status of the outcome has its cause
-  pub means : (o : Outcome) → Decides held counted words o → HasCause held counted words o.status
-  means o (formless u e) = moved o usage e u
-  means o (formed c g i h a) = task_means c (task_of c) g refl i h o a
+  pub means : (o : Outcome) → CallOutcome held counted words o
+      → HasCause held counted words o.status
+  means o (without_command u e) = moved o usage e u
+  means o (with_command c g i h a) = task_means c (task_of c) g refl i h o a
 
 -- ---- no outcome is that a write failed, or that memory ran out
 abbrev pub IsFixed : Status → Type 0
@@ -367,7 +368,7 @@ verified_fixed l rows filed o j = fixed_as o (verified l (objects rows) j.drawin
 judged_fixed : (l : Layout) (text : List ℕ) (Areas : List (List Row) → Outcome → Type 0)
     → ((rows : List (List Row)) (o : Outcome) → Areas rows o → IsFixed o.status) → (o : Outcome)
     → IsJudgedBy l text Areas o → IsFixed o.status
-judged_fixed l text Areas areas o (at_fault n code h e) = fixed_as o (misbuilt n code) e tt
+judged_fixed l text Areas areas o (at_fault n code h e) = fixed_as o (malformed n code) e tt
 judged_fixed l text Areas areas o (faulty rows t n e) = fixed_as o (rejected (findings l rows)) e tt
 judged_fixed l text Areas areas o (oversized rows t k b e) = fixed_as o area_too_large e tt
 judged_fixed l text Areas areas o (sound h) = areas h.0 o h.4
@@ -396,7 +397,7 @@ links_fixed l links rows o (tested rules q j) =
 
 rewrite_fixed : (name : List ℕ) (l : Layout) (text : List ℕ) (o : Outcome)
     → IsRewritten name l text o → IsFixed o.status
-rewrite_fixed name l text o (misread n code h e) = fixed_as o (misbuilt n code) e tt
+rewrite_fixed name l text o (misread n code h e) = fixed_as o (malformed n code) e tt
 rewrite_fixed name l text o (without_text rows t k e) = fixed_as o canon_refused e tt
 rewrite_fixed name l text o (written rows t k e) = fixed_as o (canonical name (objects rows) (canon_of l rows)) e tt
 
@@ -413,16 +414,16 @@ task_fixed (tests_points s r) (gathering.texts l (text ∷ links ∷ [])) o k =
 task_fixed t (gathering.texts l ts) o k = absurd k
 
 fixed : (held : Option Files) (counted : List ℕ → Type 0) (words : List (List ℕ)) (o : Outcome)
-    → Decides held counted words o → IsFixed o.status
-fixed held counted words o (formless u e) = fixed_as o usage e tt
-fixed held counted words o (formed c g i h a) = task_fixed (task_of c) g o a
+    → CallOutcome held counted words o → IsFixed o.status
+fixed held counted words o (without_command u e) = fixed_as o usage e tt
+fixed held counted words o (with_command c g i h a) = task_fixed (task_of c) g o a
 
 pub not_write_fault : (held : Option Files) (counted : List ℕ → Type 0) (words : List (List ℕ)) (o : Outcome)
-    → Decides held counted words o → o.status ≢ WriteFault
+    → CallOutcome held counted words o → o.status ≢ WriteFault
 not_write_fault held counted words o h e = subst IsFixed e (fixed held counted words o h)
 
 pub not_memory : (held : Option Files) (counted : List ℕ → Type 0) (words : List (List ℕ)) (o : Outcome)
-    → Decides held counted words o → o.status ≢ Memory
+    → CallOutcome held counted words o → o.status ≢ Memory
 not_memory held counted words o h e = subst IsFixed e (fixed held counted words o h)
 
 -- ---- an answer that is that of an outcome, unless a write failed
@@ -440,8 +441,8 @@ by_write A Memory f n = n (λ e. cc)
 by_write A NotProved f n = n (λ e. cc)
 
 pub caused : (held : Option Files) (counted : List ℕ → Type 0) (words : List (List ℕ)) (o : Outcome) (s : Status)
-    → (Decides held counted words o → HasCause held counted words o.status)
-    → Decides held counted words o → (s ≢ WriteFault → s ≡ o.status) → HasCause held counted words s
+    → (CallOutcome held counted words o → HasCause held counted words o.status)
+    → CallOutcome held counted words o → (s ≢ WriteFault → s ≡ o.status) → HasCause held counted words s
 caused held counted words o s law h e =
     by_write (HasCause held counted words s) s
     (λ w. subst (HasCause held counted words) (sym w) tt)
@@ -449,6 +450,6 @@ caused held counted words o s law h e =
 
 -- such an answer is not out of memory
 pub never_memory : (held : Option Files) (counted : List ℕ → Type 0) (words : List (List ℕ)) (o : Outcome) (s : Status)
-    → Decides held counted words o → (s ≢ WriteFault → s ≡ o.status) → s ≢ Memory
+    → CallOutcome held counted words o → (s ≢ WriteFault → s ≡ o.status) → s ≢ Memory
 never_memory held counted words o s h e m =
     by_write ⊥ s (λ w. let k : WriteFault ≡ Memory = sym w ∙ m in cc) (λ n. not_memory held counted words o h (sym (e n) ∙ m))

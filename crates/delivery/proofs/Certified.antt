@@ -17,10 +17,10 @@ use Rattle.commands.specs.Commands.{Command, Target, Source, Task, lists, judges
 use Rattle.commands.specs.Commands.{rewrites, tests_points, task_of, writes_to}
 use Rattle.commands.specs.declared.task.Filed.{Filed}
 use Rattle.commands.specs.declared.task.Filed.TheVariants as filed
-use Rattle.delivery.specs.Deciding.{Decides, formless, formed}
+use Rattle.delivery.specs.Deciding.{CallOutcome, without_command, with_command}
 use Rattle.delivery.specs.Effects.{IsFiled}
 use Rattle.commands.specs.Gathering as gathering
-use Rattle.commands.specs.Gathering.{Gathered, Gathers}
+use Rattle.commands.specs.Gathering.{Gathered, InputsOf}
 use Rattle.delivery.specs.Judging as judging
 use Rattle.delivery.specs.Judging.{HasSoundRows, objects, AreJudged, IsChecked}
 use Rattle.delivery.specs.FiledTexts.{IsVerified}
@@ -161,16 +161,16 @@ filed_by (tests_points r f) name (gathering.texts l ts) o w k s = absurd (cc)
 filed_by t name (gathering.texts l ts) o w k s = absurd k
 
 pub certifies : (held : Option Files) (counted : List ℕ → Type 0) (words : List (List ℕ)) (o : Outcome) (new : Option Files)
-    → Decides held counted words o → o.status ≡ Accepted → IsFiled o.filing held new
+    → CallOutcome held counted words o → o.status ≡ Accepted → IsFiled o.filing held new
     → Certifies held counted words new
-certifies held counted words o new (formless u e) s f c name i w = absurd (u c i)
-certifies held counted words o new (formed d g j h a) s f c name i w =
+certifies held counted words o new (without_command u e) s f c name i w = absurd (u c i)
+certifies held counted words o new (with_command d g j h a) s f c name i w =
     let q = one_command words d c j i in
     let n = filed_by (task_of c) name g o w (subst (λ (x : Command). HasOutcome (task_of x) g o) q a) s in (
       n.layout,
       n.text,
       n.left,
-      subst (Gathers held counted c) n.read (subst (λ (x : Command). Gathers held counted x g) q h),
+      subst (InputsOf held counted c) n.read (subst (λ (x : Command). InputsOf held counted x g) q h),
       n.leaves,
       subst (λ (x : Option Filing). IsFiled x held new) n.filed f,
     )

@@ -19,7 +19,7 @@ use Rattle.reports.specs.OutcomeViews.{outcome_of}
 use Rattle.reports.specs.Outcomes.{Outcome, refused}
 use Rattle.delivery.specs.Drawn.{IsCleanText, IsDelivered, IsDrawnFile, IsDrawnModel, IsEarly}
 use Rattle.delivery.specs.Drawn.{checks, names}
-use Rattle.delivery.specs.Ending.{Ends, EndsCommand, EndsModel}
+use Rattle.delivery.specs.Ending.{LayoutOutcome, CommandOutcome, ModelOutcome}
 use Rattle.delivery.specs.Judging.{AreJudged, IsJudgedBy, at_fault, faulty, oversized, sound}
 use Rattle.delivery.specs.Pieces.{IsJudged, IsTransfer}
 use Rattle.delivery.specs.declared.drawn.Delivered.{Delivered}
@@ -48,7 +48,7 @@ judged_early l text o (sound h) = absurd h.4
 
 -- such a transfer ends a check of it
 pub judged_ends : (held : Option Files) (counted : List ℕ → Type 0) (l : Layout) (transfer text : List ℕ) (o : Outcome)
-    → IsWhole held transfer 268435456 text → IsJudgedBy l text (λ rows p. ⊥) o → (target : Target) → Ends held counted (checks transfer target) l o
+    → IsWhole held transfer 268435456 text → IsJudgedBy l text (λ rows p. ⊥) o → (target : Target) → LayoutOutcome held counted (checks transfer target) l o
 judged_ends held counted l transfer text o w h target = record {
   gathered = texts l (text ∷ []);
   reads = inr (inr (text, w, refl));
@@ -57,7 +57,7 @@ judged_ends held counted l transfer text o w h target = record {
 
 -- and so does one that was not read
 pub unread_check : (held : Option Files) (counted : List ℕ → Type 0) (l : Layout) (transfer : List ℕ) (r : FileRefusal) (o : Outcome)
-    → IsTransfer held transfer l (counted transfer) (reading.Unread r) → IsNotRead Transfer r o → (target : Target) → Ends held counted (checks transfer target) l o
+    → IsTransfer held transfer l (counted transfer) (reading.Unread r) → IsNotRead Transfer r o → (target : Target) → LayoutOutcome held counted (checks transfer target) l o
 unread_check held counted l transfer r o h e target =
     let u = unread_ends held counted (counted transfer) transfer l r o (λ q text. ReadsAll held counted l ([] ++ (text ∷ [])) [] q) h (λ n. n) e in
     record { gathered = u.0; reads = u.1; amounts = u.2 (checks transfer target) }
@@ -85,7 +85,7 @@ drawn_model held counted l model_text transfer (Ended o) laid valid h =
 
 -- a refused model ends a check
 pub refused_model : (held : Option Files) (counted : List ℕ → Type 0) (model_text transfer : List ℕ) (r : Refusal) (o : Outcome)
-    → IsRefused model_text r → o ≡ refused r → (target : Target) → EndsModel held counted (checks transfer target) model_text o
+    → IsRefused model_text r → o ≡ refused r → (target : Target) → ModelOutcome held counted (checks transfer target) model_text o
 refused_model held counted model_text transfer r o h e target = record { gathered = gathering.refused r; compiles = inl (r, h, refl); amounts = e }
 
 -- the text of a model that was read from its file, where more counts may have risen since
@@ -102,7 +102,7 @@ drawn_files held near far counted model model_text transfer (Ended o) w h = (
 -- and one that was not read
 pub unread_model : (T : Type 0) (held : Option Files) (counted : List ℕ → Type 0) (model transfer : List ℕ) (r : FileRefusal) (o : Outcome)
     → (IsErrOf {T = T} (Err r) Failed → counted model) → (IsErrOf {T = T} (Err r) TooLong → IsLonger held model 4194304) → IsNotRead Model r o
-    → (third : List ℕ) → EndsCommand held counted (on_files Check (names model transfer third)) o
+    → (third : List ℕ) → CommandOutcome held counted (on_files Check (names model transfer third)) o
 unread_model T held counted model transfer r o a b e third =
     let u = not_read_ends T held counted Model model r o (λ q text. Compiles held counted (checks transfer (check_target third)) text q) a b e in
     record { gathered = u.0; gathers = u.1; amounts = u.2 (checks transfer (check_target third)) }

@@ -7,11 +7,11 @@ use Rattle.itf_reader.specs.Forms.{Row}
 use Rattle.table_layout.specs.Layouts.{Layout}
 use Rattle.commands.specs.Commands.{Command, Task, task_of, Source, from_file, made, limit_of}
 use Rattle.commands.specs.Commands.{model_of, further_files}
-use Rattle.delivery.specs.Deciding.{Decides, formless, formed}
-use Rattle.delivery.specs.Answers.{Passes}
-use Rattle.delivery.specs.Ending.{EndsAfter, EndsModel}
+use Rattle.delivery.specs.Deciding.{CallOutcome, without_command, with_command}
+use Rattle.delivery.specs.Answers.{HoldsOfTexts}
+use Rattle.delivery.specs.Ending.{OutcomeAfter, ModelOutcome}
 use Rattle.commands.specs.Gathering as gathering
-use Rattle.commands.specs.Gathering.{Gathered, Reads, ReadsAll, Compiles, Gathers}
+use Rattle.commands.specs.Gathering.{Gathered, Reads, ReadsAll, Compiles, InputsOf}
 use Rattle.delivery.specs.Causes.{HasOutcome}
 use Rattle.delivery.specs.Judging.{IsJudgedBy, at_fault, faulty, oversized, sound}
 use Rattle.reports.specs.Outcomes.{Outcome}
@@ -59,25 +59,25 @@ module _ (held : Option Files) (near far : List ℕ → Type 0) (counted : (name
     | inr k ↦ inr (k.0, k.1, all_on k.0 [] (further_files t) g k.2)
   ]
 
-  gathers_on : (c : Command) (g : Gathered) → Gathers held near c g → Gathers held far c g
+  gathers_on : (c : Command) (g : Gathered) → InputsOf held near c g → InputsOf held far c g
   gathers_on c g h = reads_on (model_of c) g (λ text. Compiles held near (task_of c) text g) (λ text. Compiles held far (task_of c) text g) (λ text k. compiles_on (task_of c) text g k) h
 
   pub passes_on : (words : List (List ℕ)) (test : Task → Layout → List (List ℕ) → Type 0)
-      → Passes held near words test → Passes held far words test
+      → HoldsOfTexts held near words test → HoldsOfTexts held far words test
   passes_on words test (c, l, ts, i, g, h) = (c, l, ts, i, gathers_on c (gathering.texts l ts) g, h)
 
   pub ends_on : (t : Task) (l : Layout) (before : List (List ℕ)) (rest : List Source) (o : Outcome)
-      → EndsAfter held near t l before rest o → EndsAfter held far t l before rest o
+      → OutcomeAfter held near t l before rest o → OutcomeAfter held far t l before rest o
   ends_on t l before rest o h = record { gathered = h.gathered; reads = all_on l before rest h.gathered h.reads; amounts = h.amounts }
 
-  pub model_on : (t : Task) (text : List ℕ) (o : Outcome) → EndsModel held near t text o
-      → EndsModel held far t text o
+  pub model_on : (t : Task) (text : List ℕ) (o : Outcome) → ModelOutcome held near t text o
+      → ModelOutcome held far t text o
   model_on t text o h = record { gathered = h.gathered; compiles = compiles_on t text h.gathered h.compiles; amounts = h.amounts }
 
-  pub decides_on : (words : List (List ℕ)) (o : Outcome) → Decides held near words o
-      → Decides held far words o
-  decides_on words o (formless u e) = formless u e
-  decides_on words o (formed c g i h a) = formed c g i (gathers_on c g h) a
+  pub decides_on : (words : List (List ℕ)) (o : Outcome) → CallOutcome held near words o
+      → CallOutcome held far words o
+  decides_on words o (without_command u e) = without_command u e
+  decides_on words o (with_command c g i h a) = with_command c g i (gathers_on c g h) a
 
 -- a file that was not read ends the call
 pub not_read_ends : (T : Type 0) (held : Option Files) (counted : List ℕ → Type 0) (f : File) (name : List ℕ) (r : FileRefusal) (o : Outcome) (P : Gathered → List ℕ → Type 0) → (IsErrOf {T = T} (Err r) Failed → counted name) → (IsErrOf {T = T} (Err r) TooLong → IsLonger held name (limit_of f)) → IsNotRead f r o

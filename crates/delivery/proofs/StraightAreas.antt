@@ -6,7 +6,7 @@ use Rattle.itf_reader.proofs.Readings.{one_transfer}
 use Rattle.itf_reader.specs.Layouts.{form_of}
 use Rattle.table_layout.specs.Layouts.{Layout}
 use Rattle.delivery.specs.Causes.{HasStraightAreas, LeavesUndecided}
-use Rattle.delivery.specs.Answers.{HasCause, Passes}
+use Rattle.delivery.specs.Answers.{HasCause, HoldsOfTexts}
 use Rattle.delivery.specs.AreaAnswers.{HaveStraightLines}
 use Rattle.commands.specs.Commands.{Task, judges, tests_points}
 use Rattle.delivery.specs.Judging.{lines_of}
@@ -25,8 +25,8 @@ none_in (tests_points s r) l (text ∷ links ∷ []) k h =
 none_in t l ts k h = h
 
 pub none_left : (files : Files) (far near : List ℕ → Type 0) (words : List (List ℕ))
-    → Passes (Some files) far words HasStraightAreas
-    → Passes (Some files) near words LeavesUndecided → ⊥
+    → HoldsOfTexts (Some files) far words HasStraightAreas
+    → HoldsOfTexts (Some files) near words LeavesUndecided → ⊥
 none_left files far near words p q =
     let b = both_pass HasStraightAreas files far near words p LeavesUndecided q in
     none_in b.0 b.1 b.2 b.3 b.4
@@ -34,7 +34,7 @@ none_left files far near words p q =
 -- an answer that has its cause is not that something is undecided
 pub decided : (held : Option Files) (counted : List ℕ → Type 0) (words : List (List ℕ)) (s : Status)
     → HasCause held counted words s
-    → ((files : Files) → Passes (Some files) counted words HasStraightAreas → HasCause (Some files) counted words Undecided → ⊥)
-    → (files : Files) → held ≡ Some files → Passes (Some files) counted words HasStraightAreas → s ≢ Undecided
+    → ((files : Files) → HoldsOfTexts (Some files) counted words HasStraightAreas → HasCause (Some files) counted words Undecided → ⊥)
+    → (files : Files) → held ≡ Some files → HoldsOfTexts (Some files) counted words HasStraightAreas → s ≢ Undecided
 decided held counted words s m law files t p e =
     law files p (subst (λ (x : Option Files). HasCause x counted words Undecided) t (subst (HasCause held counted words) e m))

@@ -8,10 +8,10 @@ use Rattle.reports.specs.declared.status.Status.{Status}
 use Rattle.reports.specs.declared.status.Status.TheVariants.{Accepted, Undecided, WriteFault}
 use Rattle.reports.specs.declared.status.Status.TheVariants.{Memory}
 use Rattle.delivery.specs.Answers.{HasCause, HasNoCountedFault, IsAnswer, IsComplete, IsStopped}
-use Rattle.delivery.specs.Answers.{Passes}
+use Rattle.delivery.specs.Answers.{HoldsOfTexts}
 use Rattle.delivery.specs.Causes.{HasStraightAreas, IsValidInput}
 use Rattle.delivery.specs.Certified.{Certifies}
-use Rattle.delivery.specs.Deciding.{Decides}
+use Rattle.delivery.specs.Deciding.{CallOutcome}
 use Rattle.delivery.specs.Effects.{HasEffects}
 use Rattle.delivery.specs.Served.{AreBelowEnd, AreReadableFor, IsServed, IsServedFor}
 
@@ -72,10 +72,10 @@ pub record IsCall (words : List (List ℕ)) (old new : Stores) (status : Status)
   pub cause : HasCause old.held (ReadFailed old new) words status
   -- Where all lines of AREAs are straights, nothing is left undecided.
   pub decided : (files : Files) → old.held ≡ Some files
-      → Passes (Some files) (ReadFailed old new) words HasStraightAreas → status ≢ Undecided
+      → HoldsOfTexts (Some files) (ReadFailed old new) words HasStraightAreas → status ≢ Undecided
   -- Valid input is accepted, unless a read or a write failed or the call ran out of memory.
   pub valid : (files : Files) → old.held ≡ Some files
-      → Passes (Some files) (ReadFailed old new) words IsValidInput
+      → HoldsOfTexts (Some files) (ReadFailed old new) words IsValidInput
       → (status ≡ Accepted) ⊎ IsStopped status
   -- After an accepted check or trial the file of the certificates holds a list that shows by
   -- itself that the areas are partitions without a cut; after an accepted polygons the third file
@@ -93,7 +93,7 @@ pub record IsCall (words : List (List ℕ)) (old new : Stores) (status : Status)
   -- Whatever outcome the words and the files have, the answer and the report are those of an
   -- outcome that agrees with it, unless a read or a write failed or the call ran out of memory.
   pub exact : (files : Files) → old.held ≡ Some files → (outcome : Outcome)
-      → Decides (Some files) (ReadFailed old new) words outcome
+      → CallOutcome (Some files) (ReadFailed old new) words outcome
       → IsAnswer outcome status old.written new.written
   -- A write fails only where a fault of it was counted.
   pub write : status ≡ WriteFault → WriteFailed old new ⊎ PutFailed old new
@@ -110,7 +110,7 @@ pub record IsCall (words : List (List ℕ)) (old new : Stores) (status : Status)
   pub served : AreServed words old → NoCountMoved old new × IsComplete old.held words status
   -- Valid input is then accepted, or memory ran out.
   pub accepts : (files : Files) → old.held ≡ Some files
-      → Passes (Some files) (λ name. ⊥) words IsValidInput → AreServed words old
+      → HoldsOfTexts (Some files) (λ name. ⊥) words IsValidInput → AreServed words old
       → (status ≡ Accepted) ⊎ (status ≡ Memory)
   -- No count falls.
   pub reads : NoReadFell old.read_faults new.read_faults

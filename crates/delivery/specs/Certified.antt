@@ -14,7 +14,7 @@ use Rattle.area_drawings.specs.Drawings.{AreDrawings}
 use Rattle.plane.specs.Rule.Plans.{Plan}
 use Rattle.polygons.specs.Text as polygons
 use Rattle.polygons.specs.Text.{polygons_text}
-use Rattle.commands.specs.Gathering.{texts, Gathers}
+use Rattle.commands.specs.Gathering.{texts, InputsOf}
 use Rattle.delivery.specs.Judging.{IsTextOf, IsClean}
 use Rattle.delivery.specs.Rewriting.{canon_of}
 
@@ -62,5 +62,5 @@ Leaves t l text left = ⊥
 abbrev pub Certifies : Option Files → (List ℕ → Type 0) → List (List ℕ) → Option Files → Type 0
 Certifies held counted words new =
     (c : Command) (name : List ℕ) → IsCommand words c → writes_to (task_of c) ≡ Some name
-    → (l : Layout) × (text left : List ℕ) × Gathers held counted c (texts l (text ∷ []))
+    → (l : Layout) × (text left : List ℕ) × InputsOf held counted c (texts l (text ∷ []))
     × Leaves (task_of c) l text left × Puts held name (λ file. left) new

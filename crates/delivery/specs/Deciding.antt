@@ -2,7 +2,7 @@
 use Rattle.std.specs.Prelude.{◌≡◌, ℕ, List, Option}
 use Rattle.ports.specs.Files.{Files}
 use Rattle.commands.specs.Commands.{Command, IsCommand, IsUsage, task_of}
-use Rattle.commands.specs.Gathering.{Gathered, Gathers}
+use Rattle.commands.specs.Gathering.{Gathered, InputsOf}
 use Rattle.delivery.specs.Causes.{HasOutcome}
 use Rattle.reports.specs.Outcomes.{Outcome, usage}
 
@@ -10,8 +10,8 @@ use Rattle.reports.specs.Outcomes.{Outcome, usage}
 -- outcome.
 -- `held` are the files, where the shelf says what it holds; `counted name`: a failed read of that
 -- file was counted.
-pub data Decides (held : Option Files) (counted : List ℕ → Type 0) (words : List (List ℕ))
+pub data CallOutcome (held : Option Files) (counted : List ℕ → Type 0) (words : List (List ℕ))
     (o : Outcome) : Type 0 where
-  formless : IsUsage words → o ≡ usage → Decides held counted words o
-  formed : (c : Command) (g : Gathered) → IsCommand words c → Gathers held counted c g
-      → HasOutcome (task_of c) g o → Decides held counted words o
+  without_command : IsUsage words → o ≡ usage → CallOutcome held counted words o
+  with_command : (c : Command) (g : Gathered) → IsCommand words c → InputsOf held counted c g
+      → HasOutcome (task_of c) g o → CallOutcome held counted words o

@@ -13,7 +13,7 @@ use Rattle.reports.specs.declared.status.Status.TheVariants as status
 use Rattle.table_layout.specs.Layouts.{Layout}
 use Rattle.table_layout.specs.Valid.{IsValid}
 use Rattle.table_layout.specs.Values.{layout_view}
-use Rattle.delivery.specs.Ending.{Ends, EndsCommand, EndsModel}
+use Rattle.delivery.specs.Ending.{LayoutOutcome, CommandOutcome, ModelOutcome}
 use Rattle.delivery.specs.Judging.{IsJudgedBy}
 use Rattle.delivery.specs.Pieces.{IsJudged}
 use Rattle.delivery.specs.declared.drawn.CleanDelivery.{CleanDelivery}
@@ -54,7 +54,7 @@ abbrev pub IsDrawnFile : Option Files → (List ℕ → Type 0) → Layout → L
 IsDrawnFile held counted l transfer (Clean c) =
     (text : List ℕ) × IsWhole held transfer 268435456 text × IsCleanOf l text c
 IsDrawnFile held counted l transfer (Ended o) =
-    ((target : Target) → Ends held counted (checks transfer target) l (outcome_of o))
+    ((target : Target) → LayoutOutcome held counted (checks transfer target) l (outcome_of o))
     × IsEarly (outcome_of o)
 
 -- the files of a model and a transfer, where the model has that text and the transfer is clean
@@ -70,7 +70,7 @@ pub record IsCleanBy (held : Option Files) (model_text transfer : List ℕ)
 abbrev pub IsDrawnModel : Option Files → (List ℕ → Type 0) → List ℕ → List ℕ → Delivered → Type 0
 IsDrawnModel held counted text transfer (Clean c) = IsCleanBy held text transfer c
 IsDrawnModel held counted text transfer (Ended o) =
-    ((target : Target) → EndsModel held counted (checks transfer target) text (outcome_of o))
+    ((target : Target) → ModelOutcome held counted (checks transfer target) text (outcome_of o))
     × IsEarly (outcome_of o)
 
 -- the files of a model and a transfer that is clean
@@ -90,7 +90,7 @@ abbrev pub IsDelivered : Option Files → (List ℕ → Type 0) → List ℕ →
 IsDelivered held counted model transfer (Clean c) = IsCleanDelivery held model transfer c
 IsDelivered held counted model transfer (Ended o) =
     ((third : List ℕ)
-    → EndsCommand held counted (on_files Check (names model transfer third)) (outcome_of o))
+    → CommandOutcome held counted (on_files Check (names model transfer third)) (outcome_of o))
     × IsEarly (outcome_of o)
 
 -- both files can be read

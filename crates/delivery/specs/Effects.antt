@@ -3,7 +3,7 @@ use Rattle.std.specs.Prelude.{◌≡◌, ◌≢◌, ℕ, List, take, Option, Som
 use Rattle.std.specs.FinMap as map
 use Rattle.ports.specs.Files.{Files, Puts}
 use Rattle.ports.specs.Output.{Adds, AddsPrefix}
-use Rattle.delivery.specs.Deciding.{Decides}
+use Rattle.delivery.specs.Deciding.{CallOutcome}
 use Rattle.reports.specs.Outcomes.{Filing, Outcome, report_of}
 use Rattle.reports.specs.declared.status.Status.{Status}
 use Rattle.reports.specs.declared.status.Status.TheVariants.{WriteFault}
@@ -34,7 +34,7 @@ pub record HasEffects (held : Option Files) (counted : List ℕ → Type 0) (wor
     (served : Outcome → Type 0) (stays : Type 0) : Type 0 where
   -- the words and the files have an outcome
   pub outcome : Outcome
-  pub decided : Decides held counted words outcome
+  pub decided : CallOutcome held counted words outcome
   -- the answer is its status, unless a write failed
   pub answered : status ≢ WriteFault → status ≡ outcome.status
   -- the output gained the report, or after a failed write a front of it

@@ -16,7 +16,7 @@ use Rattle.area_drawings.specs.Drawings.{AreDrawings}
 use Rattle.plane.specs.Rule.Plans.{Plan}
 use Rattle.polygons.specs.Text as polygons
 use Rattle.commands.specs.Commands.{Target}
-use Rattle.reports.specs.Outcomes.{Outcome, area_too_large, misbuilt, rejected}
+use Rattle.reports.specs.Outcomes.{Outcome, area_too_large, malformed, rejected}
 use Rattle.reports.specs.Outcomes.{areas_outcome}
 use Rattle.reports.specs.Surfaces.{surfaces}
 use Rattle.reports.specs.declared.lines.AreaAnswer.{AreaAnswer}
@@ -39,8 +39,8 @@ objects (rows ∷ tables) = length rows + objects tables
 
 -- ---- a transfer by its layout
 -- the first line at fault, and its code
-abbrev pub IsMisbuilt : Layout → List ℕ → ℕ → Structure → Type 0
-IsMisbuilt l text n code = IsAtFault (form_of l) (lines_of l text) n code
+abbrev pub IsMalformed : Layout → List ℕ → ℕ → Structure → Type 0
+IsMalformed l text n code = IsAtFault (form_of l) (lines_of l text) n code
 
 -- the text is a transfer with these rows
 abbrev pub IsTextOf : Layout → List ℕ → List (List Row) → Type 0
@@ -62,7 +62,7 @@ HasSoundRows l text test =
 pub data IsJudgedBy (l : Layout) (text : List ℕ) (Areas : List (List Row) → Outcome → Type 0)
     (o : Outcome) : Type 0 where
   -- a line is at fault
-  at_fault : (n : ℕ) (code : Structure) → IsMisbuilt l text n code → o ≡ misbuilt n code
+  at_fault : (n : ℕ) (code : Structure) → IsMalformed l text n code → o ≡ malformed n code
       → IsJudgedBy l text Areas o
   -- its rows break a rule
   faulty : (rows : List (List Row)) → IsTextOf l text rows → findings l rows ≢ []

@@ -24,7 +24,7 @@ use Rattle.reports.specs.AreaKinds.{plans}
 use Rattle.area_drawings.specs.AreaLimits.{has_too_large}
 use Rattle.area_drawings.specs.Drawings.{AreDrawings}
 use Rattle.area_drawings.specs.KeptViews.{HasTolerance}
-use Rattle.delivery.specs.Judging.{lines_of, objects, findings, IsMisbuilt, IsTextOf, IsClean}
+use Rattle.delivery.specs.Judging.{lines_of, objects, findings, IsMalformed, IsTextOf, IsClean}
 use Rattle.delivery.specs.Judging.{IsJudgedBy}
 use Rattle.reports.specs.OutcomeViews.{outcome_of}
 use Rattle.commands.specs.Commands.{Source, from_file, made}
@@ -84,12 +84,12 @@ pub record AreKept {K : Type 0} (Has : Keeps K) (l : Layout) (text : List ℕ)
 -- the rows of a text, or the line at which it is at fault
 abbrev pub IsKept : {K : Type 0} → Keeps K → Layout → List ℕ → Result K ReadRefusal → Type 0
 IsKept Has l text (Ok k) = AreKept Has l text k
-IsKept Has l text (Err (refusals.At line code)) = IsMisbuilt l text line (fault_of code)
+IsKept Has l text (Err (refusals.At line code)) = IsMalformed l text line (fault_of code)
 IsKept Has l text (Err refusals.Memory) = ⊤
 
 -- what a text comes to
 abbrev pub IsJudged : Layout → List ℕ → Judged → Type 0
-IsJudged l text (judged.Misbuilt line code) = IsMisbuilt l text line (fault_of code)
+IsJudged l text (judged.Malformed line code) = IsMalformed l text line (fault_of code)
 IsJudged l text (judged.Faulty found) =
     (rows : List (List Row)) × IsTextOf l text rows × (findings l rows ≢ [])
     × (findings_of found.items ≡ findings l rows)
@@ -105,7 +105,7 @@ IsJudged l text (judged.Clean count drawings answers) =
 -- what a text whose lines were all taken comes to, as it is passed on
 abbrev pub IsEndedAs : {K : Type 0} → Result K ReadRefusal → RowsReading K → Type 0
 IsEndedAs (Ok k) x = x ≡ rows_reading.Rows k
-IsEndedAs (Err (refusals.At line code)) x = x ≡ rows_reading.Misbuilt line code
+IsEndedAs (Err (refusals.At line code)) x = x ≡ rows_reading.Malformed line code
 IsEndedAs (Err refusals.Memory) x = ⊥
 
 -- ---- a judge that takes a file as it comes
@@ -129,8 +129,8 @@ AreFileRows Has held name l rose (rows_reading.Unread refusals_of.Failed) = rose
 AreFileRows Has held name l rose (rows_reading.Unread refusals_of.TooLong) =
     IsLonger held name 268435456
 AreFileRows Has held name l rose (rows_reading.Unread refusals_of.Memory) = ⊥
-AreFileRows Has held name l rose (rows_reading.Misbuilt line code) =
-    (text : List ℕ) × IsWhole held name 268435456 text × IsMisbuilt l text line (fault_of code)
+AreFileRows Has held name l rose (rows_reading.Malformed line code) =
+    (text : List ℕ) × IsWhole held name 268435456 text × IsMalformed l text line (fault_of code)
 AreFileRows Has held name l rose (rows_reading.Rows k) =
     (text : List ℕ) × IsWhole held name 268435456 text × AreKept Has l text k
 

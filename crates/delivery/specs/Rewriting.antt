@@ -5,8 +5,8 @@ use Rattle.itf_reader.specs.Layouts.{form_of}
 use Rattle.itf_reader.specs.Readings.{Structure}
 use Rattle.itf_writer.specs.Canonical.{canon_text}
 use Rattle.table_layout.specs.Layouts.{Layout}
-use Rattle.delivery.specs.Judging.{IsMisbuilt, IsTextOf, objects}
-use Rattle.reports.specs.Outcomes.{Outcome, misbuilt, canonical, canon_refused}
+use Rattle.delivery.specs.Judging.{IsMalformed, IsTextOf, objects}
+use Rattle.reports.specs.Outcomes.{Outcome, malformed, canonical, canon_refused}
 
 -- the canonical text of the rows of a transfer, by the layout of its model
 abbrev pub canon_of : Layout → List (List Row) → List ℕ
@@ -19,7 +19,7 @@ HasCodeT l = l.codes.continued ≡ 84
 -- the outcome of the text of a transfer that goes to the file of that name
 pub data IsRewritten (name : List ℕ) (l : Layout) (text : List ℕ) (o : Outcome) : Type 0 where
   -- a line is at fault
-  misread : (n : ℕ) (code : Structure) → IsMisbuilt l text n code → o ≡ misbuilt n code
+  misread : (n : ℕ) (code : Structure) → IsMalformed l text n code → o ≡ malformed n code
       → IsRewritten name l text o
   -- it has rows, and no canonical text
   without_text : (rows : List (List Row)) → IsTextOf l text rows → HasCodeT l

@@ -4,7 +4,7 @@ use Rattle.ports.specs.Files.{Files}
 use Rattle.ports.specs.Rooms.{HasRoom}
 use Rattle.commands.specs.Commands.{Command, IsCommand, Source, from_file, made, model_of}
 use Rattle.commands.specs.Commands.{task_of, further_files}
-use Rattle.delivery.specs.Deciding.{Decides}
+use Rattle.delivery.specs.Deciding.{CallOutcome}
 use Rattle.reports.specs.Outcomes.{Filing, Outcome, report_of}
 
 -- a read of the text is not to fail; one that is made needs no read
@@ -44,9 +44,9 @@ pub record IsServedFor (words : List (List ℕ)) (readable : List ℕ → Type 0
 pub record IsServed (held : Option Files) (words : List (List ℕ)) (readable : List ℕ → Type 0)
     (space : List ℕ → Option ℕ) (output : Option ℕ) : Type 0 where
   pub files : AreReadableFor words readable
-  pub filing : (o : Outcome) → Decides held (λ name. ⊥) words o
+  pub filing : (o : Outcome) → CallOutcome held (λ name. ⊥) words o
       → HasFilingSpace space o.filing
-  pub report : (o : Outcome) → Decides held (λ name. ⊥) words o
+  pub report : (o : Outcome) → CallOutcome held (λ name. ⊥) words o
       → HasRoom (length (report_of o)) output
 
 -- no count of faults is at its last value

@@ -10,10 +10,10 @@ ghost use Rattle.commands.specs.Commands.{Command as AnyCommand, IsCommand, made
 ghost use Rattle.commands.specs.Commands.{Source, task_of};
 ghost use Rattle.commands.specs.CommandViews.{command_of as command_view, target_of, task_view};
 ghost use Rattle.commands.specs.CommandViews.{transfer_of, IsSmallSource, IsSmallTask};
-ghost use Rattle.delivery.specs.Deciding.{Decides};
-ghost use Rattle.delivery.specs.Ending.{Ends, EndsAfter, EndsModel, EndsCommand};
+ghost use Rattle.delivery.specs.Deciding.{CallOutcome};
+ghost use Rattle.delivery.specs.Ending.{LayoutOutcome, OutcomeAfter, ModelOutcome, CommandOutcome};
 ghost use Rattle.reports.specs.OutcomeViews.{outcome_of};
-ghost use Rattle.delivery.specs.Judging.{IsMisbuilt};
+ghost use Rattle.delivery.specs.Judging.{IsMalformed};
 ghost use Rattle.delivery.specs.LinkRows.{HasLinked};
 ghost use Rattle.delivery.specs.Pieces.{AreKept, IsJudged, IsSourceJudged};
 ghost use Rattle.itf_reader.specs.Refusals.{fault_of};
@@ -33,7 +33,7 @@ use commands::{
 use itf_reader::Structure;
 use itf_writer::CanonFeed;
 use ports::{Memory, Shelf};
-use reports::outcome::{Outcome, compiled, misbuilt, not_read, refused, usage};
+use reports::outcome::{Outcome, compiled, malformed, not_read, refused, usage};
 use std::alloc::Global;
 use table_layout::Layout;
 
@@ -84,7 +84,7 @@ fn decide_checked<'a, S: Shelf>(
 ) -> Result<Outcome<'a>, Memory>
     requires valid { IsValid (layout_view layout.now) }
     requires small { IsSmallSource source }
-    ensures outcome { IfOk result (λ o. Ends (S.held shelf.old)
+    ensures outcome { IfOk result (λ o. LayoutOutcome (S.held shelf.old)
         (ReadRose (S.read_faults shelf.old) (S.read_faults shelf.new))
         (judges (transfer_of source.entry) (target_of target.now)) (layout_view layout.now)
         (outcome_of o)) }
@@ -111,7 +111,7 @@ fn decide_filed<'a, S: Shelf>(
     requires text { (text : List ℕ) × IsJudged (layout_view layout.now) text judged }
     ensures outcome { (text : List ℕ) (source : Source)
         → IsJudged (layout_view layout.now) text judged
-        → IfOk result (λ o. EndsAfter (S.held shelf.old)
+        → IfOk result (λ o. OutcomeAfter (S.held shelf.old)
         (ReadRose (S.read_faults shelf.old) (S.read_faults shelf.new))
         (verifies source (from_file File.Certificate name.now)) (layout_view layout.now)
         (text ∷ []) (from_file File.Certificate name.now ∷ []) (outcome_of o)) }
@@ -137,7 +137,7 @@ fn decide_verified<'a, S: Shelf>(
 ) -> Result<Outcome<'a>, Memory>
     requires valid { IsValid (layout_view layout.now) }
     requires small { IsSmallSource source }
-    ensures outcome { IfOk result (λ o. Ends (S.held shelf.old)
+    ensures outcome { IfOk result (λ o. LayoutOutcome (S.held shelf.old)
         (ReadRose (S.read_faults shelf.old) (S.read_faults shelf.new))
         (verifies (transfer_of source.entry) (from_file File.Certificate certificates.now))
         (layout_view layout.now) (outcome_of o)) }
@@ -165,7 +165,7 @@ fn decide_rewritten<'a, S: Shelf>(
     shelf: &mut S,
 ) -> Result<Outcome<'a>, Memory>
     requires valid { IsValid (layout_view layout.now) }
-    ensures outcome { IfOk result (λ o. Ends (S.held shelf.old)
+    ensures outcome { IfOk result (λ o. LayoutOutcome (S.held shelf.old)
         (ReadRose (S.read_faults shelf.old) (S.read_faults shelf.new))
         (rewrites (from_file File.Transfer transfer.now) file.now) (layout_view layout.now)
         (outcome_of o)) }
@@ -178,7 +178,7 @@ fn decide_rewritten<'a, S: Shelf>(
     let kept = CanonFeed::new(alloc, layout)?;
     match read_for(alloc, shelf, transfer, layout, kept)? {
         RowsReading::Rows(kept) => rewritten(alloc, layout, file, kept),
-        RowsReading::Misbuilt(line, code) => misbuilt(alloc, line, code),
+        RowsReading::Malformed(line, code) => malformed(alloc, line, code),
         RowsReading::Unread(refusal) => not_read(alloc, File::Transfer, refusal),
     }
 }
@@ -192,8 +192,8 @@ fn decide_unlinked<'a, S: Shelf>(
     shelf: &mut S,
 ) -> Result<Outcome<'a>, Memory>
     ensures outcome { (l : GivenLayout) (text : List ℕ) (source : Source)
-        → IsMisbuilt l text line (fault_of code)
-        → IfOk result (λ o. EndsAfter (S.held shelf.old)
+        → IsMalformed l text line (fault_of code)
+        → IfOk result (λ o. OutcomeAfter (S.held shelf.old)
         (ReadRose (S.read_faults shelf.old) (S.read_faults shelf.new))
         (tests_points source (from_file File.Links name.now)) l
         (text ∷ []) (from_file File.Links name.now ∷ []) (outcome_of o)) }
@@ -204,7 +204,7 @@ fn decide_unlinked<'a, S: Shelf>(
         (S.readable shelf.new) (S.space shelf.new) }
 {
     match read_file(alloc, shelf, File::Links, name) {
-        Ok(_links) => misbuilt(alloc, line, code),
+        Ok(_links) => malformed(alloc, line, code),
         Err(refusal) => not_read(alloc, File::Links, refusal),
     }
 }
@@ -221,7 +221,7 @@ fn decide_linked<'a, S: Shelf>(
     requires text { (text : List ℕ) × AreKept HasLinked (layout_view layout.now) text kept }
     ensures outcome { (text : List ℕ) (source : Source)
         → AreKept HasLinked (layout_view layout.now) text kept.entry
-        → IfOk result (λ o. EndsAfter (S.held shelf.old)
+        → IfOk result (λ o. OutcomeAfter (S.held shelf.old)
         (ReadRose (S.read_faults shelf.old) (S.read_faults shelf.new))
         (tests_points source (from_file File.Links name.now)) (layout_view layout.now)
         (text ∷ []) (from_file File.Links name.now ∷ []) (outcome_of o)) }
@@ -246,7 +246,7 @@ fn decide_tested<'a, S: Shelf>(
     shelf: &mut S,
 ) -> Result<Outcome<'a>, Memory>
     requires valid { IsValid (layout_view layout.now) }
-    ensures outcome { IfOk result (λ o. Ends (S.held shelf.old)
+    ensures outcome { IfOk result (λ o. LayoutOutcome (S.held shelf.old)
         (ReadRose (S.read_faults shelf.old) (S.read_faults shelf.new))
         (tests_points (from_file File.Transfer transfer.now) (from_file File.Links links.now))
         (layout_view layout.now) (outcome_of o)) }
@@ -260,7 +260,7 @@ fn decide_tested<'a, S: Shelf>(
     let kept = LinksKept::new(alloc, layout)?;
     match read_for(alloc, shelf, transfer, layout, kept)? {
         RowsReading::Rows(kept) => decide_linked(alloc, links, layout, kept, shelf),
-        RowsReading::Misbuilt(line, code) => decide_unlinked(alloc, links, line, code, shelf),
+        RowsReading::Malformed(line, code) => decide_unlinked(alloc, links, line, code, shelf),
         RowsReading::Unread(refusal) => not_read(alloc, File::Transfer, refusal),
     }
 }
@@ -274,7 +274,7 @@ fn by_task<'a, S: Shelf>(
 ) -> Result<Outcome<'a>, Memory>
     requires valid { IsValid (layout_view layout.now) }
     requires small { IsSmallTask task.now }
-    ensures outcome { IfOk result (λ o. Ends (S.held shelf.old)
+    ensures outcome { IfOk result (λ o. LayoutOutcome (S.held shelf.old)
         (ReadRose (S.read_faults shelf.old) (S.read_faults shelf.new)) (task_view task.now)
         (layout_view layout.now) (outcome_of o)) }
     ensures reads { OnlyReads
@@ -311,7 +311,7 @@ fn from_model_text<'a, S: Shelf>(
 ) -> Result<Outcome<'a>, Memory>
     requires short { length text.now ≤ 4194304 }
     requires small { IsSmallTask task.now }
-    ensures outcome { IfOk result (λ o. EndsModel (S.held shelf.old)
+    ensures outcome { IfOk result (λ o. ModelOutcome (S.held shelf.old)
         (ReadRose (S.read_faults shelf.old) (S.read_faults shelf.new)) (task_view task.now)
         text.now (outcome_of o)) }
     ensures reads { OnlyReads
@@ -336,7 +336,7 @@ fn from_model_file<'a, S: Shelf>(
 ) -> Result<Outcome<'a>, Memory>
     requires size { IsWithin (command_view command.now) }
     requires model { model_of (command_view command.now) ≡ from_file File.Model name.now }
-    ensures outcome { IfOk result (λ o. EndsCommand (S.held shelf.old)
+    ensures outcome { IfOk result (λ o. CommandOutcome (S.held shelf.old)
         (ReadRose (S.read_faults shelf.old) (S.read_faults shelf.new)) (command_view command.now)
         (outcome_of o)) }
     ensures reads { OnlyReads (HasReadableFiles (S.readable shelf.old) (command_view command.now))
@@ -360,7 +360,7 @@ fn from_made_model<'a, S: Shelf>(
 ) -> Result<Outcome<'a>, Memory>
     requires size { IsWithin (command_view command.now) }
     requires model { model_of (command_view command.now) ≡ made the_model }
-    ensures outcome { IfOk result (λ o. EndsCommand (S.held shelf.old)
+    ensures outcome { IfOk result (λ o. CommandOutcome (S.held shelf.old)
         (ReadRose (S.read_faults shelf.old) (S.read_faults shelf.new)) (command_view command.now)
         (outcome_of o)) }
     ensures reads { OnlyReads (HasReadableFiles (S.readable shelf.old) (command_view command.now))
@@ -382,7 +382,7 @@ fn decide_command<'a, S: Shelf>(
     shelf: &mut S,
 ) -> Result<Outcome<'a>, Memory>
     requires size { IsWithin (command_view command.now) }
-    ensures outcome { IfOk result (λ o. EndsCommand (S.held shelf.old)
+    ensures outcome { IfOk result (λ o. CommandOutcome (S.held shelf.old)
         (ReadRose (S.read_faults shelf.old) (S.read_faults shelf.new)) (command_view command.now)
         (outcome_of o)) }
     ensures reads { OnlyReads (HasReadableFiles (S.readable shelf.old) (command_view command.now))
@@ -404,7 +404,7 @@ pub fn decide<'a, S: Shelf>(
     words: &'a [Word],
     shelf: &mut S,
 ) -> Result<Outcome<'a>, Memory>
-    ensures outcome { IfOk result (λ o. Decides (S.held shelf.old)
+    ensures outcome { IfOk result (λ o. CallOutcome (S.held shelf.old)
         (ReadRose (S.read_faults shelf.old) (S.read_faults shelf.new)) words.now (outcome_of o)) }
     ensures reads { OnlyReads ((c : AnyCommand) → IsCommand words.now c
         → HasReadableFiles (S.readable shelf.old) c)

@@ -40,7 +40,7 @@ use plane::Drawing;
 use polygons::AreaPolygons;
 use ports::Memory;
 use reports::outcome::{
-    Outcome, area_too_large, areas_outcome, bad_link, canon_refused, canonical, linked, misbuilt,
+    Outcome, area_too_large, areas_outcome, bad_link, canon_refused, canonical, linked, malformed,
     rejected, verified,
 };
 use reports::{Answers, AreaAnswer, SurfaceAnswer, are_fine};
@@ -62,7 +62,7 @@ pub fn sound_rows<'a>(alloc: Global, judged: Judged) -> Result<Sound<'a>, Memory
         → IfOk result (IsSound l text) }
 {
     match judged {
-        Judged::Misbuilt(line, code) => Ok(Sound::Ended(misbuilt(alloc, line, code)?)),
+        Judged::Malformed(line, code) => Ok(Sound::Ended(malformed(alloc, line, code)?)),
         Judged::Faulty(found) => Ok(Sound::Ended(rejected(alloc, found)?)),
         Judged::Oversized => Ok(Sound::Ended(area_too_large(alloc)?)),
         Judged::Clean(count, drawings, surfaces) => Ok(Sound::Drawn(count, drawings, surfaces)),

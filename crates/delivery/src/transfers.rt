@@ -21,7 +21,7 @@ use table_layout::Layout;
 pub enum RowsReading<K: RowKeeper> {
     Unread(FileRefusal),
     /// The first line at fault, and its code.
-    Misbuilt(u32, Structure),
+    Malformed(u32, Structure),
     /// What is kept of the rows.
     Rows(K),
 }
@@ -68,7 +68,7 @@ fn ended<K: RowKeeper>(kept: Result<K, ReadRefusal>) -> Result<RowsReading<K>, M
 {
     match kept {
         Ok(kept) => Ok(RowsReading::Rows(kept)),
-        Err(ReadRefusal::At { line, code }) => Ok(RowsReading::Misbuilt(line, code)),
+        Err(ReadRefusal::At { line, code }) => Ok(RowsReading::Malformed(line, code)),
         Err(ReadRefusal::Memory) => Err(Memory),
     }
 }
@@ -157,8 +157,8 @@ pub fn read_transfer<S: Shelf>(
     let kept = TransferKept::new(alloc, layout)?;
     match read_for(alloc, shelf, name, layout, kept)? {
         RowsReading::Unread(refusal) => Ok(TransferReading::Unread(refusal)),
-        RowsReading::Misbuilt(line, code) => {
-            Ok(TransferReading::Judged(Judged::Misbuilt(line, code)))
+        RowsReading::Malformed(line, code) => {
+            Ok(TransferReading::Judged(Judged::Malformed(line, code)))
         }
         RowsReading::Rows(kept) => { Ok(TransferReading::Judged(judge_rows(alloc, layout, kept)?)) }
     }

@@ -49,7 +49,7 @@ impl Joins {
     }
 }
 
-/// The half-edges at the border, cell by cell.
+// The half-edges at the border, cell by cell.
 fn border_of(alloc: Global, cells: &[Cell]) -> Result<Vec<HalfEdgeId>, Memory>
     requires { All IsSmallCell cells.now }
     ensures { IfOk result (λ border. border.items ≡ flat_map border_halves (gaps_of cells.now)) }
@@ -61,7 +61,7 @@ fn border_of(alloc: Global, cells: &[Cell]) -> Result<Vec<HalfEdgeId>, Memory>
     Ok(border)
 }
 
-/// Adds the half-edge of a cell at the border.
+// Adds the half-edge of a cell at the border.
 fn add_border(border: &mut Vec<HalfEdgeId>, cell: &Cell) -> Result<(), Memory>
     requires { IsSmallCell cell.now }
     ensures { OnOk result (border.new.items

@@ -54,7 +54,7 @@ pub fn label_with_joins(alloc: Global, mesh: Mesh, cells: Vec<Cell>) -> Result<J
     Ok(JoinedMesh { labelled, joins })
 }
 
-/// The mesh with its faces, by the joins of some cells.
+// The mesh with its faces, by the joins of some cells.
 fn label_by(alloc: Global, mesh: Mesh, joins: &Joins) -> Result<Labelled, Memory>
     requires joins { (cells : List Gap) × AreJoins (size mesh) cells joins.now }
     ensures unchanged { IfOk result (λ l. l.mesh ≡ with_faces mesh l.mesh.face) }
@@ -71,7 +71,7 @@ fn label_by(alloc: Global, mesh: Mesh, joins: &Joins) -> Result<Labelled, Memory
     })
 }
 
-/// The face of each half-edge, and how many faces there are.
+// The face of each half-edge, and how many faces there are.
 #[derive(Drop)]
 struct Found {
     faces: Vec<FaceId>,
@@ -97,7 +97,7 @@ fn find_faces(alloc: Global, mesh: &Mesh, joins: &Joins) -> Result<Found, Memory
     })
 }
 
-/// Gives face 0 to the half-edges that were beside the border.
+// Gives face 0 to the half-edges that were beside the border.
 fn reach_border(graph: &Graph, search: &mut Search)
     requires graph { IsGraph graph.now }
     requires searched { HasSearched graph.now.mesh.now (cells_of graph.now.joins.now) search.old }
@@ -114,7 +114,7 @@ fn reach_border(graph: &Graph, search: &mut Search)
     }
 }
 
-/// Gives the half-edges without face theirs, and answers how many faces there are.
+// Gives the half-edges without face theirs, and answers how many faces there are.
 fn number_faces(graph: &Graph, halves: usize, search: &mut Search) -> u32
     requires graph { IsGraph graph.now }
     requires halves { halves ≡ size graph.now.mesh.now }
@@ -130,7 +130,7 @@ fn number_faces(graph: &Graph, halves: usize, search: &mut Search) -> u32
     count
 }
 
-/// Gives the half-edge, where it has no face, and all that are joined with it the next number.
+// Gives the half-edge, where it has no face, and all that are joined with it the next number.
 fn number_next(graph: &Graph, search: &mut Search, h: usize, count: u32) -> u32
     requires graph { IsGraph graph.now }
     requires within { h < size graph.now.mesh.now }

@@ -65,7 +65,7 @@ pub fn links_by_joins(
     notes_of(alloc, &graph, &ranks)
 }
 
-/// The notes of ranks from some roots.
+// The notes of ranks from some roots.
 fn notes_of(alloc: Global, graph: &Graph, ranks: &[u32]) -> Result<Vec<HalfNote>, Memory>
     requires graph { IsGraph graph.now }
     requires ranks { (roots : List ℕ) × AreRanks graph.now.mesh.now (cells_of graph.now.joins.now)
@@ -95,7 +95,7 @@ fn note_of(graph: &Graph, ranks: &[u32], h: HalfEdgeId) -> HalfNote
     }
 }
 
-/// The link to the first half-edge whose rank is one less, or none where the rank is 0.
+// The link to the first half-edge whose rank is one less, or none where the rank is 0.
 fn link_of(graph: &Graph, ranks: &[u32], h: HalfEdgeId) -> Link
     requires graph { IsGraph graph.now }
     requires ranks { (roots : List ℕ) × AreRanks graph.now.mesh.now (cells_of graph.now.joins.now)
@@ -124,8 +124,8 @@ fn rank_of(ranks: &[u32], h: HalfEdgeId) -> u32
     ranks[h.0 as usize]
 }
 
-/// The least number of the half-edges that have this rank, or the greatest number of all where none
-/// has it.
+// The least number of the half-edges that have this rank, or the greatest number of all where none
+// has it.
 fn least_of_rank(ranks: &[u32], row: &[HalfEdgeId], rank: u32) -> u32
     requires { (i : ℕ) → i < length row.now → slice_index row.now i < length ranks.now }
     ensures least { (i : ℕ) → i < length row.now

@@ -14,7 +14,7 @@ use half_edges::HalfEdgeId;
 use ports::Memory;
 use std::alloc::Global;
 
-/// The entry of a half-edge that has no rank yet.
+// The entry of a half-edge that has no rank yet.
 const UNSET: u32 = u32::MAX;
 
 /// The rank of each half-edge so far, and those that have one, in the order in which they got it.
@@ -50,7 +50,7 @@ impl Ranks {
         self.ranks[h.0 as usize]
     }
 
-    /// Gives the half-edge the rank, where it has none, and puts it into the queue.
+    // Gives the half-edge the rank, where it has none, and puts it into the queue.
     fn reach(&mut self, h: HalfEdgeId, rank: u32)
         requires within { h < length self.old.ranks.items }
         requires room { slice_index self.old.ranks.items h ≡ unset
@@ -66,7 +66,7 @@ impl Ranks {
     }
 }
 
-/// The rank of each half-edge. It takes time linear in the half-edges and the cells.
+// The rank of each half-edge. It takes time linear in the half-edges and the cells.
 fn ranks_from(alloc: Global, graph: &Graph, roots: &[HalfEdgeId]) -> Result<Vec<u32>, Memory>
     requires graph { IsGraph graph.now }
     requires within { (h : ℕ) → Has h roots.now → h < size graph.now.mesh.now }
@@ -86,7 +86,7 @@ fn key(half: &HalfEdgeId) -> u32 {
     half.0
 }
 
-/// The half-edges by number.
+// The half-edges by number.
 fn sorted(alloc: Global, halves: &[HalfEdgeId]) -> Result<Vec<HalfEdgeId>, Memory>
     ensures { IfOk result (λ sorted. (h : ℕ) → Has h sorted.items ↔ Has h halves.now) }
 {
@@ -112,7 +112,7 @@ pub fn ranks_by_number(
     ranks_from(alloc, graph, &sorted)
 }
 
-/// Gives the roots rank 0.
+// Gives the roots rank 0.
 fn reach_roots(graph: &Graph, roots: &[HalfEdgeId], search: &mut Ranks)
     requires within { (h : ℕ) → Has h roots.now → h < size graph.now.mesh.now }
     requires ranks { search.old.ranks.items ≡ replicate (size graph.now.mesh.now) unset }
@@ -129,7 +129,7 @@ fn reach_roots(graph: &Graph, roots: &[HalfEdgeId], search: &mut Ranks)
     }
 }
 
-/// Passes the next half-edge of the queue: all that one step leads to get a rank one more.
+// Passes the next half-edge of the queue: all that one step leads to get a rank one more.
 fn pass(graph: &Graph, search: &mut Ranks)
     requires graph { IsGraph graph.now }
     requires ranked { HasRanked graph.now.mesh.now (cells_of graph.now.joins.now) search.old }

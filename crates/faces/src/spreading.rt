@@ -24,7 +24,7 @@ pub fn spread(graph: &Graph, search: &mut Search, face: FaceId)
     }
 }
 
-/// Passes the next half-edge of the queue: all that one step leads to get its face.
+// Passes the next half-edge of the queue: all that one step leads to get its face.
 fn pass(graph: &Graph, search: &mut Search, face: FaceId)
     requires graph { IsGraph graph.now }
     requires face { face < unset }

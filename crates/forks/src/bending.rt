@@ -12,7 +12,7 @@ use plane::{Curve, Drawing};
 use ports::Memory;
 use std::alloc::Global;
 
-/// Curves that stand for those of a drawing, in turn, and for each the number of that one.
+// Curves that stand for those of a drawing, in turn, and for each the number of that one.
 #[derive(Drop)]
 struct Pieces {
     curves: Vec<Curve>,
@@ -31,7 +31,7 @@ impl Pieces {
         Ok(Pieces { curves, origin })
     }
 
-    /// Adds what stands for the curve of that number.
+    // Adds what stands for the curve of that number.
     fn add(&mut self, piece: &[Curve], number: u32) -> Result<(), Memory>
         ensures curves { OnOk result (self.new.curves.items
             ≡ self.old.curves.items ++ piece.now) }
@@ -72,7 +72,7 @@ pub fn bent(alloc: Global, drawing: &Drawing) -> Result<Bent, Memory>
     })
 }
 
-/// What stands for the curves of a drawing.
+// What stands for the curves of a drawing.
 fn all_pieces(alloc: Global, drawing: &Drawing) -> Result<Pieces, Memory>
     requires few { length drawing.now.curves.items ≤ 16000000 }
     ensures { IfOk result (λ p. ArePieces drawing.now.tolerance (plan drawing.now)
@@ -105,7 +105,7 @@ fn joined(
     Ok(pieces)
 }
 
-/// Adds what stands for the curve of that number, and counts the forked straights up to it.
+// Adds what stands for the curve of that number, and counts the forked straights up to it.
 fn add_curve(
     pieces: &mut Pieces,
     drawing: &Drawing,
@@ -137,7 +137,7 @@ fn add_curve(
     }
 }
 
-/// The next one of the straights, if it has that number.
+// The next one of the straights, if it has that number.
 fn straight_at(straights: &[Forked], next: usize, number: u32) -> Option<Forked>
     requires rising { AreInOrder straights.now }
     requires next { IsNextAt number straights.now next }
@@ -155,7 +155,7 @@ fn straight_at(straights: &[Forked], next: usize, number: u32) -> Option<Forked>
     }
 }
 
-/// The parts of a forked straight, or itself where an object's point lies on one of them.
+// The parts of a forked straight, or itself where an object's point lies on one of them.
 fn piece_of<'a>(
     drawing: &'a Drawing,
     forked: &'a ForkedStraights,
@@ -174,7 +174,7 @@ fn piece_of<'a>(
     }
 }
 
-/// Whether an object's point lies on one of its parts.
+// Whether an object's point lies on one of its parts.
 fn is_held(held: &[bool], straight: Forked) -> bool
     requires order { straight.start ≤ straight.end }
     requires fits { straight.end ≤ length held.now }

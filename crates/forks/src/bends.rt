@@ -41,7 +41,7 @@ fn end_at(straight: &Curve, at_from: bool) -> Point
     if at_from { straight.from } else { straight.to }
 }
 
-/// The lesser of what was found and the bend by the half arc.
+// The lesser of what was found and the bend by the half arc.
 fn lesser(
     drawing: &Drawing,
     arc: u32,
@@ -75,7 +75,7 @@ fn lesser_bend(best: Option<Bend>, bend: Bend) -> Option<Bend>
     }
 }
 
-/// The bend of the straight at the named end by the half arc, if that is in the window.
+// The bend of the straight at the named end by the half arc, if that is in the window.
 fn bend_by(drawing: &Drawing, arc: u32, number: u32, at_from: bool) -> Option<Point>
     requires arc { arc < length drawing.now.curves.items }
     requires there { number < length drawing.now.curves.items }
@@ -114,7 +114,7 @@ fn curve_of(drawing: &Drawing, number: u32) -> Curve
     drawing.curves[number as usize]
 }
 
-/// Whether the point is in the window, its border included.
+// Whether the point is in the window, its border included.
 fn is_inside(window: &Window2, p: Point) -> bool
     ensures { IsTrue result ↔ IsInside window.now.low window.now.high p }
 {

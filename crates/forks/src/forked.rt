@@ -49,7 +49,7 @@ pub fn forked_straights(alloc: Global, drawing: &Drawing) -> Result<ForkedStraig
     Ok(forked)
 }
 
-/// Adds the curve of that number, if it is a straight that has a bend.
+// Adds the curve of that number, if it is a straight that has a bend.
 fn add_curve(
     forked: &mut ForkedStraights,
     drawing: &Drawing,
@@ -89,7 +89,7 @@ fn add_straight(
     }
 }
 
-/// Adds the straight with these bends.
+// Adds the straight with these bends.
 fn add_parts(
     forked: &mut ForkedStraights,
     drawing: &Drawing,
@@ -114,7 +114,7 @@ fn add_parts(
     Ok(())
 }
 
-/// Appends the parts of a straight with these bends.
+// Appends the parts of a straight with these bends.
 fn push_parts(
     into: &mut Vec<Curve>,
     straight: &Curve,

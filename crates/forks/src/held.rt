@@ -9,8 +9,8 @@ use ports::Memory;
 use std::alloc::Global;
 use straight_predicates::is_on_straight;
 
-/// Parts of straights, of which pairs with an object's point are tested. The parts come first, then
-/// the points.
+// Parts of straights, of which pairs with an object's point are tested. The parts come first, then
+// the points.
 #[derive(Drop)]
 struct HeldTest<'a> {
     drawing: &'a Drawing,
@@ -57,7 +57,7 @@ pub fn held_parts(alloc: Global, drawing: &Drawing, parts: &[Curve]) -> Result<V
     partnered(alloc, &boxes, &marks, &test)
 }
 
-/// The boxes of the parts, and then those of the objects' points.
+// The boxes of the parts, and then those of the objects' points.
 fn boxes(alloc: Global, drawing: &Drawing, parts: &[Curve]) -> Result<Vec<Reach>, Memory>
     requires { length parts.now ≤ 48000000 }
     ensures { IfOk result (λ boxes. AreBoxes (plan drawing.now) parts.now

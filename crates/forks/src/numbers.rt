@@ -90,7 +90,7 @@ pub fn moved(start: i64, along: i128, aside: i128, root: i128, tolerance: i64) -
     start + step as i64
 }
 
-/// How far a bend is pushed aside: two units are left for the roundings.
+// How far a bend is pushed aside: two units are left for the roundings.
 fn push(tolerance: i64) -> i128
     requires { IsTolerance tolerance }
     ensures value { result ≡ tolerance -ℤ pos 2 }
@@ -99,7 +99,7 @@ fn push(tolerance: i64) -> i128
     i128::from(tolerance) - 2
 }
 
-/// a b, below 2^64
+// a b, below 2^64
 fn product(a: i128, b: i128) -> i128
     requires a { IsWithin (2 ^ 24) a }
     requires b { IsWithin (2 ^ 40) b }
@@ -109,7 +109,7 @@ fn product(a: i128, b: i128) -> i128
     a * b
 }
 
-/// n / root, rounded down: about 2^57 at most
+// n / root, rounded down: about 2^57 at most
 fn quotient(n: i128, root: i128) -> i128
     requires n { IsWithin (2 ^ 65) n }
     requires root { pos 256 ≤ℤ root }

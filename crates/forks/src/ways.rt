@@ -50,7 +50,7 @@ pub fn bend_of(circle: &Circle, q: Point, tolerance: i64) -> Option<Point>
     Some(bend_at(circle, q, &way, tolerance))
 }
 
-/// With a and b below 2^80 and the way below 2^40, the two products are below 2^121.
+// With a and b below 2^80 and the way below 2^40, the two products are below 2^121.
 fn way_to(circle: &Circle, q: Point) -> Way
     requires { AreNear (2 ^ 40) circle.now.s q }
     ensures { IsWayTo (half_arc circle.now) q result }
@@ -71,7 +71,7 @@ fn way_to(circle: &Circle, q: Point) -> Way
     }
 }
 
-/// Whether the other end of the half arc is ahead of its first one, as the way goes.
+// Whether the other end of the half arc is ahead of its first one, as the way goes.
 fn is_along(circle: &Circle, q: Point, way: &Way) -> bool
     requires { IsWayTo (half_arc circle.now) q way.now }
     ensures { IsTrue result ↔ (pos 0 <ℤ ahead circle.now.s q (point circle.now.m)) }
@@ -82,7 +82,7 @@ fn is_along(circle: &Circle, q: Point, way: &Way) -> bool
     is_above(dot(x, y, way.x, way.y))
 }
 
-/// The bend of the way beside the circle's first point.
+// The bend of the way beside the circle's first point.
 fn bend_at(circle: &Circle, q: Point, way: &Way, tolerance: i64) -> Point
     requires tolerance { IsTolerance tolerance }
     requires short { IsShort circle.now.s }

@@ -53,7 +53,7 @@ fn zone_of(arc: &Curve, straight: &Curve, tolerance: i64) -> Option<Zone>
     }
 }
 
-/// Which end of the straight is an end of the half arc, where exactly one is.
+// Which end of the straight is an end of the half arc, where exactly one is.
 fn shared_end(arc: &Curve, straight: &Curve) -> Option<bool>
     ensures { IsSharedEnd arc.now straight.now result }
 {
@@ -74,7 +74,7 @@ fn are_same(p: Point, q: Point) -> bool
     p == q
 }
 
-/// The zone at an end of the straight.
+// The zone at an end of the straight.
 fn zone_at(arc: &Curve, straight: &Curve, at_from: bool, tolerance: i64) -> Option<Zone>
     requires tolerance { IsTolerance tolerance }
     requires reach { AreInReach arc.now straight.now }
@@ -93,7 +93,7 @@ fn zone_at(arc: &Curve, straight: &Curve, at_from: bool, tolerance: i64) -> Opti
     }
 }
 
-/// The end of the straight that is named, and the other one.
+// The end of the straight that is named, and the other one.
 fn ends_from(straight: &Curve, at_from: bool) -> (Point, Point)
     ensures near { result.0 ≡ near_end at_from straight.now }
     ensures far { result.1 ≡ far_end at_from straight.now }
@@ -105,7 +105,7 @@ fn ends_from(straight: &Curve, at_from: bool) -> (Point, Point)
     }
 }
 
-/// The circle of the half arc, seen from that end of it which the point is.
+// The circle of the half arc, seen from that end of it which the point is.
 fn circle_from(arc: &Curve, p: Point) -> Option<Circle>
     requires reach { AreReached arc.now }
     requires end { IsEndOf arc.now p }

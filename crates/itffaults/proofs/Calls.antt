@@ -8,10 +8,10 @@ use Rattle.area_drawings.proofs.FewCurves.{few_curves}
 use Rattle.area_drawings.proofs.Zips.{drawn_count}
 use Rattle.commands.specs.Commands.{FileNames, on_files}
 use Rattle.commands.specs.declared.command.Verb.TheVariants.{Check}
-use Rattle.delivery.specs.Deciding.{formed}
+use Rattle.delivery.specs.Deciding.{with_command}
 use Rattle.delivery.specs.Drawn.{IsCleanDelivery, IsEarly, IsEarlyStatus, names}
 use Rattle.delivery.specs.Effects.{HoldsFront}
-use Rattle.delivery.specs.Ending.{EndsCommand}
+use Rattle.delivery.specs.Ending.{CommandOutcome}
 use Rattle.delivery.specs.declared.drawn.CleanDelivery.{CleanDelivery}
 use Rattle.fault_text.specs.Report.{all_verdict}
 use Rattle.fault_text.specs.declared.verdicts.Verdict.{Verdict}
@@ -98,13 +98,13 @@ module _ (held : Option Files) (model transfer : List ℕ) (c : CleanDelivery) (
 
 -- ---- a check that ends early
 pub ends : (held : Option Files) (counted : List ℕ → Type 0) (words : List (List ℕ)) (c : FileNames) (o : Outcome) (answer : Status) (new : Option Files) (before after : Option (List ℕ))
-    → AreNames words c → ((third : List ℕ) → EndsCommand held counted (on_files Check (names c.model c.transfer third)) o) → IsEarly o → new ≡ held
+    → AreNames words c → ((third : List ℕ) → CommandOutcome held counted (on_files Check (names c.model c.transfer third)) o) → IsEarly o → new ≡ held
     → Reports (report_of o) o.status answer before after → EndsEarly held counted words answer new before after
 ends held counted words c o answer new before after n h early same reports =
     let e = h c.third in
     record {
       outcome = o;
-      decided = formed (on_files Check (names c.model c.transfer c.third)) e.gathered
+      decided = with_command (on_files Check (names c.model c.transfer c.third)) e.gathered
           (record { spelled = ap (λ (ws : List (List ℕ)). codes "check" ∷ ws) n.spelled; model = n.model; transfer = n.transfer; third = n.third }) e.gathers e.amounts;
       early = early;
       same = same;

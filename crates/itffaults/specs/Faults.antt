@@ -9,7 +9,7 @@ use Rattle.area_faults.specs.declared.kinds.AreaFaults.{AreaFaults}
 use Rattle.commands.specs.Commands.{FileNames, is_file_name}
 use Rattle.commands.specs.ModelTexts.{HasLayout}
 use Rattle.commands.specs.Reading.{IsWhole}
-use Rattle.delivery.specs.Deciding.{Decides}
+use Rattle.delivery.specs.Deciding.{CallOutcome}
 use Rattle.delivery.specs.Drawn.{IsEarly}
 use Rattle.delivery.specs.Effects.{HoldsFront}
 use Rattle.delivery.specs.Judging.{IsClean, IsTextOf, objects}
@@ -126,7 +126,7 @@ pub record Reports (report : List ℕ) (s : Status) (answer : Status)
 pub record EndsEarly (held : Option Files) (counted : List ℕ → Type 0) (words : List (List ℕ))
     (answer : Status) (new : Option Files) (before after : Option (List ℕ)) : Type 0 where
   pub outcome : Outcome
-  pub decided : Decides held counted (codes "check" ∷ words) outcome
+  pub decided : CallOutcome held counted (codes "check" ∷ words) outcome
   pub early : IsEarly outcome
   pub same : new ≡ held
   pub reports : Reports (report_of outcome) outcome.status answer before after

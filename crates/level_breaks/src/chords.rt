@@ -62,7 +62,7 @@ fn is_low(curve: &Curve, p: Point) -> bool
     !is_end(curve, p) && is_not_away(curve, p)
 }
 
-/// Whether the point is on the chord or on the third point's side of it.
+// Whether the point is on the chord or on the third point's side of it.
 fn is_not_away(curve: &Curve, p: Point) -> bool
     requires ends { AreClose curve.now.from curve.now.to }
     requires third { AreClose curve.now.from curve.now.third }

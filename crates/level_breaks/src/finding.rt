@@ -21,7 +21,7 @@ use ports::Memory;
 use std::alloc::Global;
 use tubes::Tube;
 
-/// A drawing with its tubes at a level and the boxes of its curves, of which pairs are tested.
+// A drawing with its tubes at a level and the boxes of its curves, of which pairs are tested.
 #[derive(Drop)]
 struct BreakTest<'a> {
     drawing: &'a Drawing,
@@ -79,14 +79,14 @@ impl<'a> PairTest for BreakTest<'a> {
     }
 }
 
-/// Whether one of the two numbers is marked.
+// Whether one of the two numbers is marked.
 fn one_is_marked(marks: &[bool], first: u32, second: u32) -> bool
     ensures { IsTrue result → IsOneMarked marks.now first second }
 {
     is_marked(marks, first) || is_marked(marks, second)
 }
 
-/// The mark of a number, none after the last one.
+// The mark of a number, none after the last one.
 fn is_marked(marks: &[bool], number: u32) -> bool
     ensures { result ≡ mark_of marks.now number }
 {
@@ -113,7 +113,7 @@ fn have_edges(one: &Group, other: &Group) -> bool
     has_edges(one) && has_edges(other)
 }
 
-/// Whether the curve is a straight or has a tube.
+// Whether the curve is a straight or has a tube.
 fn has_edges(group: &Group) -> bool
     ensures { IsTrue result ↔ HasEdges group.now.curve.now group.now.tube.now }
 {
@@ -182,7 +182,7 @@ pub fn first_break_among(
     Ok(lesser(pair, bare))
 }
 
-/// The least pair of two curves that breaks the level.
+// The least pair of two curves that breaks the level.
 fn first_pair(
     alloc: Global,
     drawing: &Drawing,
@@ -213,7 +213,7 @@ fn first_pair(
     least(alloc, &boxes, marked, &test)
 }
 
-/// The lesser of a pair of two curves and of one curve, named twice.
+// The lesser of a pair of two curves and of one curve, named twice.
 fn lesser(pair: Option<NearPair>, bare: Option<u32>) -> Option<LevelBreak>
     requires { IfSome pair (λ p. p.first < p.second) }
     ensures none { result ≡ None → (pair ≡ None) × (bare ≡ None) }

@@ -54,7 +54,7 @@ fn tube_edge(curve: &Curve, tube: &Tube, number: usize) -> Edge
     }
 }
 
-/// The edge of a number of the outer chain.
+// The edge of a number of the outer chain.
 fn outer_edge(curve: &Curve, outer: &[Point], number: usize) -> Edge
     requires there { number ≤ length outer.now }
     requires distinct { AreDistinct curve.now.from (outer.now ++ curve.now.to ∷ []) }

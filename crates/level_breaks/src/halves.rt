@@ -64,7 +64,7 @@ pub trait PartTest {
             ↔ SomeOf (sought self.now number) stretch.now.from stretch.now.to };
 }
 
-/// So many parts are compared one by one.
+// So many parts are compared one by one.
 const FEW: usize = 8;
 
 /// Whether a part of the one stretch and a part of the other are sought. Stretches whose boxes

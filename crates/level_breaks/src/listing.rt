@@ -61,7 +61,7 @@ pub fn group_box(curve: &Curve, tube: &Option<Tube>) -> Reach
     }
 }
 
-/// The least box that holds what the box holds, and the points.
+// The least box that holds what the box holds, and the points.
 fn with_points(reach: Reach, points: &[Point]) -> Reach
     ensures kept { Covers (box_of result) (box_of reach) }
     ensures points { HoldsAll (box_of result) points.now }

@@ -20,7 +20,7 @@ use near_pairs::Reach;
 use plane::Edge;
 use straight_predicates::{Meet, meet};
 
-/// Two curves with their tubes.
+// Two curves with their tubes.
 #[derive(Clone, Copy)]
 struct GroupTest<'a> {
     one: Group<'a>,
@@ -90,7 +90,7 @@ fn all_of(group: &Group, count: usize) -> Stretch
     }
 }
 
-/// Whether the part and one of the stretch clash.
+// Whether the part and one of the stretch clash.
 fn some_clash(one: &Group, part: usize, other: &Group, stretch: &Stretch) -> bool
     requires groups { AreGroups one.now other.now }
     requires part { part ≤ bays_of one.now.tube.now }
@@ -143,7 +143,7 @@ fn some_ends_enter(one: &Group, part: usize, other: &Group, number: usize) -> bo
     ends_enter(one, part, other, number) || ends_enter(other, number, one, part)
 }
 
-/// Whether an edge of the part and one of the other curve's part meet badly.
+// Whether an edge of the part and one of the other curve's part meet badly.
 fn edges_meet(one: &Group, part: usize, other: &Group, number: usize) -> bool
     requires groups { AreGroups one.now other.now }
     requires parts { ArePartsOf one.now.tube.now other.now.tube.now part number }
@@ -162,7 +162,7 @@ fn inner_meets(one: &Group, part: usize, other: &Group, number: usize) -> bool
     part < bay_count(one) && meets_part(&inner_of(one, part), other, number)
 }
 
-/// Whether the edge and one of the part meet badly.
+// Whether the edge and one of the part meet badly.
 fn meets_part(edge: &Edge, group: &Group, part: usize) -> bool
     requires edged { IsEdged group.now.curve.now group.now.tube.now }
     requires beside { IsBeside edge.now (edges_with group.now.curve.now group.now.tube.now) }
@@ -180,7 +180,7 @@ fn meets_inner(edge: &Edge, group: &Group, part: usize) -> bool
     part < bay_count(group) && are_bad(edge, &inner_of(group, part))
 }
 
-/// Whether two edges meet badly.
+// Whether two edges meet badly.
 fn are_bad(edge: &Edge, other: &Edge) -> bool
     requires sorted { Before edge.now.low edge.now.high }
     requires other_sorted { Before other.now.low other.now.high }

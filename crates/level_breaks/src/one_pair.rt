@@ -38,7 +38,7 @@ pub fn breaks_level(
     Ok(are_breaking(&one, &other))
 }
 
-/// The curve with its tube and a box.
+// The curve with its tube and a box.
 fn grouped<'a>(curve: &'a Curve, tube: &'a Option<Tube>) -> Group<'a>
     ensures curve { result.curve.now ≡ curve.now }
     ensures tube { result.tube.now ≡ tube.now }

@@ -67,7 +67,7 @@ fn tube_reach(curve: &Curve, tube: &Tube, from: usize, to: usize) -> Reach
     reach
 }
 
-/// A box that holds what the box holds, among it the first corners of the part, and the part.
+// A box that holds what the box holds, among it the first corners of the part, and the part.
 fn with_part(reach: Reach, curve: &Curve, tube: &Tube, number: usize) -> Reach
     requires sizes { length tube.now.inner.items ≡ suc (length tube.now.outer.items) }
     requires there { number ≤ length tube.now.outer.items }
@@ -79,7 +79,7 @@ fn with_part(reach: Reach, curve: &Curve, tube: &Tube, number: usize) -> Reach
     with_next(over, &tube.inner, number)
 }
 
-/// A box that holds what the box holds, and the point after that of the number, where there is one.
+// A box that holds what the box holds, and the point after that of the number, where there is one.
 fn with_next(reach: Reach, inner: &[Point], number: usize) -> Reach
     requires { number < length inner.now }
     ensures kept { Covers (box_of result) (box_of reach) }

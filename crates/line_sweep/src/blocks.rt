@@ -52,7 +52,7 @@ pub fn find_block(live: &ChunkedList<u32>, edges: &[Edge], at: Point) -> Result<
     })
 }
 
-/// The place after the edges from `from` on that end at the event.
+// The place after the edges from `from` on that end at the event.
 fn block_end(live: &ChunkedList<u32>, edges: &[Edge], at: Point, from: usize) -> usize
     requires known { AreBelow (length edges.now) live.now }
     requires place { from ≤ length live.now }

@@ -43,7 +43,7 @@ pub fn test_neighbours(
     test_pair(edges, below, upper)
 }
 
-/// Tests the two edges, where there are two.
+// Tests the two edges, where there are two.
 fn test_pair(edges: &[Edge], lower: Option<u32>, upper: Option<u32>) -> Result<(), (u32, u32)>
     requires sorted { AreSorted edges.now }
     requires close { AreAllClose edges.now }
@@ -100,7 +100,7 @@ pub fn close_cells(
     )
 }
 
-/// Writes the cell where it has an edge.
+// Writes the cell where it has an edge.
 fn close_cell(closed: &mut Vec<Cell>, cell: Cell) -> Result<(), Memory>
     ensures { OnOk result (gaps_of closed.new.items
         ≡ gaps_of closed.old.items ++ filter is_real (gap_of cell ∷ [])) }
@@ -111,7 +111,7 @@ fn close_cell(closed: &mut Vec<Cell>, cell: Cell) -> Result<(), Memory>
     Ok(())
 }
 
-/// Whether one of the two is an edge.
+// Whether one of the two is an edge.
 fn is_real(lower: CellEdge, upper: CellEdge) -> bool
     ensures { result ≡ has_side lower upper }
 {

@@ -51,8 +51,8 @@ pub fn clashing(
     Ok(marks.marked)
 }
 
-/// A sweep that goes on past bad edges: the live list, in which edges of marked groups stay until
-/// an event is beside them, the marks so far, and the edges that were put in last.
+// A sweep that goes on past bad edges: the live list, in which edges of marked groups stay until
+// an event is beside them, the marks so far, and the edges that were put in last.
 #[derive(Drop)]
 struct ClashSweep<'a> {
     live: ChunkedList<u32>,
@@ -61,7 +61,7 @@ struct ClashSweep<'a> {
 }
 
 impl<'a> ClashSweep<'a> {
-    /// Nothing is live, and no group is marked.
+    // Nothing is live, and no group is marked.
     fn new(alloc: Global, groups: &'a [u32], firm: &'a [bool]) -> Result<ClashSweep<'a>, Memory>
         ensures live { IfOk result (λ s. s.live ≡ []) }
         ensures marks { IfOk result (λ s. length s.marks.marked.items ≡ length firm.now) }
@@ -73,8 +73,8 @@ impl<'a> ClashSweep<'a> {
         })
     }
 
-    /// Puts the starting edges of the event in the place of those that end there, without the edges
-    /// of marked groups, and marks the groups of edges that are bad there.
+    // Puts the starting edges of the event in the place of those that end there, without the edges
+    // of marked groups, and marks the groups of edges that are bad there.
     fn pass_event(&mut self, edges: &[Edge], table: &Timetable, event: u32) -> Result<(), Memory>
         requires few { length edges.now < 2 ^ 31 }
         requires sorted { AreSorted edges.now }
@@ -100,8 +100,8 @@ impl<'a> ClashSweep<'a> {
         Ok(())
     }
 
-    /// The place after the edges from `from` on that leave the live list at the event, which is an
-    /// end of the edge `own`. It first marks the clashes of edges that go through the event.
+    // The place after the edges from `from` on that leave the live list at the event, which is an
+    // end of the edge `own`. It first marks the clashes of edges that go through the event.
     fn leaving_end(&mut self, edges: &[Edge], from: usize, at: Point, own: u32) -> usize
         requires known { AreBelow (length edges.now) self.old.live }
         requires close { IsCloseToAll edges.now at }
@@ -121,8 +121,8 @@ impl<'a> ClashSweep<'a> {
         self.live.len()
     }
 
-    /// Marks the clash of the edge with the edge `own`, of which the event is an end, if the edge
-    /// goes through the event and neither group is marked yet.
+    // Marks the clash of the edge with the edge `own`, of which the event is an end, if the edge
+    // goes through the event and neither group is marked yet.
     fn mark_through(&mut self, edges: &[Edge], edge: u32, at: Point, own: u32)
         requires known { edge < length edges.now }
         requires close { IsCloseToAll edges.now at }
@@ -140,15 +140,15 @@ impl<'a> ClashSweep<'a> {
         }
     }
 
-    /// Whether the edge leaves the live list at the event: it ends there, or its group is marked.
+    // Whether the edge leaves the live list at the event: it ends there, or its group is marked.
     fn leaves(&self, edges: &[Edge], edge: u32, at: Point) -> bool
         requires { edge < length edges.now }
     {
         edges[edge as usize].high == at || self.marks.is_marked(edge)
     }
 
-    /// Puts those of the edges that are not of marked groups in the place of a part of the live
-    /// list, and of the edges of marked groups beside it. The place of the first of them.
+    // Puts those of the edges that are not of marked groups in the place of a part of the live
+    // list, and of the edges of marked groups beside it. The place of the first of them.
     fn put_unmarked(&mut self, from: usize, upto: usize, with: &[u32]) -> Result<usize, Memory>
         requires part { from ≤ upto }
         requires within { upto ≤ length self.old.live }
@@ -165,7 +165,7 @@ impl<'a> ClashSweep<'a> {
         Ok(first)
     }
 
-    /// The place of the first of the edges of marked groups that are directly before the place.
+    // The place of the first of the edges of marked groups that are directly before the place.
     fn marked_start(&self, from: usize) -> usize
         requires { from ≤ length self.now.live }
         ensures { result ≤ from }
@@ -178,7 +178,7 @@ impl<'a> ClashSweep<'a> {
         0
     }
 
-    /// The place after the edges of marked groups that are directly from the place on.
+    // The place after the edges of marked groups that are directly from the place on.
     fn marked_end(&self, upto: usize) -> usize
         requires { upto ≤ length self.now.live }
         ensures least { upto ≤ result }
@@ -192,7 +192,7 @@ impl<'a> ClashSweep<'a> {
         self.live.len()
     }
 
-    /// Makes those of the edges whose groups are not marked the fresh ones.
+    // Makes those of the edges whose groups are not marked the fresh ones.
     fn choose_unmarked(&mut self, edges: &[u32]) -> Result<(), Memory>
         ensures fresh { OnOk result ((e : ℕ) → Has e self.new.fresh.items → Has e edges.now) }
         ensures live { self.new.live ≡ self.old.live }
@@ -207,8 +207,8 @@ impl<'a> ClashSweep<'a> {
         Ok(())
     }
 
-    /// Marks the groups of neighbours that are bad, from the edge before the fresh ones, which are
-    /// in the live list from the place `first` on, to the one after them. Whether there are some.
+    // Marks the groups of neighbours that are bad, from the edge before the fresh ones, which are
+    // in the live list from the place `first` on, to the one after them. Whether there are some.
     fn mark_bad_neighbours(&mut self, edges: &[Edge], first: usize) -> bool
         requires sorted { AreSorted edges.now }
         requires close { AreAllClose edges.now }
@@ -227,7 +227,7 @@ impl<'a> ClashSweep<'a> {
         any
     }
 
-    /// The edge at the place and the next one, if they are bad.
+    // The edge at the place and the next one, if they are bad.
     fn bad_neighbours(&self, edges: &[Edge], below: usize) -> Option<BadEdges>
         requires sorted { AreSorted edges.now }
         requires close { AreAllClose edges.now }
@@ -247,8 +247,8 @@ impl<'a> ClashSweep<'a> {
     }
 }
 
-/// The groups of edges by the numbers of the edges, which groups are firm, which are marked, and
-/// the event at which the first edge of each starts, as far as the sweep has come.
+// The groups of edges by the numbers of the edges, which groups are firm, which are marked, and
+// the event at which the first edge of each starts, as far as the sweep has come.
 #[derive(Drop)]
 struct Marks<'a> {
     groups: &'a [u32],
@@ -258,7 +258,7 @@ struct Marks<'a> {
 }
 
 impl<'a> Marks<'a> {
-    /// No group is marked, and none has started.
+    // No group is marked, and none has started.
     fn new(alloc: Global, groups: &'a [u32], firm: &'a [bool]) -> Result<Marks<'a>, Memory>
         ensures { IfOk result (λ m. length m.marked.items ≡ length firm.now) }
     {
@@ -270,7 +270,7 @@ impl<'a> Marks<'a> {
         })
     }
 
-    /// The group of the edge; of an edge without one a number that no group has.
+    // The group of the edge; of an edge without one a number that no group has.
     fn group(&self, edge: u32) -> usize {
         match self.groups.get(edge as usize) {
             Some(group) => *group as usize,
@@ -286,8 +286,8 @@ impl<'a> Marks<'a> {
         matches!(self.firm.get(self.group(edge)), Some(true))
     }
 
-    /// The event at which the group of the edge starts; it is later than all others where none of
-    /// its edges has started.
+    // The event at which the group of the edge starts; it is later than all others where none of
+    // its edges has started.
     fn start(&self, edge: u32) -> u32 {
         match self.starts.get(self.group(edge)) {
             Some(event) => *event,
@@ -295,7 +295,7 @@ impl<'a> Marks<'a> {
         }
     }
 
-    /// Notes that edges start at the event.
+    // Notes that edges start at the event.
     fn note_starts(&mut self, edges: &[u32], event: u32)
         ensures { length self.new.marked.items ≡ length self.old.marked.items }
     {
@@ -307,8 +307,8 @@ impl<'a> Marks<'a> {
         }
     }
 
-    /// Marks those of the groups of two bad edges that are not firm, or, if both are, the one that
-    /// starts later.
+    // Marks those of the groups of two bad edges that are not firm, or, if both are, the one that
+    // starts later.
     fn mark_clash(&mut self, bad: BadEdges)
         ensures { length self.new.marked.items ≡ length self.old.marked.items }
     {
@@ -324,7 +324,7 @@ impl<'a> Marks<'a> {
         }
     }
 
-    /// Of two edges the one whose group starts later, or the second where they start together.
+    // Of two edges the one whose group starts later, or the second where they start together.
     fn later(&self, first: u32, second: u32) -> u32 {
         if self.start(first) > self.start(second) {
             first
@@ -333,7 +333,7 @@ impl<'a> Marks<'a> {
         }
     }
 
-    /// Marks the group of the edge.
+    // Marks the group of the edge.
     fn mark(&mut self, edge: u32)
         ensures { length self.new.marked.items ≡ length self.old.marked.items }
     {

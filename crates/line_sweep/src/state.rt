@@ -92,7 +92,7 @@ impl State {
     }
 }
 
-/// Makes the list so many times the event.
+// Makes the list so many times the event.
 fn fill(list: &mut Vec<u32>, event: u32, count: usize) -> Result<(), Memory>
     ensures { OnOk result (list.new.items ≡ replicate count event) }
 {

@@ -48,8 +48,8 @@ pub fn sweep(alloc: Global, edges: &[Edge]) -> Result<Swept, SweepRefusal>
     })
 }
 
-/// Nothing is live, and one cell without edges is open. There is room for a block for each event,
-/// for the edges, which all end, and for the cells, of which each edge and each event opens one.
+// Nothing is live, and one cell without edges is open. There is room for a block for each event,
+// for the edges, which all end, and for the cells, of which each edge and each event opens one.
 fn begin(alloc: Global, edges: usize, events: usize) -> Result<State, Memory>
     requires few { edges < 2 ^ 31 }
     requires few_events { events < 2 ^ 32 }
@@ -112,8 +112,8 @@ fn step(
     Ok(())
 }
 
-/// The block of the event, or the live edge that goes through it with an edge that ends or starts
-/// there.
+// The block of the event, or the live edge that goes through it with an edge that ends or starts
+// there.
 fn block_at(
     edges: &[Edge],
     table: &Timetable,
@@ -155,8 +155,8 @@ pub fn edge_of_event(edges: &[Edge], table: &Timetable, event: u32) -> u32
     }
 }
 
-/// Tests the edges that become neighbours at the event: those that start there and those beside its
-/// block.
+// Tests the edges that become neighbours at the event: those that start there and those beside its
+// block.
 fn test_at(
     edges: &[Edge],
     table: &Timetable,

@@ -16,7 +16,7 @@ use plane::{Curve, CurveKind, Drawing};
 use ports::Memory;
 use std::alloc::Global;
 
-/// Curves, of which pairs are tested.
+// Curves, of which pairs are tested.
 #[derive(Drop)]
 struct ArcTest<'a> {
     curves: &'a [Curve],

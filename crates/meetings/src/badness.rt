@@ -98,7 +98,7 @@ fn one_ends_on_other(first: &Curve, second: &Curve) -> bool
     ends_on(first, second) || ends_on(second, first)
 }
 
-/// Whether one of the first curve's ends is on the second and no end of it.
+// Whether one of the first curve's ends is on the second and no end of it.
 fn ends_on(first: &Curve, second: &Curve) -> bool
     requires from { IsPlacedWith second.now first.now.from }
     requires to { IsPlacedWith second.now first.now.to }
@@ -177,8 +177,8 @@ fn runs_between(curve: &Curve, from: Point, to: Point) -> bool
     are_same(curve.from, from) && are_same(curve.to, to)
 }
 
-/// Whether the point has a side for the half arc, is on its circle and on the third point's side of
-/// its chord.
+// Whether the point has a side for the half arc, is on its circle and on the third point's side of
+// its chord.
 fn is_on_other_side(curve: &Curve, p: Point) -> bool
     requires { IsPlacedWith curve.now p }
     ensures { IsTrue result ↔ (IsOnCircle (arc curve.now) (point p)

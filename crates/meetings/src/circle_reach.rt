@@ -10,7 +10,7 @@ ghost use Rattle.arc_predicates.specs.Circles.{half_arc};
 use arc_predicates::Circle;
 use plane::{Curve, Point};
 
-/// As far from a half arc's `from`, in each coordinate, no place has a side for it.
+// As far from a half arc's `from`, in each coordinate, no place has a side for it.
 const FAR: u128 = 268_435_456;
 
 /// How far from a half arc's `from`, in each coordinate, a place within its circle may be that has

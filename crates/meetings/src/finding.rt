@@ -31,7 +31,7 @@ pub fn bad_meeting(alloc: Global, drawing: &Drawing) -> Result<Option<BadPair>, 
     }
 }
 
-/// Two straights that are bad, or None exactly where there are none.
+// Two straights that are bad, or None exactly where there are none.
 fn straight_meeting(alloc: Global, drawing: &Drawing) -> Result<Option<BadPair>, Memory>
     ensures bad { IfOk result (λ r. IfSome r (λ p.
         IsBadPair (plan drawing.now) p.first p.second)) }

@@ -58,7 +58,7 @@ fn judged_reach(curve: &Curve, circle: &Circle) -> Reach
     }
 }
 
-/// The box of two points, each side moved out.
+// The box of two points, each side moved out.
 fn around(a: Point, b: Point, x: i64, y: i64) -> Reach
     requires first { IsShort a }
     requires second { IsShort b }
@@ -75,7 +75,7 @@ fn around(a: Point, b: Point, x: i64, y: i64) -> Reach
     }
 }
 
-/// From the lesser of two numbers less `by` to the greater and `by`.
+// From the lesser of two numbers less `by` to the greater and `by`.
 fn span(a: i64, b: i64, by: i64) -> (i64, i64)
     requires first { IsWithin (10 ^ 18) a }
     requires second { IsWithin (10 ^ 18) b }
@@ -92,7 +92,7 @@ fn span(a: i64, b: i64, by: i64) -> (i64, i64)
     }
 }
 
-/// Half the distance of two numbers, rounded up.
+// Half the distance of two numbers, rounded up.
 fn half(a: i64, b: i64) -> i64
     requires { IsNear (2 ^ 41) a b }
     ensures value { size (b -ℤ a) ≤ℤ (pos 2 *ℤ result) }
@@ -102,7 +102,7 @@ fn half(a: i64, b: i64) -> i64
     (b.abs_diff(a) / 2 + b.abs_diff(a) % 2) as i64
 }
 
-/// Whether the half arc is at most half a turn of its circle.
+// Whether the half arc is at most half a turn of its circle.
 fn is_at_most_half_a_turn(curve: &Curve) -> bool
     requires from { AreNear (2 ^ 41) curve.now.from curve.now.third }
     requires to { AreNear (2 ^ 41) curve.now.to curve.now.third }
@@ -113,7 +113,7 @@ fn is_at_most_half_a_turn(curve: &Curve) -> bool
     0 <= x + y
 }
 
-/// (z - a) (z - b), below 2^82
+// (z - a) (z - b), below 2^82
 fn product(z: i64, a: i64, b: i64) -> i128
     requires first { IsNear (2 ^ 41) a z }
     requires second { IsNear (2 ^ 41) b z }
@@ -125,7 +125,7 @@ fn product(z: i64, a: i64, b: i64) -> i128
     from_a * from_b
 }
 
-/// a - b, below 2^41
+// a - b, below 2^41
 fn difference(a: i64, b: i64) -> i128
     requires { IsNear (2 ^ 41) b a }
     ensures value { result ≡ a -ℤ b }

@@ -34,7 +34,7 @@ pub fn sweep_straights(alloc: Global, drawing: &Drawing) -> Result<StraightRun, 
     }
 }
 
-/// The numbers of two edges' curves, the lesser first.
+// The numbers of two edges' curves, the lesser first.
 fn in_order(straights: &Straights, first: u32, second: u32) -> BadPair
     requires bad { AreBad straights.now.edges.items first second }
     requires size { length straights.now.numbers.items ≡ length straights.now.edges.items }

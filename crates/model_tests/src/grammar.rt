@@ -14,7 +14,7 @@ const CODES: Codes = Codes {
     continued: 92,
 };
 
-/// The only table of a model that has one topic.
+// The only table of a model that has one topic.
 fn table_of(model: &ModelSyntax) -> Option<&TableSyntax> {
     let topic = model.topics.first()?;
     if model.topics.len() == 1 && topic.tables.len() == 1 {
@@ -75,7 +75,7 @@ const RESOLVED: &[u8] =
     TABLE B = NO IDENT END B;\nEND T. END M. FORMAT FREE; \
     CODE BLANK = DEFAULT, UNDEFINED = DEFAULT, CONTINUE = DEFAULT; TID = ANY; END.\n";
 
-/// The first of two tables of a model that has one topic.
+// The first of two tables of a model that has one topic.
 fn first_table(model: &ResolvedModel) -> Option<&ModelTable> {
     let topic = model.topics.first()?;
     if model.topics.len() == 1 && topic.tables.len() == 2 {

@@ -8,10 +8,10 @@ use super::reaches::Reach;
 use ports::Memory;
 use std::alloc::Global;
 
-/// So many boxes may begin within a marked one along x, for each box, before there are many.
+// So many boxes may begin within a marked one along x, for each box, before there are many.
 const MOST_BESIDE: usize = 1 << 16;
 
-/// So many of them may share a place with it.
+// So many of them may share a place with it.
 const MOST_NEAR: usize = 32;
 
 /// Whether a search for the least pair looks at many pairs: for each box on the average, at more
@@ -31,7 +31,7 @@ pub fn are_many(alloc: Global, boxes: &[Reach], marked: &[bool]) -> Result<bool,
     Ok(are_many_beside(boxes, marked, &items) || are_many_near(boxes, marked, &items))
 }
 
-/// Whether more than 2^16 boxes, for each box on the average, begin within a marked one along x.
+// Whether more than 2^16 boxes, for each box on the average, begin within a marked one along x.
 fn are_many_beside(boxes: &[Reach], marked: &[bool], column: &[Item]) -> bool
     requires few { length boxes.now < 2 ^ 32 }
     requires marks { length marked.now ≡ length boxes.now }
@@ -50,7 +50,7 @@ fn are_many_beside(boxes: &[Reach], marked: &[bool], column: &[Item]) -> bool
     false
 }
 
-/// Whether more than 32 of them, for each box on the average, share a place with it.
+// Whether more than 32 of them, for each box on the average, share a place with it.
 fn are_many_near(boxes: &[Reach], marked: &[bool], column: &[Item]) -> bool
     requires few { length boxes.now < 2 ^ 32 }
     requires marks { length marked.now ≡ length boxes.now }
@@ -69,7 +69,7 @@ fn are_many_near(boxes: &[Reach], marked: &[bool], column: &[Item]) -> bool
     false
 }
 
-/// How many of the items share a y with the box.
+// How many of the items share a y with the box.
 fn level_count(reach: &Reach, items: &[Item]) -> usize {
     items.iter().filter(|item| are_level(reach, item)).count()
 }

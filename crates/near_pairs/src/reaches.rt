@@ -40,7 +40,7 @@ impl Reach {
     }
 }
 
-/// Whether some number is from `a` to `b` and from `c` to `d`.
+// Whether some number is from `a` to `b` and from `c` to `d`.
 fn share_a_number(a: i64, b: i64, c: i64, d: i64) -> bool
     ensures { IsTrue result ↔ ShareANumber a b c d }
 {

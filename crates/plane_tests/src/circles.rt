@@ -50,7 +50,7 @@ fn point(x: i64, y: i64) -> Point {
     Point { x, y }
 }
 
-/// The numbers of the circle of three points, and the side of a fourth one.
+// The numbers of the circle of three points, and the side of a fourth one.
 fn judged(arc: Three, p: [i64; 2]) -> Option<([i128; 3], Side)> {
     let from = point(arc[0], arc[1]);
     let to = point(arc[2], arc[3]);
@@ -66,7 +66,7 @@ fn judged(arc: Three, p: [i64; 2]) -> Option<([i128; 3], Side)> {
     Some(([circle.d, circle.a, circle.b], place_of(&circle, at)))
 }
 
-/// The first of the sixteenths at which the straight of the last four numbers crosses the half arc.
+// The first of the sixteenths at which the straight of the last four numbers crosses the half arc.
 fn crossed(arc: Three, straight: [i64; 4]) -> Option<u8> {
     let arc = curve(
         CurveKind::HalfArc,
@@ -93,15 +93,15 @@ fn curve(kind: CurveKind, from: Point, to: Point, third: Point) -> Curve {
     }
 }
 
-/// Half a turn below the circle round (5, 0) with the radius 5.
+// Half a turn below the circle round (5, 0) with the radius 5.
 const HALF: Three = [0, 0, 10, 0, 5, 5];
 
 const FAR: i64 = 1_000_000_000_000_000_000;
 
-/// The same, far away.
+// The same, far away.
 const SHIFTED: Three = [-FAR, FAR, -FAR + 10, FAR, -FAR + 5, FAR + 5];
 
-/// 2^26 - 1 wide, and one unit high in its middle.
+// 2^26 - 1 wide, and one unit high in its middle.
 const FLAT: Three = [0, 0, 67_108_863, 0, 33_554_432, 1];
 
 type Judgement = (&'static str, Three, [i64; 2], Option<([i128; 3], Side)>);

@@ -9,7 +9,7 @@ use std::alloc::Global;
 use std::test::Fail;
 use tubes::{EdgeList, Facing, Owner, Part, edge_list, facings};
 
-/// The ends of an edge, what it is of which curve, and the side that faces its tube.
+// The ends of an edge, what it is of which curve, and the side that faces its tube.
 type Row = ([i64; 4], u32, Part, Facing);
 
 const THREE: [Line; 3] = [
@@ -24,10 +24,10 @@ const SIDES: [Row; 3] = [
     ([0, 0, 50, 50], 2, Part::Straight, Facing::Neither),
 ];
 
-/// The straight from C to A and the half arcs from A over B to C.
+// The straight from C to A and the half arcs from A over B to C.
 const SECTOR: [Line; 2] = [Straight([50, 50, 0, 0]), Arc([0, 0, 0, 50, 50, 50])];
 
-/// Its edges at level 0.
+// Its edges at level 0.
 const TUBED: [Row; 11] = [
     ([0, 0, 50, 50], 0, Part::Straight, Facing::Neither),
     ([-10, 25, 0, 0], 1, Part::Inner, Facing::Below),

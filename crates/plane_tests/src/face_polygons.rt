@@ -14,7 +14,7 @@ use std::test::Fail;
 // The rings of a polygon by their corners.
 type Rings = &'static [&'static [(i64, i64)]];
 
-/// Whether the polygon has these rings, in this order.
+// Whether the polygon has these rings, in this order.
 fn has_rings(polygon: &Polygon, wanted: Rings) -> bool {
     if polygon.rings.len() != wanted.len() {
         return false;
@@ -27,7 +27,7 @@ fn has_rings(polygon: &Polygon, wanted: Rings) -> bool {
     true
 }
 
-/// Whether these are the corners, in this order.
+// Whether these are the corners, in this order.
 fn has_corners(corners: &[Point], wanted: &[(i64, i64)]) -> bool {
     if corners.len() != wanted.len() {
         return false;
@@ -40,7 +40,7 @@ fn has_corners(corners: &[Point], wanted: &[(i64, i64)]) -> bool {
     true
 }
 
-/// The points with these coordinates.
+// The points with these coordinates.
 fn points_of(alloc: Global, places: &[(i64, i64)]) -> Result<Vec<Point>, Memory> {
     let mut points = Vec::new(alloc);
     for place in places {
@@ -75,7 +75,7 @@ const TRIANGLES: [Rings; 3] = [
     &[&[(0, 0), (4, 4), (0, 4)]],
 ];
 
-/// Whether the face of the square has these rings.
+// Whether the face of the square has these rings.
 fn has_face(alloc: Global, face: FaceId, wanted: Rings) -> Result<bool, Memory> {
     let mut mesh = square(alloc)?;
     let at = points_of(alloc, &CORNERS)?;
@@ -197,7 +197,7 @@ const ROWS: [Row; 5] = [
     ),
 ];
 
-/// Four edges between eight vertices, nothing linked.
+// Four edges between eight vertices, nothing linked.
 fn lone_edges(alloc: Global) -> Result<Mesh, Memory>
     ensures { IfOk result (λ mesh. mesh.vertices ≡ 8) }
 {
@@ -209,7 +209,7 @@ fn lone_edges(alloc: Global) -> Result<Mesh, Memory>
     Ok(mesh)
 }
 
-/// Whether the edges at these places have these rings.
+// Whether the edges at these places have these rings.
 fn has_order(alloc: Global, places: &[(i64, i64)], wanted: Rings) -> Result<bool, Memory> {
     let mesh = lone_edges(alloc)?;
     let at = points_of(alloc, places)?;

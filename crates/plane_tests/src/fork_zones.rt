@@ -55,7 +55,7 @@ pub fn is_tolerance(d: i64) -> bool
     0 <= d && d <= 1_048_576
 }
 
-/// A straight, or the first half arc of an arc.
+// A straight, or the first half arc of an arc.
 fn curve_of(line: &Line) -> Curve {
     match line {
         Straight([x, y, to_x, to_y]) => {

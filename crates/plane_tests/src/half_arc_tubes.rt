@@ -14,15 +14,15 @@ use std::alloc::Global;
 use std::test::Fail;
 use tubes::{Tube, holds, tube};
 
-/// The coordinates of the half arc's two ends and of its third point.
+// The coordinates of the half arc's two ends and of its third point.
 type Three = [i64; 6];
 
-/// The inner corners of a tube at level 0, then its outer ones.
+// The inner corners of a tube at level 0, then its outer ones.
 type Corners = [[i64; 2]; 5];
 
 type Row = (&'static str, Three, Option<Corners>);
 
-/// A quarter of the circle round (500000, 500000) with the radius 10000.
+// A quarter of the circle round (500000, 500000) with the radius 10000.
 const QUARTER: Three = [510_000, 500_000, 500_000, 510_000, 490_000, 500_000];
 
 const QUARTER_CORNERS: Corners = [
@@ -94,10 +94,10 @@ const ROWS: [Row; 14] = [
     ("a unit long", [0, 0, 1, 0, 1, 5], None),
 ];
 
-/// The count of the quarter's outer corners at each level.
+// The count of the quarter's outer corners at each level.
 const COUNTS: [(u8, usize); 6] = [(0, 2), (1, 4), (2, 8), (3, 16), (4, 32), (5, 64)];
 
-/// Whether the quarter's tube at level 0 holds a point.
+// Whether the quarter's tube at level 0 holds a point.
 const HELD: [([i64; 2], bool); 12] = [
     ([510_000, 500_000], true),
     ([510_301, 504_266], true),
@@ -192,7 +192,7 @@ fn is_small(z: i64) -> bool
     -1_000_000_000_000_000_000 < z && z < 1_000_000_000_000_000_000
 }
 
-/// The corners of a tube with as many as one at level 0 has, else five times the origin.
+// The corners of a tube with as many as one at level 0 has, else five times the origin.
 fn corners(tube: &Tube) -> Corners {
     let inner = &tube.inner;
     let outer = &tube.outer;
@@ -208,7 +208,7 @@ fn corners(tube: &Tube) -> Corners {
     ]
 }
 
-/// The corners of the half arc's tube at level 0, where it has one.
+// The corners of the half arc's tube at level 0, where it has one.
 fn corners_of(alloc: Global, arc: Three) -> Result<Option<Corners>, Memory> {
     match tube_of(alloc, &half_arc(arc), 0)? {
         Some(tube) => Ok(Some(corners(&tube))),
@@ -216,7 +216,7 @@ fn corners_of(alloc: Global, arc: Three) -> Result<Option<Corners>, Memory> {
     }
 }
 
-/// How many inner and outer corners the half arc's tube has at the level, where it has one.
+// How many inner and outer corners the half arc's tube has at the level, where it has one.
 fn counts(alloc: Global, arc: Three, level: u8) -> Result<Option<(usize, usize)>, Memory> {
     match tube_of(alloc, &half_arc(arc), level)? {
         Some(tube) => Ok(Some((tube.inner.len(), tube.outer.len()))),
@@ -224,7 +224,7 @@ fn counts(alloc: Global, arc: Three, level: u8) -> Result<Option<(usize, usize)>
     }
 }
 
-/// Whether the tube of the half arc at level 0 holds the point, where it has one.
+// Whether the tube of the half arc at level 0 holds the point, where it has one.
 fn is_held(alloc: Global, arc: Three, at: Point) -> Result<Option<bool>, Memory> {
     let Some(tube) = tube_of(alloc, &half_arc(arc), 0)? else {
         return Ok(None);

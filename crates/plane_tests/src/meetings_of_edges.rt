@@ -6,7 +6,7 @@ ghost use Rattle.straight_predicates.specs.Meetings.{AreClose, EdgesAreClose};
 use plane::{Edge, Point};
 use straight_predicates::{Meet, Turn, before, meet, turn};
 
-/// The greatest difference that the predicates take, 2^41 - 1.
+// The greatest difference that the predicates take, 2^41 - 1.
 const WIDE: i64 = 2_199_023_255_551;
 
 fn is_near(a: i64, b: i64) -> bool
@@ -33,7 +33,7 @@ fn edges_are_close(s: &Edge, t: &Edge) -> bool
         && are_close(s.high, t.high)
 }
 
-/// How two edges meet, each given by the coordinates of its low and its high end.
+// How two edges meet, each given by the coordinates of its low and its high end.
 fn meeting_of(s: [i64; 4], t: [i64; 4]) -> Option<Meet> {
     let s = edge(s);
     let t = edge(t);

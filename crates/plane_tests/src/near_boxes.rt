@@ -8,7 +8,7 @@ use ports::Memory;
 use std::alloc::Global;
 use std::test::Fail;
 
-/// All pairs that share a place and of which one is marked, from a first number on.
+// All pairs that share a place and of which one is marked, from a first number on.
 #[derive(Drop)]
 struct FromOn<'a> {
     boxes: &'a [Reach],
@@ -156,8 +156,8 @@ fn boxes_of(alloc: Global, rows: &[[i64; 4]]) -> Result<Vec<Reach>, Memory> {
     Ok(boxes)
 }
 
-/// Whether the least pair from a first number on is that of the table's row, which has a mark for
-/// each box, and at most 100.
+// Whether the least pair from a first number on is that of the table's row, which has a mark for
+// each box, and at most 100.
 fn is_found(alloc: Global, case: &Case, from: u32) -> Result<bool, Memory> {
     let boxes = boxes_of(alloc, case.1)?;
     if boxes.len() != case.2.len() || boxes.len() > 100 {

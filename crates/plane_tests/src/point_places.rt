@@ -131,7 +131,7 @@ fn points_of(alloc: Global, rows: &[(i64, i64, Place)]) -> Result<Vec<Point>, Me
     Ok(points)
 }
 
-/// The places of the points in a sweep over the edges, or none where that names two edges.
+// The places of the points in a sweep over the edges, or none where that names two edges.
 fn places_of(alloc: Global, edges: &[Edge], points: &[Point]) -> Result<Option<Vec<Place>>, Memory>
     requires fit { All IsFit edges.now }
     requires middle { All IsMiddle points.now }
@@ -144,7 +144,7 @@ fn places_of(alloc: Global, edges: &[Edge], points: &[Point]) -> Result<Option<V
     }
 }
 
-/// Whether each point of a row has its place.
+// Whether each point of a row has its place.
 fn agrees(alloc: Global, rows: &[[i64; 4]], wanted: &[(i64, i64, Place)]) -> Result<bool, Memory> {
     let edges = edges_of(alloc, rows)?;
     let points = points_of(alloc, wanted)?;

@@ -349,7 +349,7 @@ const BROKEN: [Row; 11] = [
     ),
 ];
 
-/// The answer to the edges.
+// The answer to the edges.
 fn answer_of(alloc: Global, edges: &[Edge]) -> Result<RingAnswer, Memory>
     requires fit { All IsFit edges.now }
     requires few { length edges.now < 1000 }
@@ -358,7 +358,7 @@ fn answer_of(alloc: Global, edges: &[Edge]) -> Result<RingAnswer, Memory>
     rings(alloc, edges)
 }
 
-/// Whether the edges have this answer.
+// Whether the edges have this answer.
 fn answers(alloc: Global, rows: &[[i64; 4]], wanted: RingAnswer) -> Result<bool, Memory> {
     let edges = edges_of(alloc, rows)?;
     if !are_fit(&edges) || edges.len() >= 1000 || edges.is_empty() {
@@ -367,7 +367,7 @@ fn answers(alloc: Global, rows: &[[i64; 4]], wanted: RingAnswer) -> Result<bool,
     Ok(answer_of(alloc, &edges)? == wanted)
 }
 
-/// Holds each row against its answer.
+// Holds each row against its answer.
 fn hold(rt: &impl Abort, alloc: Global, rows: &[Row]) -> Result<(), Fail> {
     for (name, edges, answer) in rows {
         assert!(rt; answers(alloc, edges, *answer)?, "{name}");

@@ -102,7 +102,7 @@ const ROWS: [Row; 14] = [
     ),
 ];
 
-/// Whether two of the edges are bad, by comparing all pairs.
+// Whether two of the edges are bad, by comparing all pairs.
 fn some_are_bad(edges: &[Edge]) -> bool
     requires { All IsFit edges.now }
 {
@@ -116,7 +116,7 @@ fn some_are_bad(edges: &[Edge]) -> bool
     false
 }
 
-/// The number of cells that a sweep answers, or none where it names two edges.
+// The number of cells that a sweep answers, or none where it names two edges.
 fn cells_of(alloc: Global, edges: &[Edge]) -> Result<Option<usize>, Memory>
     requires fit { All IsFit edges.now }
     requires few { length edges.now < 1000 }
@@ -128,7 +128,7 @@ fn cells_of(alloc: Global, edges: &[Edge]) -> Result<Option<usize>, Memory>
     }
 }
 
-/// Whether all pairs are compared and the edges swept with this outcome.
+// Whether all pairs are compared and the edges swept with this outcome.
 fn agrees(alloc: Global, rows: &[[i64; 4]], cells: usize, bad: bool) -> Result<bool, Memory> {
     let edges = edges_of(alloc, rows)?;
     if !are_fit(&edges) || edges.len() >= 1000 {

@@ -37,7 +37,7 @@ pub fn place_at(
     place_between(edges, live, at)
 }
 
-/// The least number of an edge that ends or starts at the event, of which there are some.
+// The least number of an edge that ends or starts at the event, of which there are some.
 fn edge_of_event(event: &Event<'_>, live: &ChunkedList<u32>) -> u32
     requires block { event.now.position + event.now.ending ≤ length live.now }
     requires some { (e : ℕ) × (e < 2 ^ 32 - 1) × EndsOrStarts (step_of live.now
@@ -50,8 +50,8 @@ fn edge_of_event(event: &Event<'_>, live: &ChunkedList<u32>) -> u32
     least(event.starting, ending)
 }
 
-/// The least of the numbers at the places from one up to another, and the greatest of all where
-/// there is none.
+// The least of the numbers at the places from one up to another, and the greatest of all where
+// there is none.
 fn least_between(live: &ChunkedList<u32>, from: usize, upto: usize) -> u32
     requires least { from ≤ upto }
     requires within { upto ≤ length live.now }
@@ -66,7 +66,7 @@ fn least_between(live: &ChunkedList<u32>, from: usize, upto: usize) -> u32
     least
 }
 
-/// The least of the numbers and the bound.
+// The least of the numbers and the bound.
 fn least(numbers: &[u32], bound: u32) -> u32
     ensures is { (result ≡ bound) ⊎ Has result numbers.now }
     ensures bound { result ≤ bound }

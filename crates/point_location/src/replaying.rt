@@ -41,7 +41,7 @@ pub fn apply_before(
     Ok(next)
 }
 
-/// Puts the edges that start at the event in the place of those that end there.
+// Puts the edges that start at the event in the place of those that end there.
 fn apply(event: &Event<'_>, live: &mut ChunkedList<u32>) -> Result<(), Memory>
     requires { event.now.position + event.now.ending ≤ length live.old }
     ensures { OnOk result (live.new ≡ after (step_of live.old (move_of event.now))) }

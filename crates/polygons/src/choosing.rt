@@ -33,7 +33,7 @@ pub fn polygons_of(
     take_chosen(alloc, &mut all, chosen)
 }
 
-/// Takes the polygons of these numbers out of the list.
+// Takes the polygons of these numbers out of the list.
 fn take_chosen(alloc: Global, all: &mut [Polygon], chosen: &[u32]) -> Result<Vec<Polygon>, Memory>
     requires known { (j : ℕ) → j < length chosen.now → slice_index chosen.now j < length all.old }
     requires apart { (i j : ℕ) → i < length chosen.now → j < length chosen.now
@@ -48,7 +48,7 @@ fn take_chosen(alloc: Global, all: &mut [Polygon], chosen: &[u32]) -> Result<Vec
     Ok(taken)
 }
 
-/// Takes the rings out of a polygon.
+// Takes the rings out of a polygon.
 fn take_polygon(alloc: Global, polygon: &mut Polygon) -> Polygon
     ensures { shapes result.rings.items ≡ shapes polygon.old.rings.items }
 {

@@ -89,8 +89,8 @@ compiled l =
     ++ (lines.verdict (verdict.Compiled (length l.tables)) ∷ [])))
 
 -- the transfer is no text of the layout: the first line at fault, and its code
-abbrev pub misbuilt : ℕ → Structure → Outcome
-misbuilt n code =
+abbrev pub malformed : ℕ → Structure → Outcome
+malformed n code =
     reported status.Rejected (lines.structure n code ∷ lines.verdict verdict.Rejected ∷ [])
 
 -- the transfer has no canonical text

@@ -8,7 +8,7 @@ ghost use Rattle.table_layout.specs.Values.{area_view, areas_view, layout_view, 
 ghost use Rattle.table_layout.specs.Values.{tables_view};
 ghost use Rattle.reports.specs.Outcomes.{reported, usage, area_too_large};
 ghost use Rattle.reports.specs.Outcomes.{canonical, canon_refused};
-ghost use Rattle.reports.specs.Outcomes.{refused, compiled, misbuilt, rejected, areas_outcome};
+ghost use Rattle.reports.specs.Outcomes.{refused, compiled, malformed, rejected, areas_outcome};
 ghost use Rattle.reports.specs.Outcomes.{judged_lines, by_kinds, lines_outcome, unfiled_outcome};
 ghost use Rattle.reports.specs.Outcomes.{bad_link, linked};
 ghost use Rattle.reports.specs.Outcomes.{accepted_with, area_line, area_lines, table_line};
@@ -164,8 +164,8 @@ pub fn compiled<'a>(alloc: Global, layout: &Layout) -> Result<Outcome<'a>, Memor
 }
 
 /// The transfer is at fault at a line.
-pub fn misbuilt<'a>(alloc: Global, line: u32, code: Structure) -> Result<Outcome<'a>, Memory>
-    ensures { IfOk result (λ o. outcome_of o ≡ misbuilt line (fault_of code)) }
+pub fn malformed<'a>(alloc: Global, line: u32, code: Structure) -> Result<Outcome<'a>, Memory>
+    ensures { IfOk result (λ o. outcome_of o ≡ malformed line (fault_of code)) }
 {
     let lines = vec![in alloc;
         Line::Structure { line, code },

@@ -80,8 +80,8 @@ impl<T: Copy> Chunk<T> {
     }
 }
 
-/// Puts values in the place of `count` others, from `from` on. There is room for them. Where as
-/// many come as go, nothing else is moved; else each value after them is moved once or twice.
+// Puts values in the place of `count` others, from `from` on. There is room for them. Where as
+// many come as go, nothing else is moved; else each value after them is moved once or twice.
 fn change<T: Copy>(values: &mut Vec<T>, from: usize, count: usize, with: &[T])
     requires within { from + count ≤ length values.old.items }
     requires room { length values.old.items + length with.now ≤ vec_capacity values.old + count }
@@ -96,7 +96,7 @@ fn change<T: Copy>(values: &mut Vec<T>, from: usize, count: usize, with: &[T])
         remove_values(values, from + common, count - common);
     }
 }
-/// Writes values over as many others, from `at` on.
+// Writes values over as many others, from `at` on.
 fn write_over<T: Copy>(values: &mut Vec<T>, at: usize, with: &[T])
     requires { at + length with.now ≤ length values.old.items }
     ensures items { values.new.items
@@ -124,7 +124,7 @@ pub fn insert_values<T: Copy>(values: &mut Vec<T>, at: usize, more: &[T])
     values[at..].rotate_right(more.len());
 }
 
-/// Takes out `count` values from `at` on.
+// Takes out `count` values from `at` on.
 fn remove_values<T: Copy>(values: &mut Vec<T>, at: usize, count: usize)
     requires { at + count ≤ length values.old.items }
     ensures items { values.new.items

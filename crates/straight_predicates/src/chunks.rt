@@ -70,7 +70,7 @@ pub fn replace<T: Copy>(
     insert(alloc, chunks, from, with)
 }
 
-/// Whether so many values from the place on are all in the chunk, and others in their place fit.
+// Whether so many values from the place on are all in the chunk, and others in their place fit.
 fn fits(size: usize, offset: usize, count: usize, more: usize) -> bool
     requires { offset ≤ size }
     ensures within { IsTrue result → offset + count ≤ size }
@@ -83,7 +83,7 @@ fn fits(size: usize, offset: usize, count: usize, more: usize) -> bool
     kept <= MOST && more <= MOST - kept && (kept > 0 || more > 0)
 }
 
-/// Takes out `count` values from `from` on.
+// Takes out `count` values from `from` on.
 fn remove<T: Copy>(chunks: &mut Vec<Chunk<T>>, from: usize, count: usize)
     requires { from + count ≤ length (joined chunks.old.items) }
     ensures { joined chunks.new.items ≡ take from (joined chunks.old.items)
@@ -95,7 +95,7 @@ fn remove<T: Copy>(chunks: &mut Vec<Chunk<T>>, from: usize, count: usize)
     }
 }
 
-/// Takes out those of the values that are in one chunk, and answers how many.
+// Takes out those of the values that are in one chunk, and answers how many.
 fn remove_some<T: Copy>(chunks: &mut Vec<Chunk<T>>, from: usize, count: usize) -> usize
     requires some { 0 < count }
     requires within { from + count ≤ length (joined chunks.old.items) }
@@ -115,7 +115,7 @@ fn remove_some<T: Copy>(chunks: &mut Vec<Chunk<T>>, from: usize, count: usize) -
     taken
 }
 
-/// Puts values in before the place, from the last on, half a chunk at a time.
+// Puts values in before the place, from the last on, half a chunk at a time.
 fn insert<T: Copy>(
     alloc: Global,
     chunks: &mut Vec<Chunk<T>>,
@@ -135,7 +135,7 @@ fn insert<T: Copy>(
     Ok(())
 }
 
-/// Puts some values in before the place.
+// Puts some values in before the place.
 fn insert_some<T: Copy>(
     alloc: Global,
     chunks: &mut Vec<Chunk<T>>,
@@ -157,7 +157,7 @@ fn insert_some<T: Copy>(
     Ok(())
 }
 
-/// Cuts the chunk in two where so many more values do not fit.
+// Cuts the chunk in two where so many more values do not fit.
 fn make_room<T: Copy>(chunks: &mut Vec<Chunk<T>>, chunk: usize, more: usize) -> Result<(), Memory>
     requires { chunk < length chunks.old.items }
     ensures some { OnOk result (0 < length chunks.new.items) }
@@ -191,7 +191,7 @@ pub fn copy_part<T: Copy>(
     Ok(())
 }
 
-/// Appends those of the values that are in one chunk, and answers how many.
+// Appends those of the values that are in one chunk, and answers how many.
 fn copy_some<T: Copy>(
     chunks: &[Chunk<T>],
     place: usize,

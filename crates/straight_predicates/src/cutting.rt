@@ -44,8 +44,8 @@ pub fn cut(live: &ChunkedList<u32>, edges: &[Edge], at: Point) -> usize
     start(chunks, chunk) + cut_chunk(chunks[chunk].values(), edges, at)
 }
 
-/// The last chunk whose first edge is strictly below the point, as far as the chunks are in order;
-/// else the first chunk.
+// The last chunk whose first edge is strictly below the point, as far as the chunks are in order;
+// else the first chunk.
 fn last_below(chunks: &[Chunk<u32>], edges: &[Edge], at: Point) -> usize
     requires some { 0 < length chunks.now }
     requires known { AreBelow (length edges.now) (joined chunks.now) }
@@ -72,7 +72,7 @@ fn last_below(chunks: &[Chunk<u32>], edges: &[Edge], at: Point) -> usize
     low
 }
 
-/// The same place in one chunk.
+// The same place in one chunk.
 fn cut_chunk(live: &[u32], edges: &[Edge], at: Point) -> usize
     requires known { AreBelow (length edges.now) live.now }
     requires close { IsCloseToAll edges.now at }
@@ -95,7 +95,7 @@ fn cut_chunk(live: &[u32], edges: &[Edge], at: Point) -> usize
     low
 }
 
-/// Whether the edge is strictly below the point.
+// Whether the edge is strictly below the point.
 fn is_below(edges: &[Edge], edge: u32, at: Point) -> bool
     requires known { edge < length edges.now }
     requires close { IsCloseToAll edges.now at }

@@ -81,7 +81,7 @@ pub fn fill(
     Ok(())
 }
 
-/// How many of the first ends lie at one point.
+// How many of the first ends lie at one point.
 fn group_length(ends: &[End]) -> usize
     requires { 0 < length ends.now }
     ensures { IsGroup ends.now result }
@@ -95,7 +95,7 @@ fn group_length(ends: &[End]) -> usize
     ends.len()
 }
 
-/// Writes the event of a group of ends.
+// Writes the event of a group of ends.
 fn add_event(
     slots: &mut Vec<Slot>,
     numbers: &mut Vec<u32>,
@@ -127,8 +127,8 @@ fn add_event(
     Ok(())
 }
 
-/// Writes the edges that end at a group's point to the numbers, and makes rays of those that start
-/// there.
+// Writes the edges that end at a group's point to the numbers, and makes rays of those that start
+// there.
 fn split_group(
     numbers: &mut Vec<u32>,
     rays: &mut Vec<Ray>,

@@ -48,35 +48,35 @@ fn meet_as(s: &Edge, t: &Edge) -> Meet
     }
 }
 
-/// Whether no turn is to a side.
+// Whether no turn is to a side.
 fn are_straight(first: Turn, second: Turn) -> bool
     ensures { IsTrue result ↔ AreStraight first second }
 {
     first == Turn::Straight && second == Turn::Straight
 }
 
-/// Whether both turns are strictly to one side.
+// Whether both turns are strictly to one side.
 fn is_one_side(first: Turn, second: Turn) -> bool
     ensures { IsTrue result ↔ AreOneSide first second }
 {
     first == second && first != Turn::Straight
 }
 
-/// Whether some point is an end of both.
+// Whether some point is an end of both.
 fn share_end(s: &Edge, t: &Edge) -> bool
     ensures { IsTrue result ↔ ShareEnd s.now t.now }
 {
     has_end(t, s.low) || has_end(t, s.high)
 }
 
-/// Whether the point is an end of the edge.
+// Whether the point is an end of the edge.
 fn has_end(e: &Edge, p: Point) -> bool
     ensures { IsTrue result ↔ edges.IsEnd e.now p }
 {
     e.low == p || e.high == p
 }
 
-/// How two edges of one line meet.
+// How two edges of one line meet.
 fn meet_in_line(s: &Edge, t: &Edge) -> Meet
     requires s_sorted { Before s.now.low s.now.high }
     requires t_sorted { Before t.now.low t.now.high }

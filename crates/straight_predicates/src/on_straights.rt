@@ -21,7 +21,7 @@ pub fn is_on_straight(a: Point, b: Point, p: Point) -> bool
     }
 }
 
-/// Whether the point is from `a` to `b` in each coordinate.
+// Whether the point is from `a` to `b` in each coordinate.
 fn is_in_box(a: Point, b: Point, p: Point) -> bool
     ensures { IsTrue result ↔ ((((a.x -ℤ p.x) *ℤ (b.x -ℤ p.x)) ≤ℤ pos 0)
         × (((a.y -ℤ p.y) *ℤ (b.y -ℤ p.y)) ≤ℤ pos 0)) }

@@ -42,7 +42,7 @@ pub fn rings(alloc: Global, edges: &[Edge]) -> Result<RingAnswer, Memory>
     }
 }
 
-/// The answer to edges of which no two meet badly.
+// The answer to edges of which no two meet badly.
 fn judge(alloc: Global, edges: &[Edge], swept: &Swept) -> Result<RingAnswer, Memory>
     requires some { 0 < length edges.now }
     requires few { length edges.now < 2 ^ 31 }
@@ -60,7 +60,7 @@ fn judge(alloc: Global, edges: &[Edge], swept: &Swept) -> Result<RingAnswer, Mem
     }
 }
 
-/// The answer to such edges, where each end is that of an even number of edges.
+// The answer to such edges, where each end is that of an even number of edges.
 fn judge_even(alloc: Global, edges: &[Edge], swept: &Swept) -> Result<RingAnswer, Memory>
     requires some { 0 < length edges.now }
     requires few { length edges.now < 2 ^ 31 }

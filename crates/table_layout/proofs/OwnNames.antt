@@ -26,9 +26,9 @@ use Rattle.resolver.specs.Rules.{Entry, entry, twice, helper_name}
 use Rattle.resolver.specs.Scopes.{Scope, Meaning, is_among, same, everywhere, inside}
 use Rattle.resolver.specs.Sound.{listed}
 use Rattle.resolver.specs.Standing.{IsTypeForm, IsContent, AreAttributes, IsTable, IsTopic, IsModel}
-use Rattle.resolver.proofs.FaultParts.{told_again}
-use Rattle.resolver.proofs.Members.{In, contains}
-use Rattle.resolver.proofs.OneStanding.{one_meaning}
+use Rattle.resolver.proofs.RuleLemmas.FaultParts.{told_again}
+use Rattle.resolver.proofs.ListLemmas.Members.{In, contains}
+use Rattle.resolver.proofs.TextLemmas.OneStanding.{one_meaning}
 use Rattle.table_layout.specs.Names.{times, AreDifferent, helper_names, names_taken}
 use Rattle.table_layout.specs.Names.{topic_names_taken, HasOwnNames}
 use Rattle.table_layout.specs.Tables.{topic_names_of}

@@ -15,7 +15,7 @@ use Rattle.resolver.specs.Resolved.{Attribute, ModelTable, Topic, ResolvedModel}
 use Rattle.resolver.specs.Scopes.{Scope, same, place, texts, table_names, everywhere, inside}
 use Rattle.resolver.specs.Sound.{listed}
 use Rattle.resolver.specs.Standing.{IsContent, AreAttributes, IsTable, IsTopic, IsModel}
-use Rattle.resolver.proofs.Members.{In, contains, in_each, same_is}
+use Rattle.resolver.proofs.ListLemmas.Members.{In, contains, in_each, same_is}
 use Rattle.table_layout.specs.Attributes.{columns_of}
 use Rattle.table_layout.specs.Layouts.{Column, Table, Layout}
 use Rattle.table_layout.specs.Names.{IsFoundByName}

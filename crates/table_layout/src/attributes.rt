@@ -15,7 +15,7 @@ use ports::{Memory, Name};
 use resolver::{Attribute, AttributeForm, Form, LineForm, LinePart, Places};
 use std::alloc::Global;
 
-/// The form as it stands in a column, where a reference names a table of the whole list.
+// The form as it stands in a column, where a reference names a table of the whole list.
 fn form_among(form: Form, mains: &[u32]) -> Form
     ensures { form_of result ≡ form_in mains.now (form_of form) }
 {
@@ -52,7 +52,7 @@ pub fn copied_line(
     })
 }
 
-/// Adds the column of a value, a reference or an AREA.
+// Adds the column of a value, a reference or an AREA.
 fn add_column(
     alloc: Global,
     attribute: &Attribute,
@@ -77,7 +77,7 @@ fn add_column(
     Ok(())
 }
 
-/// Adds the line of a POLYLINE.
+// Adds the line of a POLYLINE.
 fn add_line(alloc: Global, attribute: &Attribute, lines: &mut Vec<LineForm>) -> Result<(), Memory>
     ensures { OnOk result (lines_view lines.new.items ≡ lines_view lines.old.items
         ++ lines_of (attribute_of attribute.now)) }

@@ -24,8 +24,8 @@ pub fn is_far(circle: &Circle, p: Point, square: i64) -> bool
     !is_at_most_zero(circle.d, more)
 }
 
-/// The power of a point without its factor d. With d below 2^53, a and b below 2^80 and x and y
-/// below 2^29 it is below 2^119.
+// The power of a point without its factor d. With d below 2^53, a and b below 2^80 and x and y
+// below 2^29 it is below 2^119.
 fn power_over(circle: &Circle, p: Point) -> i128
     requires { AreNear (2 ^ 28) circle.now.s p }
     ensures value { circle.now.d *ℤ result ≡ power (half_arc circle.now) (point p) }
@@ -38,7 +38,7 @@ fn power_over(circle: &Circle, p: Point) -> i128
     determinant(circle.d, ahead, 1, far)
 }
 
-/// a - b, below 2^29
+// a - b, below 2^29
 fn offset(a: i64, b: i64) -> i128
     requires { IsNear (2 ^ 29) b a }
     ensures value { result ≡ a -ℤ b }
@@ -58,7 +58,7 @@ pub fn are_clear(circle: &Circle, outer: &[Point]) -> bool
     count == 0 || is_clear_of_from(circle, outer[0]) && is_clear_of_to(circle, outer[count - 1])
 }
 
-/// With a and b below 2^80 and x and y below 2^29 the sum is below 2^110.
+// With a and b below 2^80 and x and y below 2^29 the sum is below 2^110.
 fn is_clear_of_from(circle: &Circle, p: Point) -> bool
     requires { AreNear (2 ^ 28) circle.now.s p }
     ensures { IsTrue result ↔ (ahead_of_from (half_arc circle.now) p ≤ℤ pos 0) }
@@ -69,7 +69,7 @@ fn is_clear_of_from(circle: &Circle, p: Point) -> bool
     is_at_most_zero(circle.d, ahead)
 }
 
-/// With the centre's numbers below 2^82 the sum is below 2^112.
+// With the centre's numbers below 2^82 the sum is below 2^112.
 fn is_clear_of_to(circle: &Circle, p: Point) -> bool
     requires { AreNear (2 ^ 28) circle.now.s p }
     ensures { IsTrue result ↔ (ahead_of_to (half_arc circle.now) p ≤ℤ pos 0) }
@@ -84,7 +84,7 @@ fn is_clear_of_to(circle: &Circle, p: Point) -> bool
     is_at_most_zero(circle.d, ahead)
 }
 
-/// 2 d times a coordinate of the centre, seen from a point that is `way` further.
+// 2 d times a coordinate of the centre, seen from a point that is `way` further.
 fn seen_from_end(d: i128, at: i128, way: i128) -> i128
     requires d { IsWithin (2 ^ 53) d }
     requires at { IsWithin (2 ^ 80) at }

@@ -16,8 +16,8 @@ use arc_predicates::Circle;
 use plane::Point;
 use straight_predicates::{Turn, turn};
 
-/// What the corners may differ by from the half arc's first point in each coordinate: less than
-/// this.
+// What the corners may differ by from the half arc's first point in each coordinate: less than
+// this.
 const NEAR: u64 = 268_435_456;
 
 /// Whether the half arc is less than half a turn. With differences below 2^26 the sum is below
@@ -66,7 +66,7 @@ fn is_near(p: Point, q: Point) -> bool
     p.x.abs_diff(q.x) < NEAR && p.y.abs_diff(q.y) < NEAR
 }
 
-/// Whether the corners rise along the chord, and the outer edges are where they should be.
+// Whether the corners rise along the chord, and the outer edges are where they should be.
 fn are_in_place(circle: &Circle, inner: &[Point], outer: &[Point]) -> bool
     requires same { length inner.now ≡ length outer.now }
     requires inner { Each (AreNear (2 ^ 28) circle.now.s) inner.now }
@@ -78,7 +78,7 @@ fn are_in_place(circle: &Circle, inner: &[Point], outer: &[Point]) -> bool
     are_bays(circle, inner, outer) && are_outside(circle, inner, outer)
 }
 
-/// Whether along the chord the corners rise, each outer one on the outer side of its inner edge.
+// Whether along the chord the corners rise, each outer one on the outer side of its inner edge.
 fn are_bays(circle: &Circle, inner: &[Point], outer: &[Point]) -> bool
     requires same { length inner.now ≡ length outer.now }
     requires inner { Each (AreNear (2 ^ 28) circle.now.s) inner.now }
@@ -115,7 +115,7 @@ fn rises(circle: &Circle, before: Point, outer: Point, after: Point) -> bool
     along(circle, before) < middle && middle < along(circle, after)
 }
 
-/// How far p lies along the chord. With the chord below 2^26 it is below 2^55.
+// How far p lies along the chord. With the chord below 2^26 it is below 2^55.
 fn along(circle: &Circle, p: Point) -> i64
     requires { AreNear (2 ^ 28) circle.now.s p }
     ensures { result ≡ along (half_arc circle.now) (point p) }
@@ -127,7 +127,7 @@ fn along(circle: &Circle, p: Point) -> i64
     dot(wide, tall, right, above)
 }
 
-/// Whether r is strictly on the outer side of the line from p to q, as the half arc goes.
+// Whether r is strictly on the outer side of the line from p to q, as the half arc goes.
 fn is_outward(circle: &Circle, p: Point, q: Point, r: Point) -> bool
     requires p { AreNear (2 ^ 28) circle.now.s p }
     requires q { AreNear (2 ^ 28) circle.now.s q }
@@ -150,8 +150,8 @@ fn outward(circle: &Circle, p: Point, q: Point, r: Point) -> Turn
     }
 }
 
-/// Whether the outer edges are outside, the first and the last but for the ends of the half arc,
-/// and each inner corner between two outer ones is on the inner side of their edge.
+// Whether the outer edges are outside, the first and the last but for the ends of the half arc,
+// and each inner corner between two outer ones is on the inner side of their edge.
 fn are_outside(circle: &Circle, inner: &[Point], outer: &[Point]) -> bool
     requires same { length inner.now ≡ length outer.now }
     requires inner { Each (AreNear (2 ^ 28) circle.now.s) inner.now }
@@ -161,7 +161,7 @@ fn are_outside(circle: &Circle, inner: &[Point], outer: &[Point]) -> bool
     are_next(circle, inner, outer) && are_clear(circle, outer)
 }
 
-/// Whether each inner corner is on the inner side of the outer edge over it, and that edge outside.
+// Whether each inner corner is on the inner side of the outer edge over it, and that edge outside.
 fn are_next(circle: &Circle, inner: &[Point], outer: &[Point]) -> bool
     requires same { length inner.now ≡ length outer.now }
     requires inner { Each (AreNear (2 ^ 28) circle.now.s) inner.now }
@@ -186,7 +186,7 @@ fn is_next(circle: &Circle, outer: Point, inner: Point, next: Point) -> bool
     is_outward(circle, next, outer, inner) && is_outside(circle, outer, next)
 }
 
-/// Whether the edge of two outer points is outside.
+// Whether the edge of two outer points is outside.
 fn is_outside(circle: &Circle, outer: Point, next: Point) -> bool
     requires outer { AreNear (2 ^ 28) circle.now.s outer }
     requires next { AreNear (2 ^ 28) circle.now.s next }
@@ -198,7 +198,7 @@ fn is_outside(circle: &Circle, outer: Point, next: Point) -> bool
     is_far(circle, outer, square) && is_far(circle, next, square)
 }
 
-/// With the coordinates' differences below 2^29 the square is below 2^59.
+// With the coordinates' differences below 2^29 the square is below 2^59.
 fn distance(p: Point, q: Point) -> i64
     requires { AreNear (2 ^ 29) p q }
     ensures value { result ≡ distance p q }

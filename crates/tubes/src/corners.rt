@@ -53,7 +53,7 @@ pub fn foreign_corner(
     }
 }
 
-/// Whether no curve is a half arc.
+// Whether no curve is a half arc.
 fn are_straights(curves: &[Curve]) -> bool
     ensures { IsTrue result ↔ AreAllStraight curves.now }
 {
@@ -65,7 +65,7 @@ fn are_straights(curves: &[Curve]) -> bool
     true
 }
 
-/// By event a half arc, plus 1, whose tube has a corner there that is no end of it; else 0.
+// By event a half arc, plus 1, whose tube has a corner there that is no end of it; else 0.
 fn tubes_by_event(
     alloc: Global,
     drawing: &Drawing,
@@ -123,8 +123,8 @@ fn is_end(curve: &Curve, at: Point) -> bool
     curve.from == at || curve.to == at
 }
 
-/// The first event at which an edge ends that is not of the tube with a corner there; else the
-/// number of the events.
+// The first event at which an edge ends that is not of the tube with a corner there; else the
+// number of the events.
 fn first_shared(tubes: &[u32], owners: &[Owner], low: &[u32], high: &[u32], events: u32) -> u32
     requires size { length tubes.now ≡ events }
     requires low_count { length low.now ≡ length owners.now }
@@ -142,7 +142,7 @@ fn first_shared(tubes: &[u32], owners: &[Owner], low: &[u32], high: &[u32], even
     first
 }
 
-/// The event, if it comes before the first so far and the tube with a corner there is another's.
+// The event, if it comes before the first so far and the tube with a corner there is another's.
 fn sooner(tubes: &[u32], curve: u32, event: u32, first: u32) -> u32
     requires { event < length tubes.now }
     ensures { IsSooner (IsOther (slice_index_or tubes.now event 0) curve) event first result }
@@ -154,7 +154,7 @@ fn sooner(tubes: &[u32], curve: u32, event: u32, first: u32) -> u32
     }
 }
 
-/// Whether it is the number of a tube, and not that of the curve's own.
+// Whether it is the number of a tube, and not that of the curve's own.
 fn is_other(tube: u32, curve: u32) -> bool
     ensures { IsTrue result ↔ IsOther tube curve }
 {

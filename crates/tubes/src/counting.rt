@@ -30,7 +30,7 @@ pub fn count(circle: &Circle, span: &Span, diameter: u64) -> Option<u32>
     }
 }
 
-/// The greatest bits first, from the greatest that may be inside down.
+// The greatest bits first, from the greatest that may be inside down.
 fn with_bits(circle: &Circle, span: &Span, window: &Window) -> u32
     requires short { IsShort circle.now.s }
     requires near { AreNear (2 ^ 31) circle.now.s span.now.p }
@@ -48,7 +48,7 @@ fn with_bits(circle: &Circle, span: &Span, window: &Window) -> u32
     k
 }
 
-/// `is_inside`, by what is known where that says it.
+// `is_inside`, by what is known where that says it.
 fn is_inside_by(circle: &Circle, span: &Span, window: &Window, k: u32) -> bool
     requires k { k < 2 ^ 27 }
     requires short { IsShort circle.now.s }
@@ -65,7 +65,7 @@ fn is_inside_by(circle: &Circle, span: &Span, window: &Window, k: u32) -> bool
     }
 }
 
-/// What two tests near the guess say.
+// What two tests near the guess say.
 fn window(circle: &Circle, span: &Span, diameter: u64) -> Window
     requires short { IsShort circle.now.s }
     requires near { AreNear (2 ^ 31) circle.now.s span.now.p }
@@ -83,8 +83,8 @@ fn window(circle: &Circle, span: &Span, diameter: u64) -> Window
     }
 }
 
-/// The two tests: of a number near the guess, and of the one two above where that is inside, else
-/// of the one two below.
+// The two tests: of a number near the guess, and of the one two above where that is inside, else
+// of the one two below.
 fn bounds(circle: &Circle, span: &Span, guess: u32) -> Bounds
     requires guess { guess < 2 ^ 26 }
     requires short { IsShort circle.now.s }
@@ -114,7 +114,7 @@ fn bounds(circle: &Circle, span: &Span, guess: u32) -> Bounds
     }
 }
 
-/// Whether the point two units less than k from the middle is strictly inside the circle.
+// Whether the point two units less than k from the middle is strictly inside the circle.
 fn is_inside(circle: &Circle, span: &Span, k: u32) -> bool
     requires k { k < 2 ^ 27 }
     requires short { IsShort circle.now.s }

@@ -65,7 +65,7 @@ fn outer_facing(curve: &Curve, edge: &Edge) -> Facing
     }
 }
 
-/// Whether the tube lies below an edge of its inner chain.
+// Whether the tube lies below an edge of its inner chain.
 fn is_under(curve: &Curve, edge: &Edge) -> bool
     requires { IsSmall curve.now edge.now }
     ensures { result ≡ is_under curve.now edge.now }
@@ -77,7 +77,7 @@ fn is_under(curve: &Curve, edge: &Edge) -> bool
     }
 }
 
-/// Whether the third point is on the left of the way from the half arc's first end to the other.
+// Whether the third point is on the left of the way from the half arc's first end to the other.
 fn third_is_left(curve: &Curve) -> bool
     requires { HasCircle (arc curve.now) }
     ensures { result ≡ third_is_left curve.now }
@@ -85,8 +85,8 @@ fn third_is_left(curve: &Curve) -> bool
     matches!(turn(curve.from, curve.to, curve.third), Turn::Left)
 }
 
-/// Whether the edge goes the way of the chord, from its low end to its high one. With the chord
-/// below 2^26 and the edge below 2^29 the sum is below 2^56.
+// Whether the edge goes the way of the chord, from its low end to its high one. With the chord
+// below 2^26 and the edge below 2^29 the sum is below 2^56.
 fn runs_on(curve: &Curve, edge: &Edge) -> bool
     requires { IsSmall curve.now edge.now }
     ensures { result ≡ runs_on curve.now edge.now }

@@ -3,13 +3,13 @@ ghost use Rattle.std.specs.Prelude.{◌<◌, ◌^◌};
 
 use arc_predicates::Circle;
 
-/// Circles that are wider are as good as straight between two points of a tube.
+// Circles that are wider are as good as straight between two points of a tube.
 const FLAT: u128 = 1_152_921_504_606_846_976;
 
-/// Guesses stay below the greatest count.
+// Guesses stay below the greatest count.
 const MOST: u64 = 33_554_432;
 
-/// The height of an arc is found to a unit or two in so many steps.
+// The height of an arc is found to a unit or two in so many steps.
 const RISES: u32 = 6;
 
 /// About the diameter of the circle: its centre is (a / 2 d, b / 2 d) from its first point. Of wide
@@ -49,7 +49,7 @@ pub fn guess(diameter: u64, length: u64) -> u32
     height.saturating_sub(1).min(MOST) as u32
 }
 
-/// By Newton's steps from below, while they rise.
+// By Newton's steps from below, while they rise.
 fn height(diameter: u64, square: u64, flat: u64) -> u64 {
     let mut height = flat;
     for _ in 0..RISES {

@@ -32,7 +32,7 @@ pub fn edge_list(alloc: Global, drawing: &Drawing, level: u8) -> Result<Option<E
     Ok(Some(EdgeList { edges, owners }))
 }
 
-/// Adds the edges of a curve, and says whether it has any: a half arc without a tube has none.
+// Adds the edges of a curve, and says whether it has any: a half arc without a tube has none.
 fn add_curve(
     alloc: Global,
     edges: &mut Vec<Edge>,
@@ -60,7 +60,7 @@ fn add_curve(
     }
 }
 
-/// Adds the two chains of the half arc's tube, if it has one.
+// Adds the two chains of the half arc's tube, if it has one.
 fn add_half_arc(
     alloc: Global,
     edges: &mut Vec<Edge>,
@@ -93,7 +93,7 @@ fn add_half_arc(
     Ok(true)
 }
 
-/// Adds the edges from a point through others in turn.
+// Adds the edges from a point through others in turn.
 fn add_chain(
     edges: &mut Vec<Edge>,
     owners: &mut Vec<Owner>,

@@ -3,7 +3,7 @@ ghost use Rattle.std.specs.Prelude.{◌≡◌, ◌<◌, ◌^◌, ◌+ℤ◌, ◌
 ghost use Rattle.plane.specs.Numbers.{IsNear, IsWithin};
 ghost use Rattle.tubes.specs.HalfArcTubes.{moved, root};
 
-/// The square of the number after it has 64 bits.
+// The square of the number after it has 64 bits.
 const MOST: u64 = 4_294_967_294;
 
 /// a - b, below 2^29

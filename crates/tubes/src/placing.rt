@@ -26,7 +26,7 @@ pub fn span_between(p: Point, q: Point) -> Option<Span>
     Some(Span { p, q, length })
 }
 
-/// With the coordinates' differences below 2^28 the sum of their squares is below 2^57.
+// With the coordinates' differences below 2^28 the sum of their squares is below 2^57.
 fn distance(p: Point, q: Point) -> i64
     requires { AreNear (2 ^ 28) p q }
     ensures { result ≡ pos (whole_distance p q) }
@@ -52,7 +52,7 @@ pub fn beside(circle: &Circle, span: &Span, n: i64) -> Point
     }
 }
 
-/// The way from a to b, or back where the circle's three points turn right.
+// The way from a to b, or back where the circle's three points turn right.
 fn turned(circle: &Circle, a: i64, b: i64) -> i64
     requires { IsNear (2 ^ 28) a b }
     ensures value { result

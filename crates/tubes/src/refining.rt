@@ -37,7 +37,7 @@ pub fn inner_points(
     Ok(Some(inner))
 }
 
-/// The points with a new one between every two neighbours.
+// The points with a new one between every two neighbours.
 fn refine(
     alloc: Global,
     circle: &Circle,
@@ -64,7 +64,7 @@ fn refine(
     Ok(Some(made))
 }
 
-/// The point two units less than the count from the middle of two neighbours.
+// The point two units less than the count from the middle of two neighbours.
 fn middle(circle: &Circle, diameter: u64, p: Point, q: Point) -> Option<Point>
     requires short { IsShort circle.now.s }
     requires near { AreNear (2 ^ 31) circle.now.s p }
@@ -103,8 +103,8 @@ pub fn outer_points(
     Ok(Some(outer))
 }
 
-/// The point over two neighbours, four units and half the count more than twice the count from
-/// their middle.
+// The point over two neighbours, four units and half the count more than twice the count from
+// their middle.
 fn over(circle: &Circle, diameter: u64, p: Point, q: Point) -> Option<Point>
     requires short { IsShort circle.now.s }
     requires near { AreNear (2 ^ 31) circle.now.s p }

@@ -47,8 +47,8 @@ pub fn rest_faces(alloc: Global, drawing: &Drawing, out: &[bool]) -> Result<Draw
     }
 }
 
-/// The same by a complete run of the edges that stay, which are freed when the points are located,
-/// and the events when the mesh is made.
+// The same by a complete run of the edges that stay, which are freed when the points are located,
+// and the events when the mesh is made.
 fn faces_of_run(
     alloc: Global,
     drawing: &Drawing,

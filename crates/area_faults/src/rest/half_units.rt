@@ -74,7 +74,7 @@ fn objects_in_halves(alloc: Global, drawing: &Drawing) -> Result<Vec<Point>, Mem
     Ok(points)
 }
 
-/// The middle between the two ends of a curve.
+// The middle between the two ends of a curve.
 fn middle_in_halves(curve: &Curve) -> Point
     requires { IsWritten curve.now }
     ensures { result ≡ sum curve.now }

@@ -29,7 +29,7 @@ pub(super) fn labelled_run(alloc: Global, edges: usize, swept: Swept) -> Result<
     Ok(labelled)
 }
 
-/// The cells of a run, whose events are freed.
+// The cells of a run, whose events are freed.
 fn cells_alone(swept: Swept) -> Vec<Cell>
     ensures { result.items ≡ swept.cells.items }
 {

@@ -42,7 +42,7 @@ pub(super) fn open_faces(
     Ok(marks)
 }
 
-/// Opens the face in which the place lies, if it is in one.
+// Opens the face in which the place lies, if it is in one.
 fn open_face(marks: &mut [bool], mesh: &Mesh, place: &Place)
     requires known { IsKnownPlace (size mesh.now) place.now }
     requires below { (h : ℕ) → h < size mesh.now → face_of mesh.now h < length marks.old }
@@ -54,7 +54,7 @@ fn open_face(marks: &mut [bool], mesh: &Mesh, place: &Place)
     }
 }
 
-/// The face over an edge, 0 where there is none.
+// The face over an edge, 0 where there is none.
 fn face_over(mesh: &Mesh, lower: Option<u32>) -> u32
     requires { IsAmong (size mesh.now) lower }
     ensures { result ≡ face_over mesh.now.face lower }
@@ -121,8 +121,8 @@ pub(super) fn curve_faces(
     Ok(faces)
 }
 
-/// The faces on both sides of a curve, by those of its edge. What is over the edge is on the left
-/// where the curve runs to the edge's high end.
+// The faces on both sides of a curve, by those of its edge. What is over the edge is on the left
+// where the curve runs to the edge's high end.
 fn sides_of(curve: &Curve, mesh: &Mesh, edge: u32) -> CurveFaces
     requires { over_of edge < size mesh.now }
     ensures { AreSidesOf curve.now mesh.now.face edge result }

@@ -9,10 +9,10 @@ use Rattle.plane.specs.declared.kinds.Placed.{Placed}
 use Rattle.tubes.specs.Settled.{Breaks, corners, edges, missing}
 use Rattle.level_breaks.specs.LevelLists.{AreAlone, AreBreaksMarked}
 use Rattle.level_breaks.proofs.Unbroken.{breaks_back}
-use Rattle.area_search.specs.declared.unsettled.rest.Rest.{Rest}
-use Rattle.area_search.specs.declared.unsettled.standing.Standing.{Standing}
-use Rattle.area_search.specs.declared.unsettled.standing.Standing.TheVariants.{Alone, Tried}
-use Rattle.area_search.specs.declared.unsettled.standing.Standing.TheVariants.{Waiting, Seen}
+use Rattle.area_search.specs.declared.unsettled.rest.SubDrawing.{SubDrawing}
+use Rattle.area_search.specs.declared.unsettled.standing.SearchState.{SearchState}
+use Rattle.area_search.specs.declared.unsettled.standing.SearchState.TheVariants.{Alone, Tried}
+use Rattle.area_search.specs.declared.unsettled.standing.SearchState.TheVariants.{Waiting, Seen}
 use Rattle.area_search.specs.Unsettled.Alone.{AreApart, AreFirstTo, AreLeftTo, IsBare, IsFirst}
 use Rattle.area_search.specs.Unsettled.Alone.{IsSeen, after_leaving, after_settling, is_alone}
 use Rattle.area_search.specs.Unsettled.Alone.{is_left_out, standing_of}
@@ -37,25 +37,25 @@ at_map_within f (x ∷ xs) zero b a l = refl
 at_map_within f (x ∷ xs) (suc i) b a l = at_map_within f xs i b a (omega (arith, l))
 
 -- ---- how curves stood before
-was_alone : (s : Standing) → after_settling s ≡ Alone → s ≡ Alone
+was_alone : (s : SearchState) → after_settling s ≡ Alone → s ≡ Alone
 was_alone Alone e = refl
 was_alone Tried e = cc
 was_alone Waiting e = cc
 was_alone Seen e = cc
 
-was_seen : (s : Standing) → IsSeen (after_settling s) → IsSeen s ⊎ (s ≡ Tried)
+was_seen : (s : SearchState) → IsSeen (after_settling s) → IsSeen s ⊎ (s ≡ Tried)
 was_seen Alone h = inl tt
 was_seen Tried h = inr refl
 was_seen Waiting h = absurd h
 was_seen Seen h = inl tt
 
-left_alone : (s : Standing) → after_leaving s ≡ Alone → s ≡ Alone
+left_alone : (s : SearchState) → after_leaving s ≡ Alone → s ≡ Alone
 left_alone Alone e = cc
 left_alone Tried e = cc
 left_alone Waiting e = cc
 left_alone Seen e = cc
 
-left_seen : (s : Standing) → IsSeen (after_leaving s) → IsSeen s
+left_seen : (s : SearchState) → IsSeen (after_leaving s) → IsSeen s
 left_seen Alone h = tt
 left_seen Tried h = absurd h
 left_seen Waiting h = absurd h
@@ -85,7 +85,7 @@ bare_breaks_none d i j n b (missing e h m) = n e
 bare_breaks_none d i j n b (edges m g h w) = let t = h.tube (record { there = h.there; kind = b.half_arc }) in b.no_tube t.0 t.1 t.2
 bare_breaks_none d i j n b (corners m g h w) = let t = h.tube (record { there = h.there; kind = b.half_arc }) in b.no_tube t.0 t.1 t.2
 
-pub apart_at_first : (d : Plan) (aside : List Bool) (ss : List Standing)
+pub apart_at_first : (d : Plan) (aside : List Bool) (ss : List SearchState)
     → AreFirstTo d aside (length d.curves) ss → AreBreaksMarked d 5 aside → AreApart d ss
 apart_at_first d aside ss f marked = record { size = f.size; apart = λ i j n li lj ai sj b. by i j n li lj b ((f.each i li).alone ai) ((f.each j lj).seen sj) }
   where
@@ -99,7 +99,7 @@ apart_at_first d aside ss f marked = record { size = f.size; apart = λ i j n li
     by i j n li lj b u (inr v) = bare_breaks_none d i j n v b
 
 -- one curve more
-pub first_more : (d : Plan) (aside : List Bool) (k : ℕ) (xs ys : List Standing) (s : Standing)
+pub first_more : (d : Plan) (aside : List Bool) (k : ℕ) (xs ys : List SearchState) (s : SearchState)
     → AreFirstTo d aside k xs → ys ≡ xs ++ s ∷ [] → IsFirst (curve d k) (mark_of aside k) s
     → AreFirstTo d aside (k + 1) ys
 first_more d aside k xs ys s f e h = record {
@@ -107,7 +107,7 @@ first_more d aside k xs ys s f e h = record {
   each = one_more (λ i t. IsFirst (curve d i) (mark_of aside i) t) xs ys s Alone k f.size e f.each h;
 }
 
-pub left_more : (old : List Standing) (k : ℕ) (xs ys : List Standing) (s : Standing)
+pub left_more : (old : List SearchState) (k : ℕ) (xs ys : List SearchState) (s : SearchState)
     → AreLeftTo old k xs → ys ≡ xs ++ s ∷ []
     → (s ≡ standing_of old k) ⊎ (s ≡ after_leaving (standing_of old k)) → AreLeftTo old (k + 1) ys
 left_more old k xs ys s f e h = record {
@@ -116,14 +116,14 @@ left_more old k xs ys s f e h = record {
 }
 
 -- ---- after a drawing that the last level settles
-module _ (d : Plan) (ss next : List Standing) (marks : List Bool) (points : List Placed) (r : Rest) (is : IsRest d marks points r) (out : marks ≡ map is_left_out ss) (after : next ≡ map after_settling ss)
+module _ (d : Plan) (ss next : List SearchState) (marks : List Bool) (points : List Placed) (r : SubDrawing) (is : IsRest d marks points r) (out : marks ≡ map is_left_out ss) (after : next ≡ map after_settling ss)
     (law : (i j a b : ℕ) → a < length (plan r.drawing).curves → b < length (plan r.drawing).curves → curve d i ≡ curve (plan r.drawing) a → curve d j ≡ curve (plan r.drawing) b → (i ≡ j → ⊥) → (a ≡ b → ⊥) → Breaks d 5 i j → Breaks (plan r.drawing) 5 a b)
     (none : HasNoBreak (plan r.drawing)) (a : AreApart d ss) where
   mark_at : (i : ℕ) → mark_of marks i ≡ is_left_out (standing_of ss i)
   mark_at i = ap (λ (ms : List Bool). mark_of ms i) out ∙ at_map is_left_out ss i Alone
 
   next_at : (i : ℕ) → standing_of next i ≡ after_settling (standing_of ss i)
-  next_at i = ap (λ (ts : List Standing). standing_of ts i) after ∙ at_map after_settling ss i Alone
+  next_at i = ap (λ (ts : List SearchState). standing_of ts i) after ∙ at_map after_settling ss i Alone
 
   in_drawing : (i j : ℕ) → i < j → AreUnmarked d marks i j → Breaks d 5 i j → ⊥
   in_drawing i j l p b = no_break d marks points r is law none i j l p.second b p.mark_first p.mark_second
@@ -146,7 +146,7 @@ module _ (d : Plan) (ss next : List Standing) (marks : List Bool) (points : List
   }
 
 -- ---- after some were near others
-pub apart_when_left : (d : Plan) (ss next : List Standing) → AreLeftTo ss (length ss) next
+pub apart_when_left : (d : Plan) (ss next : List SearchState) → AreLeftTo ss (length ss) next
     → AreApart d ss → AreApart d next
 apart_when_left d ss next l a = record { size = l.size ∙ a.size; apart = λ i j n li lj ai sj b. a.apart i j n li lj (alone i li ai) (seen j lj sj) b }
   where
@@ -160,7 +160,7 @@ apart_when_left d ss next l a = record { size = l.size ∙ a.size; apart = λ i 
     seen j m h = elim (l.each j (within j m)) as (λ z. IsSeen (standing_of ss j)) [ inl q ↦ subst IsSeen q h | inr q ↦ left_seen (standing_of ss j) (subst IsSeen q h) ]
 
 -- ---- in the end
-pub alone_in_the_end : (d : Plan) (ss : List Standing) (marks : List Bool) → AreApart d ss
+pub alone_in_the_end : (d : Plan) (ss : List SearchState) (marks : List Bool) → AreApart d ss
     → All IsSeen ss → marks ≡ map is_alone ss → AreAlone d 5 marks
 alone_in_the_end d ss marks a seen e = λ i j l m b.
     let li : i < length d.curves = omega (arith, l, m) in
@@ -176,7 +176,7 @@ alone_in_the_end d ss marks a seen e = λ i j l m b.
         → is_alone (standing_of ss i) ≡ false
     not_alone i j n li lj b = by (standing_of ss i) refl
       where
-        by : (s : Standing) → standing_of ss i ≡ s → is_alone (standing_of ss i) ≡ false
+        by : (s : SearchState) → standing_of ss i ≡ s → is_alone (standing_of ss i) ≡ false
         by Alone q = absurd (a.apart i j n li lj q (seen j Alone (within j lj)) b)
         by Tried q = ap is_alone q
         by Waiting q = ap is_alone q

@@ -19,7 +19,7 @@ use Rattle.near_pairs.specs.LeastPairs.{IsLess}
 use Rattle.meetings.specs.CurvePairs.{HaveHalfArc, IsArcPair}
 use Rattle.tubes.specs.Settled.{Breaks}
 use Rattle.area_search.specs.declared.points.OnCurve.{OnCurve}
-use Rattle.area_search.specs.declared.unsettled.rest.Rest.{Rest}
+use Rattle.area_search.specs.declared.unsettled.rest.SubDrawing.{SubDrawing}
 use Rattle.area_search.specs.Answers.{HasNoBadPair}
 use Rattle.area_search.specs.Unsettled.CurvePoints.{AreNumbers, IsFirstOnCurve, IsLeastOf}
 use Rattle.area_search.specs.Unsettled.CurvePoints.{LiesOnMarked, LiesOnStraight}
@@ -84,7 +84,7 @@ left_drawn low high all lent curves numbers lent_numbers e f known are drawn k x
     subst (IsDrawn low high) (sym (get_same curves k x no_curve l ∙ at.each k m)) (drawn (slice_index numbers k) no_curve (known k m))
 
 -- ---- curves without which the last level settles the drawing
-module _ (d : Plan) (marks : List Bool) (points : List Placed) (r : Rest) (is : IsRest d marks points r) where
+module _ (d : Plan) (marks : List Bool) (points : List Placed) (r : SubDrawing) (is : IsRest d marks points r) where
   abbrev e : Plan
   e = plan r.drawing
 

@@ -11,9 +11,9 @@ use Rattle.level_breaks.specs.LevelLists.{AreBreaksMarked}
 use Rattle.tubes.specs.DrawnEdges.{nth_curve}
 use Rattle.tubes.specs.Settled.{Breaks}
 use Rattle.area_search.specs.declared.points.OnCurve.{OnCurve}
-use Rattle.area_search.specs.declared.unsettled.rest.Rest.{Rest}
-use Rattle.area_search.specs.declared.unsettled.settling.Settling.{Settling}
-use Rattle.area_search.specs.declared.unsettled.settling.Settling.TheVariants as settling
+use Rattle.area_search.specs.declared.unsettled.rest.SubDrawing.{SubDrawing}
+use Rattle.area_search.specs.declared.unsettled.settling.LastLevel.{LastLevel}
+use Rattle.area_search.specs.declared.unsettled.settling.LastLevel.TheVariants as settling
 use Rattle.area_search.specs.Answers.{HasNoBadPair}
 use Rattle.area_search.specs.Unsettled.CurvePoints.{AreMarkedTo, IsFirstOnCurve, IsLeastOf}
 use Rattle.area_search.specs.Unsettled.CurvePoints.{LiesOnMarked}
@@ -48,7 +48,7 @@ pub record AreCurvesAt (all : List Curve) (numbers : List ℕ) (k : ℕ)
   pub each : (m : ℕ) → m < k → nth_curve curves m ≡ nth_curve all (slice_index numbers m)
 
 -- The drawing of the curves that are not marked, with these points, and the numbers of the curves.
-pub record IsRest (d : Plan) (marks : List Bool) (points : List Placed) (r : Rest) : Type 0 where
+pub record IsRest (d : Plan) (marks : List Bool) (points : List Placed) (r : SubDrawing) : Type 0 where
   pub numbers : AreMarkedTo marks false (length d.curves) r.numbers.items
   pub curves : AreCurvesAt d.curves r.numbers.items (length r.numbers.items)
       (plan r.drawing).curves
@@ -60,7 +60,7 @@ HasNoBreak d = (i j : ℕ) → Breaks d 5 i j → ⊥
 
 -- What the last level shows: no two curves are bad or break it, and the first point on a curve, if
 -- there is one; or nothing.
-abbrev pub IsSettling : Plan → Settling → Type 0
+abbrev pub IsSettling : Plan → LastLevel → Type 0
 IsSettling d (settling.Settled on) = HasNoBadPair d × HasNoBreak d × IsFirstOnCurve d on
 IsSettling d (settling.Near near) = ⊤
 IsSettling d settling.Unsettled = ⊤

@@ -14,8 +14,8 @@ use plane::Drawing;
 use ports::Memory;
 use std::alloc::Global;
 
-/// Of a drawing of so many curves or fewer the pairs are searched for the least bad one. In larger
-/// ones that could take the square of their number.
+// Of a drawing of so many curves or fewer the pairs are searched for the least bad one. In larger
+// ones that could take the square of their number.
 const FEW_CURVES: usize = 2048;
 
 /// The answer to a drawing in which this pair is bad. In a drawing of few curves it is two

@@ -39,7 +39,7 @@ fn curve_at(owners: &[Owner], edge: u32) -> u32
     owners[edge as usize].curve
 }
 
-/// What the two curves show, whose edges are bad.
+// What the two curves show, whose edges are bad.
 fn shown_by_curves(drawing: &Drawing, pair: CurvePair) -> Shown
     requires { AreOfDrawing (plan drawing.now) (Some pair) }
     ensures { (level : ℕ) → (IsSettledAt (plan drawing.now) level → ⊥)
@@ -52,7 +52,7 @@ fn shown_by_curves(drawing: &Drawing, pair: CurvePair) -> Shown
     }
 }
 
-/// Two curves in order, where they are two.
+// Two curves in order, where they are two.
 fn in_order(one: u32, other: u32) -> Option<CurvePair>
     ensures order { IfSome result (λ p. p.first < p.second) }
     ensures second { IfSome result (λ p. (p.second ≡ one) ⊎ (p.second ≡ other)) }

@@ -51,8 +51,8 @@ pub(crate) fn shown_by_sweep(alloc: Global, drawing: &Drawing, level: u8) -> Res
     }
 }
 
-/// What the level shows of the drawing, by its edges. Where two of them are bad, their curves are
-/// tested.
+// What the level shows of the drawing, by its edges. Where two of them are bad, their curves are
+// tested.
 fn shown_by_list(
     alloc: Global,
     drawing: &Drawing,
@@ -78,7 +78,7 @@ fn shown_by_list(
     }
 }
 
-/// What the level shows of the drawing, where no two of its edges are bad.
+// What the level shows of the drawing, where no two of its edges are bad.
 fn shown_by_run(
     alloc: Global,
     drawing: &Drawing,

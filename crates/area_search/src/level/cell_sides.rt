@@ -67,7 +67,7 @@ fn unpaired_curve(cell: &Cell, facings: &[Facing], owners: &[Owner], firm: &[boo
     }
 }
 
-/// The second curve, where the first one is firm and the second is not; else the first one.
+// The second curve, where the first one is firm and the second is not; else the first one.
 fn not_firm(first: u32, second: u32, firm: &[bool]) -> u32 {
     if is_firm(first, firm) && !is_firm(second, firm) {
         second
@@ -92,7 +92,7 @@ fn is_paired(cell: &Cell, facings: &[Facing], owners: &[Owner]) -> bool
     tag_over(facings, owners, cell.lower.get()) == tag_under(facings, owners, cell.upper.get())
 }
 
-/// One more than the curve whose tube the side over an edge faces, 0 where it faces none.
+// One more than the curve whose tube the side over an edge faces, 0 where it faces none.
 fn tag_over(facings: &[Facing], owners: &[Owner], edge: Option<u32>) -> u32
     requires count { length owners.now ≡ length facings.now }
     requires curves { (e : ℕ) → e < length owners.now → (owner_at owners.now e).curve < 2 ^ 30 }
@@ -107,7 +107,7 @@ fn tag_over(facings: &[Facing], owners: &[Owner], edge: Option<u32>) -> u32
     }
 }
 
-/// The same of the side under an edge.
+// The same of the side under an edge.
 fn tag_under(facings: &[Facing], owners: &[Owner], edge: Option<u32>) -> u32
     requires count { length owners.now ≡ length facings.now }
     requires curves { (e : ℕ) → e < length owners.now → (owner_at owners.now e).curve < 2 ^ 30 }

@@ -100,9 +100,9 @@ pub(super) fn all_levels(alloc: Global, drawing: &Drawing) -> Result<LevelsShown
     Ok(LevelsShown::Unsettled(bad))
 }
 
-/// What is shown of a level that is the least one or follows one that does not settle the drawing:
-/// by the two curves whose edges were bad there, if they break this level too; else by a sweep. The
-/// only error is out of memory.
+// What is shown of a level that is the least one or follows one that does not settle the drawing:
+// by the two curves whose edges were bad there, if they break this level too; else by a sweep. The
+// only error is out of memory.
 fn shown_at(
     alloc: Global,
     drawing: &Drawing,

@@ -26,7 +26,7 @@ pub(crate) fn is_tube_missing(alloc: Global, drawing: &Drawing, level: u8) -> Re
     Ok(false)
 }
 
-/// Whether the curve is a half arc that has none of the two.
+// Whether the curve is a half arc that has none of the two.
 fn has_no_tube(alloc: Global, curve: &Curve, level: u8) -> Result<bool, Memory>
     requires level { level ≤ 5 }
     requires fit { IsFit curve.now }

@@ -54,7 +54,7 @@ fn pair_if_any(bad: Option<CurvePair>) -> Option<BadPair>
     }
 }
 
-/// The faces of a drawing by the least level that settles it.
+// The faces of a drawing by the least level that settles it.
 fn faces_of_level(
     alloc: Global,
     drawing: &Drawing,

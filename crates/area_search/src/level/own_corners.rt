@@ -34,7 +34,7 @@ pub(crate) fn are_corners_own(drawing: &Drawing, list: &EdgeList, events: &Event
     true
 }
 
-/// The same of the corners at one edge, where those at all edges before it are so.
+// The same of the corners at one edge, where those at all edges before it are so.
 fn has_own_corners(drawing: &Drawing, list: &EdgeList, events: &Events, number: usize) -> bool
     requires list { (level : ℕ) × IsTubedList (plan drawing.now) level list.now }
     requires there { number < length list.now.edges.items }
@@ -52,7 +52,7 @@ fn has_own_corners(drawing: &Drawing, list: &EdgeList, events: &Events, number: 
     }
 }
 
-/// Whether this end of an edge is an end of its curve, or such a corner.
+// Whether this end of an edge is an end of its curve, or such a corner.
 fn is_own_end(drawing: &Drawing, list: &EdgeList, events: &Events, number: usize, at: Point) -> bool
     requires list { (level : ℕ) × IsTubedList (plan drawing.now) level list.now }
     requires there { number < length list.now.edges.items }
@@ -73,7 +73,7 @@ fn is_own_end(drawing: &Drawing, list: &EdgeList, events: &Events, number: usize
     0 < number && is_other_at(list, number, number - 1, at)
 }
 
-/// Whether the other edge is one of the list, of the same curve, and ends at the point.
+// Whether the other edge is one of the list, of the same curve, and ends at the point.
 fn is_other_at(list: &EdgeList, number: usize, other: usize, at: Point) -> bool
     requires sizes { length list.now.owners.items ≡ length list.now.edges.items }
     requires there { number < length list.now.edges.items }
@@ -91,7 +91,7 @@ fn is_end(edge: &Edge, at: Point) -> bool
     edge.low == at || edge.high == at
 }
 
-/// Whether the search finds an event at the point, and two edges end or start there.
+// Whether the search finds an event at the point, and two edges end or start there.
 fn has_two_at(events: &Events, at: Point) -> bool
     ensures { IsTrue result → HasTwoAt events.now at }
 {

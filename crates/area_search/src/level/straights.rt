@@ -41,7 +41,7 @@ pub fn faces_of_straights(alloc: Global, drawing: &Drawing) -> Result<FacedDrawi
     }
 }
 
-/// The same, by the edges of level 0, which settles the drawing.
+// The same, by the edges of level 0, which settles the drawing.
 fn faces_of_list(alloc: Global, drawing: &Drawing, list: EdgeList) -> Result<FacedDrawing, Memory>
     requires few { length list.edges.items < 2 ^ 31 }
     requires list { IsTubedList (plan drawing.now) 0 list }
@@ -60,7 +60,7 @@ fn faces_of_list(alloc: Global, drawing: &Drawing, list: EdgeList) -> Result<Fac
     }
 }
 
-/// The same, by their run.
+// The same, by their run.
 fn faces_of_swept(
     alloc: Global,
     drawing: &Drawing,

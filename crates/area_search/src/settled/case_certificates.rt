@@ -58,7 +58,7 @@ pub(crate) fn certify_run(
     Ok(certificate)
 }
 
-/// The certificate of these parts at a level, with empty names, of the drawing itself.
+// The certificate of these parts at a level, with empty names, of the drawing itself.
 fn nameless(
     alloc: Global,
     level: u8,

@@ -67,7 +67,7 @@ fn name_all(
     }
 }
 
-/// Names the two half-edges of an edge.
+// Names the two half-edges of an edge.
 fn name_edge(
     notes: &mut [HalfNote],
     edge: usize,
@@ -100,7 +100,7 @@ fn name_edge(
     name(notes, 2 * edge + 1, points, high, owners);
 }
 
-/// Names a half-edge that faces the tube of this curve, or none.
+// Names a half-edge that faces the tube of this curve, or none.
 fn name(notes: &mut [HalfNote], half: usize, points: u32, tube: Option<u32>, owners: &[u32])
     requires points { points < 2 ^ 31 }
     requires curve { IsCurveNumber tube }

@@ -17,8 +17,8 @@ use ports::Memory;
 use std::alloc::Global;
 use tubes::{Facing, Owner, Part};
 
-/// For each curve, whether a point lies in its tube inside the circle, and whether one lies there
-/// outside.
+// For each curve, whether a point lies in its tube inside the circle, and whether one lies there
+// outside.
 #[derive(Drop)]
 struct Chains {
     inner: Vec<bool>,
@@ -53,7 +53,7 @@ pub(crate) fn roots_of_case(
     Ok(roots)
 }
 
-/// The chains beside which a point lies.
+// The chains beside which a point lies.
 fn chains_of(alloc: Global, curves: usize, spots: &[Spot]) -> Result<Chains, Memory>
     requires tubes { All (IsSpotIn curves) spots.now }
     ensures { IfOk result (AreChains spots.now (length spots.now) curves) }
@@ -68,7 +68,7 @@ fn chains_of(alloc: Global, curves: usize, spots: &[Spot]) -> Result<Chains, Mem
     Ok(chains)
 }
 
-/// One point more.
+// One point more.
 fn add_chain(chains: &mut Chains, spots: &[Spot], point: usize, curves: usize)
     requires there { point < length spots.now }
     requires tube { IsSpotIn curves (spot_at spots.now point) }
@@ -85,7 +85,7 @@ fn add_chain(chains: &mut Chains, spots: &[Spot], point: usize, curves: usize)
     }
 }
 
-/// Marks the curve of the point.
+// Marks the curve of the point.
 fn mark(marks: &mut [bool], curve: u32, spots: &[Spot], point: usize, inside: bool)
     requires there { point < length spots.now }
     requires known { curve < length marks.old }
@@ -100,7 +100,7 @@ fn mark(marks: &mut [bool], curve: u32, spots: &[Spot], point: usize, inside: bo
     marks[curve as usize] = true;
 }
 
-/// The half-edges of all edges of tubes that are roots.
+// The half-edges of all edges of tubes that are roots.
 fn add_tubes(
     roots: &mut Vec<HalfEdgeId>,
     facings: &[Facing],
@@ -123,7 +123,7 @@ fn add_tubes(
     Ok(())
 }
 
-/// Whether a point lies on the side of the edge's chain.
+// Whether a point lies on the side of the edge's chain.
 fn is_marked(chains: &Chains, owner: &Owner) -> bool
     requires inner { owner.now.curve < length chains.now.inner.items }
     requires outer { owner.now.curve < length chains.now.outer.items }
@@ -136,7 +136,7 @@ fn is_marked(chains: &Chains, owner: &Owner) -> bool
     }
 }
 
-/// The half-edge that faces the tube, and the other one where a point lies beside the chain.
+// The half-edge that faces the tube, and the other one where a point lies beside the chain.
 fn add_sides(
     roots: &mut Vec<HalfEdgeId>,
     facing: Facing,
@@ -158,7 +158,7 @@ fn add_sides(
     Ok(())
 }
 
-/// The half-edges beside the cells of the points.
+// The half-edges beside the cells of the points.
 fn add_spots(roots: &mut Vec<HalfEdgeId>, spots: &[Spot]) -> Result<(), Memory>
     requires { All IsSmallSpot spots.now }
     ensures { OnOk result (roots.new.items

@@ -61,7 +61,7 @@ pub(crate) fn faces_beside(
     Ok(besides)
 }
 
-/// The number of edges of a curve at a level.
+// The number of edges of a curve at a level.
 fn edge_count(kind: CurveKind, level: u8) -> u32
     requires { level ≤ 5 }
     ensures { result ≡ edges_of_kind kind level }
@@ -72,7 +72,7 @@ fn edge_count(kind: CurveKind, level: u8) -> u32
     }
 }
 
-/// The number of bays of a tube at a level.
+// The number of bays of a tube at a level.
 fn bay_count(level: u8) -> u32
     requires { level ≤ 5 }
     ensures { result ≡ 2 ^ (level + 1) }
@@ -80,7 +80,7 @@ fn bay_count(level: u8) -> u32
     2 << level
 }
 
-/// The faces beside the curve of that number, whose first edge has the other one.
+// The faces beside the curve of that number, whose first edge has the other one.
 fn faces_of_curve(
     settled: &SettledDrawing,
     mesh: &Mesh,
@@ -110,7 +110,7 @@ fn faces_of_curve(
     }
 }
 
-/// The faces on the left and on the right of a straight whose edge has this number.
+// The faces on the left and on the right of a straight whose edge has this number.
 fn faces_of_straight(mesh: &Mesh, curve: &Curve, number: u32) -> Beside
     requires few { number < 2 ^ 31 }
     requires there { 2 * number + 1 < size mesh.now }
@@ -128,7 +128,7 @@ fn faces_of_straight(mesh: &Mesh, curve: &Curve, number: u32) -> Beside
     }
 }
 
-/// The face of the half-edge of a tube's edge that does not face the tube.
+// The face of the half-edge of a tube's edge that does not face the tube.
 fn face_outside(settled: &SettledDrawing, mesh: &Mesh, edge: u32) -> u32
     requires settled { HasRun settled.now }
     requires few { length (edges_of settled.now) < 2 ^ 31 }
@@ -238,8 +238,8 @@ pub(crate) fn first_cut(besides: &[Beside]) -> Option<u32>
     None
 }
 
-/// Whether a side of the curve bounds such a face, and then whether it is the left one or the right
-/// one alone.
+// Whether a side of the curve bounds such a face, and then whether it is the left one or the right
+// one alone.
 fn free_side(curve: &Curve, beside: &Beside, owners: &[u32]) -> Option<bool>
     requires known { IsBesideIn (length owners.now) beside.now }
     requires close { IsTurnable curve.now }

@@ -55,7 +55,7 @@ pub(crate) fn faces_of_drawing(
     })
 }
 
-/// Where the objects' points lie, by their spots and the numbers of the faces.
+// Where the objects' points lie, by their spots and the numbers of the faces.
 fn places_of(
     alloc: Global,
     settled: &SettledDrawing,
@@ -83,7 +83,7 @@ fn places_of(
     Ok(places)
 }
 
-/// Where a point lies.
+// Where a point lies.
 fn place_of(
     settled: &SettledDrawing,
     mesh: &Mesh,
@@ -107,7 +107,7 @@ fn place_of(
     }
 }
 
-/// The numbers of the faces on both sides of each curve.
+// The numbers of the faces on both sides of each curve.
 fn faces_of(
     alloc: Global,
     curves: &[Curve],
@@ -128,7 +128,7 @@ fn faces_of(
     Ok(faces)
 }
 
-/// The numbers of the faces on the left and on the right of a curve.
+// The numbers of the faces on the left and on the right of a curve.
 fn faces_on(curve: &Curve, beside: &Beside, numbers: &[u32]) -> CurveFaces
     requires known { IsBesideIn (length numbers.now) beside.now }
     requires close { IsTurnable curve.now }

@@ -42,7 +42,7 @@ pub(crate) fn numbers_of_faces(
     Ok(numbers)
 }
 
-/// Gives the face the next number, if it is not 0 and has none.
+// Gives the face the next number, if it is not 0 and has none.
 fn add_face(numbers: &mut FaceNumbers, face: u32)
     requires known { face < length numbers.old.of_face.items }
     requires room { numbers.old.count + 1 < 2 ^ 32 }

@@ -51,7 +51,7 @@ pub(crate) fn faces_of_run(
     })
 }
 
-/// Where the events lie.
+// Where the events lie.
 fn event_places(alloc: Global, events: &Events) -> Result<Vec<Point>, Memory>
     ensures { IfOk result (λ at. at.items ≡ map (λ (v : Move). v.at) events.now) }
 {
@@ -81,7 +81,7 @@ pub(super) fn labelled_run(
     Ok(joined.labelled)
 }
 
-/// The face over the edge under each of these cells; 0 where there is none.
+// The face over the edge under each of these cells; 0 where there is none.
 fn cell_faces(alloc: Global, mesh: &Mesh, spots: &[Spot]) -> Result<Vec<u32>, Memory>
     requires known { (j : ℕ) → j < length spots.now
         → IsCellSpot (size mesh.now) (spot_at spots.now j) }

@@ -80,7 +80,7 @@ pub(crate) fn object_spots(
     Ok(spots)
 }
 
-/// Where the objects' points of the drawing lie, and behind them these places, in the same way.
+// Where the objects' points of the drawing lie, and behind them these places, in the same way.
 fn spots_with(
     alloc: Global,
     settled: &SettledDrawing,
@@ -129,8 +129,8 @@ pub(crate) fn spots_of_run(
     spots_at(alloc, &swept_drawing, points)
 }
 
-/// The answer to the drawing, where no object's point lies on a curve, and the regions of these
-/// places.
+// The answer to the drawing, where no object's point lies on a curve, and the regions of these
+// places.
 fn answer_placed(
     alloc: Global,
     settled: &SettledDrawing,
@@ -175,7 +175,7 @@ pub(super) fn cells_alone(swept: Swept) -> Vec<Cell>
     swept.cells
 }
 
-/// The answer to the drawing of a run, and the regions of its places.
+// The answer to the drawing of a run, and the regions of its places.
 fn answer_run(alloc: Global, run: SettledRun) -> Result<FoundObjects, Memory>
     requires run { IsSettledRun run }
     requires least { IsLeastLevel (plan_of run) (level_of run) }
@@ -187,7 +187,7 @@ fn answer_run(alloc: Global, run: SettledRun) -> Result<FoundObjects, Memory>
     }
 }
 
-/// The certificate of the drawing of a run without a fault, and the regions of its places.
+// The certificate of the drawing of a run without a fault, and the regions of its places.
 fn answer_owned(
     alloc: Global,
     run: SettledRun,

@@ -15,7 +15,7 @@ use line_sweep::{Events, Swept};
 use ports::Memory;
 use std::alloc::Global;
 
-/// By the edges' numbers the events at their low and at their high ends.
+// By the edges' numbers the events at their low and at their high ends.
 #[derive(Drop)]
 struct Noted {
     low: Vec<u32>,
@@ -50,7 +50,7 @@ pub fn mesh_of_run(alloc: Global, edges: usize, swept: &Swept) -> Result<Mesh, M
     Ok(mesh)
 }
 
-/// The most edges that start or end at one event, and 0 where there is no event.
+// The most edges that start or end at one event, and 0 where there is no event.
 fn widest(events: &Events) -> usize
     ensures { IsWidest events.now (length events.now) result }
 {
@@ -62,7 +62,7 @@ fn widest(events: &Events) -> usize
     most
 }
 
-/// Notes the events at the ends of all edges.
+// Notes the events at the ends of all edges.
 fn note_events(alloc: Global, edges: usize, events: &Events) -> Result<Noted, Memory>
     requires run { HasEdges edges (steps_from [] events.now) }
     requires fit { Fit [] events.now }
@@ -82,7 +82,7 @@ fn note_events(alloc: Global, edges: usize, events: &Events) -> Result<Noted, Me
     Ok(Noted { low, high })
 }
 
-/// Writes the event to the entry of each of these edges.
+// Writes the event to the entry of each of these edges.
 fn note(events: &mut [u32], edges: &[u32], event: u32)
     requires { (e : ℕ) → Has e edges.now → e < length events.old }
     ensures { IsNoted edges.now event events.old events.new }

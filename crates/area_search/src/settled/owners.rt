@@ -40,7 +40,7 @@ pub(crate) fn owners_of(alloc: Global, faces: &[u32], count: u32) -> Result<Owne
     Ok(owners)
 }
 
-/// One point more.
+// One point more.
 fn add_point(owners: &mut Owners, faces: &[u32], point: usize)
     requires few { length faces.now < 2 ^ 30 }
     requires there { point < length faces.now }

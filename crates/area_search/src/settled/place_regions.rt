@@ -38,7 +38,7 @@ pub(crate) fn regions_of(
     Ok(regions)
 }
 
-/// The region of each of these spots.
+// The region of each of these spots.
 fn regions_of_spots(
     alloc: Global,
     settled: &SettledDrawing,
@@ -89,7 +89,7 @@ fn region_of(
     }
 }
 
-/// The region of a face.
+// The region of a face.
 fn owned_region(owners: &[u32], face: u32) -> Region
     requires { face < length owners.now }
     ensures { result ≡ owned_region (slice_index owners.now face) }

@@ -44,7 +44,7 @@ pub(crate) fn spots_at(
     Ok(spots)
 }
 
-/// Where a point lies, by its place among the edges.
+// Where a point lies, by its place among the edges.
 fn spot_of(swept: &SweptDrawing, at: Point, place: Place) -> Spot
     requires swept { IsSweptDrawing swept.now }
     requires place { IsPlaceOf swept.now.edges.now
@@ -75,7 +75,7 @@ fn spot_of(swept: &SweptDrawing, at: Point, place: Place) -> Spot
     }
 }
 
-/// The half arc whose tube lies over an edge, as the edge faces it from within.
+// The half arc whose tube lies over an edge, as the edge faces it from within.
 fn tube_over(swept: &SweptDrawing, lower: Option<u32>) -> Option<u32>
     requires swept { IsSweptDrawing swept.now }
     requires known { IsOver (length swept.now.edges.now) lower }
@@ -89,7 +89,7 @@ fn tube_over(swept: &SweptDrawing, lower: Option<u32>) -> Option<u32>
     }
 }
 
-/// Where a point of a half arc's tube lies.
+// Where a point of a half arc's tube lies.
 fn spot_in_tube(swept: &SweptDrawing, number: u32, at: Point) -> Spot
     requires swept { IsSweptDrawing swept.now }
     requires tube { LiesInTube (plan swept.now.drawing.now)
@@ -110,7 +110,7 @@ fn spot_in_tube(swept: &SweptDrawing, number: u32, at: Point) -> Spot
     }
 }
 
-/// The side of a point for a half arc, where it has one.
+// The side of a point for a half arc, where it has one.
 fn side_in_tube(half_arc: &Curve, at: Point) -> Side
     requires side { HasSide (arc half_arc.now) (point at) }
     ensures { HasSign result (power (arc half_arc.now) (point at)) }

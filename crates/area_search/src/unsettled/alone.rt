@@ -6,9 +6,9 @@ ghost use Rattle.area_search.specs.Unsettled.Alone.{AreApart};
 
 use super::aside::mark_near;
 use super::rest::rest_without_points;
-use super::settling::{Settling, settle};
+use super::settling::{LastLevel, settle};
 use super::standing::{
-    Standing, after_leaving, after_settling, alone_marks, are_seen, first_standings,
+    SearchState, after_leaving, after_settling, alone_marks, are_seen, first_standings,
     left_out_marks, tried_marks,
 };
 use meetings::has_many_pairs;
@@ -16,7 +16,7 @@ use plane::Drawing;
 use ports::Memory;
 use std::alloc::Global;
 
-/// The most drawings that are swept in the search for curves that are alone.
+// The most drawings that are swept in the search for curves that are alone.
 const ROUNDS: u32 = 96;
 
 /// Marks for curves that break the last level with no other one; no marks where few pairs have a
@@ -45,11 +45,11 @@ pub(crate) fn alone_curves(
     Ok(Vec::new(alloc))
 }
 
-/// Marks for the curves that are alone when all were looked at.
+// Marks for the curves that are alone when all were looked at.
 fn still_alone(
     alloc: Global,
     drawing: &Drawing,
-    first: Vec<Standing>,
+    first: Vec<SearchState>,
 ) -> Result<Option<Vec<bool>>, Memory>
     requires few { length (plan drawing.now).curves ≤ 16000000 }
     requires apart { AreApart (plan drawing.now) first.items }
@@ -68,12 +68,12 @@ fn still_alone(
     Ok(None)
 }
 
-/// How curves stand after one drawing more was looked at.
+// How curves stand after one drawing more was looked at.
 fn next_standings(
     alloc: Global,
     drawing: &Drawing,
-    standings: &[Standing],
-) -> Result<Option<Vec<Standing>>, Memory>
+    standings: &[SearchState],
+) -> Result<Option<Vec<SearchState>>, Memory>
     requires few { length (plan drawing.now).curves ≤ 16000000 }
     requires apart { AreApart (plan drawing.now) standings.now }
     ensures { IfOk result (λ r. IfSome r (λ next. AreApart (plan drawing.now) next.items)) }
@@ -83,12 +83,12 @@ fn next_standings(
     let rest = rest_without_points(alloc, drawing, &marks)?;
     let firm = tried_marks(alloc, standings, &rest.numbers)?;
     match settle(alloc, &rest.drawing, &firm)? {
-        Settling::Settled(_) => Ok(Some(after_settling(alloc, standings)?)),
-        Settling::Near(places) => {
+        LastLevel::Settled(_) => Ok(Some(after_settling(alloc, standings)?)),
+        LastLevel::Near(places) => {
             let mut near = vec![in alloc; false; standings.len()]?;
             mark_near(&mut near, &rest.numbers, &places);
             Ok(Some(after_leaving(alloc, standings, &near)?))
         }
-        Settling::Unsettled => Ok(None),
+        LastLevel::Unsettled => Ok(None),
     }
 }

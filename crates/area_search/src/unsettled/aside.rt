@@ -8,7 +8,7 @@ ghost use Rattle.area_search.specs.Unsettled.CurvePoints.{IsLeastOf, LiesOnStrai
 ghost use Rattle.area_search.specs.Unsettled.SetAside.{AreArcMarks, AreAside, IsNumbered};
 
 use super::rest::rest_of;
-use super::settling::{Settling, settle};
+use super::settling::{LastLevel, settle};
 use crate::numbers::mark;
 use crate::points::OnCurve;
 use level_breaks::laws::breaks_have_half_arcs;
@@ -18,13 +18,13 @@ use ports::Memory;
 use std::alloc::Global;
 use tubes::tube;
 
-/// The most rounds before all half arcs are set aside instead.
+// The most rounds before all half arcs are set aside instead.
 const ROUNDS: u32 = 8;
 
 /// Curves that are set aside, by their marks, and the least point on one of the others, if there is
 /// one.
 #[derive(Drop)]
-pub(crate) struct Aside {
+pub(crate) struct ExcludedCurves {
     pub marks: Vec<bool>,
     pub on_others: Option<OnCurve>,
 }
@@ -37,7 +37,7 @@ pub(crate) fn set_aside(
     alloc: Global,
     drawing: &Drawing,
     on_straight: Option<OnCurve>,
-) -> Result<Aside, Memory>
+) -> Result<ExcludedCurves, Memory>
     requires few { length (plan drawing.now).curves ≤ 16000000 }
     requires straights { HasNoBadStraights (plan drawing.now) }
     requires points { IsLeastOf (LiesOnStraight (plan drawing.now)) on_straight }
@@ -50,15 +50,15 @@ pub(crate) fn set_aside(
             return Ok(aside);
         }
     }
-    Ok(Aside {
+    Ok(ExcludedCurves {
         marks,
         on_others: on_straight,
     })
 }
 
-/// The second case: half arcs without a tube at the last level, and in each round curves that are
-/// near others at that level among those that are left.
-fn few_aside(alloc: Global, drawing: &Drawing) -> Result<Option<Aside>, Memory>
+// The second case: half arcs without a tube at the last level, and in each round curves that are
+// near others at that level among those that are left.
+fn few_aside(alloc: Global, drawing: &Drawing) -> Result<Option<ExcludedCurves>, Memory>
     requires few { length (plan drawing.now).curves ≤ 16000000 }
     ensures { IfOk result (λ r. IfSome r (λ a.
         AreAside (plan drawing.now) a.marks.items a.on_others)) }
@@ -69,12 +69,12 @@ fn few_aside(alloc: Global, drawing: &Drawing) -> Result<Option<Aside>, Memory>
         let rest = rest_of(alloc, drawing, &marks)?;
         let firm = vec![in alloc; false; rest.numbers.len()]?;
         match settle(alloc, &rest.drawing, &firm)? {
-            Settling::Settled(on) => {
+            LastLevel::Settled(on) => {
                 let on_others = numbered(&rest.numbers, on);
-                return Ok(Some(Aside { marks, on_others }));
+                return Ok(Some(ExcludedCurves { marks, on_others }));
             }
-            Settling::Near(near) => mark_near(&mut marks, &rest.numbers, &near),
-            Settling::Unsettled => return Ok(None),
+            LastLevel::Near(near) => mark_near(&mut marks, &rest.numbers, &near),
+            LastLevel::Unsettled => return Ok(None),
         }
     }
     Ok(None)
@@ -91,7 +91,7 @@ pub(crate) fn mark_near(marks: &mut [bool], numbers: &[u32], near: &[bool])
     }
 }
 
-/// The same point, with the number of the curve at its place among the numbers.
+// The same point, with the number of the curve at its place among the numbers.
 fn numbered(numbers: &[u32], on: Option<OnCurve>) -> Option<OnCurve>
     requires { IfSome on (λ p. p.curve < length numbers.now) }
     ensures { IsNumbered numbers.now on result }
@@ -115,7 +115,7 @@ fn half_arc_marks(alloc: Global, curves: &[Curve]) -> Result<Vec<bool>, Memory>
     Ok(marks)
 }
 
-/// Marks for the half arcs that have no tube at the last level.
+// Marks for the half arcs that have no tube at the last level.
 fn bare_marks(alloc: Global, drawing: &Drawing) -> Result<Vec<bool>, Memory>
     ensures { IfOk result (λ marks. length marks.items ≡ length drawing.now.curves.items) }
 {

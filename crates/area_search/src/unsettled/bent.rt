@@ -45,7 +45,7 @@ pub(super) fn bent_answer(
     }
 }
 
-/// The answer of the bent drawing as one to the drawing.
+// The answer of the bent drawing as one to the drawing.
 fn named_answer(answer: AreaAnswer, origin: &[u32]) -> AreaAnswer
     requires { NamesCurveOf (length origin.now) answer }
     ensures { result ≡ named origin.now answer }

@@ -36,7 +36,7 @@ pub fn points_on_marked(
     Ok(Some(ons))
 }
 
-/// The pairs of a point and one of the marked curves, which have these numbers, by their codes.
+// The pairs of a point and one of the marked curves, which have these numbers, by their codes.
 fn pairs_on(
     alloc: Global,
     drawing: &Drawing,
@@ -56,7 +56,7 @@ fn pairs_on(
     all(alloc, &boxes, &marks, &test, most)
 }
 
-/// The pairs of these codes.
+// The pairs of these codes.
 fn decoded(
     alloc: Global,
     drawing: &Drawing,

@@ -10,7 +10,7 @@ ghost use Rattle.area_search.specs.Unsettled.CurvePoints.{IsLeastOf, IsLesserOn,
 ghost use Rattle.area_search.specs.Unsettled.CurvePoints.{LiesOnStraight};
 ghost use Rattle.area_search.specs.Unsettled.SetAside.{AreAside};
 
-use super::aside::Aside;
+use super::aside::ExcludedCurves;
 use crate::numbers::numbers_with;
 use crate::points::{OnCurve, points_at};
 use line_sweep::Swept;
@@ -28,7 +28,7 @@ use std::alloc::Global;
 pub(crate) fn first_on_curve(
     alloc: Global,
     drawing: &Drawing,
-    aside: &Aside,
+    aside: &ExcludedCurves,
 ) -> Result<Option<OnCurve>, Memory>
     requires { AreAside (plan drawing.now) aside.now.marks.items aside.now.on_others }
     ensures { IfOk result (IsFirstOnCurve (plan drawing.now)) }
@@ -59,7 +59,7 @@ pub(crate) fn first_on_straight(
     }
 }
 
-/// The first point that lies on an edge, with the edge's number.
+// The first point that lies on an edge, with the edge's number.
 fn first_on(places: &[Place]) -> Option<OnCurve>
     requires { length places.now < 2 ^ 30 }
     ensures { IsFirstOn places.now result }
@@ -106,8 +106,8 @@ impl<'a> PairTest for OnTest<'a> {
     }
 }
 
-/// The least point on a marked curve, and the least such curve with it; of half arcs those that
-/// have a side for it.
+// The least point on a marked curve, and the least such curve with it; of half arcs those that
+// have a side for it.
 fn first_on_marked(
     alloc: Global,
     drawing: &Drawing,
@@ -172,7 +172,7 @@ fn add_curve_boxes(boxes: &mut Vec<Reach>, drawing: &Drawing, numbers: &[u32]) -
     Ok(())
 }
 
-/// The lesser of two, by the point, then by the curve.
+// The lesser of two, by the point, then by the curve.
 fn lesser(first: Option<OnCurve>, second: Option<OnCurve>) -> Option<OnCurve>
     ensures { IsLesserOn first second result }
 {

@@ -12,13 +12,17 @@ use std::alloc::Global;
 
 /// The drawing of some curves of another one, and the numbers of the curves there.
 #[derive(Drop)]
-pub(crate) struct Rest {
+pub(crate) struct SubDrawing {
     pub drawing: Drawing,
     pub numbers: Vec<u32>,
 }
 
 /// The curves that are not marked, and all points. It copies both.
-pub(crate) fn rest_of(alloc: Global, drawing: &Drawing, marks: &[bool]) -> Result<Rest, Memory>
+pub(crate) fn rest_of(
+    alloc: Global,
+    drawing: &Drawing,
+    marks: &[bool],
+) -> Result<SubDrawing, Memory>
     requires { length marks.now ≡ length drawing.now.curves.items }
     ensures { IfOk result (IsRest (plan drawing.now) marks.now (plan drawing.now).points) }
 {
@@ -31,20 +35,20 @@ pub(crate) fn rest_without_points(
     alloc: Global,
     drawing: &Drawing,
     marks: &[bool],
-) -> Result<Rest, Memory>
+) -> Result<SubDrawing, Memory>
     requires { length marks.now ≡ length drawing.now.curves.items }
     ensures { IfOk result (IsRest (plan drawing.now) marks.now []) }
 {
     rest_with(alloc, drawing, marks, Vec::new(alloc))
 }
 
-/// The curves that are not marked, and these points.
+// The curves that are not marked, and these points.
 fn rest_with(
     alloc: Global,
     drawing: &Drawing,
     marks: &[bool],
     points: Vec<Placed>,
-) -> Result<Rest, Memory>
+) -> Result<SubDrawing, Memory>
     requires size { length marks.now ≡ length drawing.now.curves.items }
     requires few { length points.items < 2 ^ 30 }
     requires inside { All (λ p. IsInside drawing.now.window.low drawing.now.window.high p.at)
@@ -53,7 +57,7 @@ fn rest_with(
 {
     let numbers = numbers_with(alloc, marks, false)?;
     let curves = curves_at(alloc, &drawing.curves, &numbers)?;
-    Ok(Rest {
+    Ok(SubDrawing {
         drawing: Drawing {
             window: drawing.window,
             curves,

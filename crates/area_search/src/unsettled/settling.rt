@@ -21,7 +21,7 @@ use tubes::{EdgeList, Owner, edge_list, facings};
 
 /// What the last level shows of a drawing.
 #[derive(Drop)]
-pub(crate) enum Settling {
+pub(crate) enum LastLevel {
     /// It settles the drawing; and the first point on a curve, if there is one.
     Settled(Option<OnCurve>),
     /// It does not, since these curves, by their marks, are near others; there may be more of them.
@@ -33,24 +33,24 @@ pub(crate) enum Settling {
 /// What the last level shows of a drawing, by a sweep of its edges. Of two curves that are near
 /// each other those are marked that are not firm, or one, where both are. The only error is out of
 /// memory.
-pub(crate) fn settle(alloc: Global, drawing: &Drawing, firm: &[bool]) -> Result<Settling, Memory>
+pub(crate) fn settle(alloc: Global, drawing: &Drawing, firm: &[bool]) -> Result<LastLevel, Memory>
     requires { length (plan drawing.now).curves ≤ 16000000 }
     ensures { IfOk result (IsSettling (plan drawing.now)) }
 {
     tubes::laws::few_edges();
     match edge_list(alloc, drawing, 5)? {
         Some(list) => settle_list(alloc, drawing, list, firm),
-        None => Ok(Settling::Unsettled),
+        None => Ok(LastLevel::Unsettled),
     }
 }
 
-/// What the edges of the last level show of the drawing.
+// What the edges of the last level show of the drawing.
 fn settle_list(
     alloc: Global,
     drawing: &Drawing,
     list: EdgeList,
     firm: &[bool],
-) -> Result<Settling, Memory>
+) -> Result<LastLevel, Memory>
     requires few { length list.edges.items < 2 ^ 31 }
     requires list { IsTubedList (plan drawing.now) 5 list }
     requires usable { AreUsable (plan drawing.now) list.edges.items }
@@ -65,24 +65,24 @@ fn settle_list(
     }
 }
 
-/// The curves of edges that are bad, by these two and others.
+// The curves of edges that are bad, by these two and others.
 fn near_edges(
     alloc: Global,
     drawing: &Drawing,
     list: &EdgeList,
     firm: &[bool],
     known: BadEdges,
-) -> Result<Settling, Memory>
+) -> Result<LastLevel, Memory>
     requires few { length list.now.edges.items < 2 ^ 31 }
     requires usable { AreUsable (plan drawing.now) list.now.edges.items }
     ensures { IfOk result (IsSettling (plan drawing.now)) }
 {
     let curves = curve_numbers(alloc, &list.owners)?;
     let near = clashing(alloc, &list.edges, &curves, firm, known)?;
-    Ok(Settling::Near(near))
+    Ok(LastLevel::Near(near))
 }
 
-/// The curve of each edge.
+// The curve of each edge.
 fn curve_numbers(alloc: Global, owners: &[Owner]) -> Result<Vec<u32>, Memory> {
     let mut curves = Vec::with_capacity(alloc, owners.len())?;
     for owner in owners {
@@ -91,14 +91,14 @@ fn curve_numbers(alloc: Global, owners: &[Owner]) -> Result<Vec<u32>, Memory> {
     Ok(curves)
 }
 
-/// What a complete run of the edges of the last level shows of the drawing.
+// What a complete run of the edges of the last level shows of the drawing.
 fn settle_run(
     alloc: Global,
     drawing: &Drawing,
     list: EdgeList,
     swept: &Swept,
     firm: &[bool],
-) -> Result<Settling, Memory>
+) -> Result<LastLevel, Memory>
     requires few { length list.edges.items < 2 ^ 31 }
     requires list { IsTubedList (plan drawing.now) 5 list }
     requires usable { AreUsable (plan drawing.now) list.edges.items }
@@ -121,18 +121,18 @@ fn settle_run(
         facings: &facings,
     };
     let spots = object_spots(alloc, &settled, edges, swept)?;
-    Ok(Settling::Settled(first_spot_on(&spots)))
+    Ok(LastLevel::Settled(first_spot_on(&spots)))
 }
 
-/// The curves beside cells of which one side faces a tube that the other side does not, if there
-/// are some.
+// The curves beside cells of which one side faces a tube that the other side does not, if there
+// are some.
 fn near_cells(
     alloc: Global,
     drawing: &Drawing,
     list: &EdgeList,
     swept: &Swept,
     firm: &[bool],
-) -> Result<Settling, Memory>
+) -> Result<LastLevel, Memory>
     requires list { IsTubedList (plan drawing.now) 5 list.now }
     ensures { IfOk result (IsSettling (plan drawing.now)) }
 {
@@ -140,8 +140,8 @@ fn near_cells(
     let facings = facings(alloc, drawing, list)?;
     let mut near = vec![in alloc; false; drawing.curves.len()]?;
     if mark_unpaired(&mut near, &swept.cells, &facings, &list.owners, firm) {
-        Ok(Settling::Near(near))
+        Ok(LastLevel::Near(near))
     } else {
-        Ok(Settling::Unsettled)
+        Ok(LastLevel::Unsettled)
     }
 }

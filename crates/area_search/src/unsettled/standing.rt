@@ -15,7 +15,7 @@ use std::alloc::Global;
 /// How a curve stands. What is looked at is a drawing of those that are alone and of those that are
 /// tried.
 #[derive(Clone, Copy, Debug, PartialEq, Eq)]
-pub(crate) enum Standing {
+pub(crate) enum SearchState {
     /// It breaks the level with none of those that were looked at.
     Alone,
     /// It is looked at now.
@@ -26,7 +26,7 @@ pub(crate) enum Standing {
     Seen,
 }
 
-impl Standing {
+impl SearchState {
     ghost use Rattle.std.specs.Prelude.{◌≡◌, ◌↔◌, IsTrue};
     ghost use Rattle.area_search.specs.Unsettled.Alone as spec;
 
@@ -34,8 +34,8 @@ impl Standing {
         ensures { IsTrue result ↔ spec.IsSeen self }
     {
         match self {
-            Standing::Alone | Standing::Seen => true,
-            Standing::Tried | Standing::Waiting => false,
+            SearchState::Alone | SearchState::Seen => true,
+            SearchState::Tried | SearchState::Waiting => false,
         }
     }
 
@@ -43,8 +43,8 @@ impl Standing {
         ensures { result ≡ spec.is_alone self }
     {
         match self {
-            Standing::Alone => true,
-            Standing::Tried | Standing::Waiting | Standing::Seen => false,
+            SearchState::Alone => true,
+            SearchState::Tried | SearchState::Waiting | SearchState::Seen => false,
         }
     }
 
@@ -52,27 +52,27 @@ impl Standing {
         ensures { result ≡ spec.is_left_out self }
     {
         match self {
-            Standing::Alone | Standing::Tried => false,
-            Standing::Waiting | Standing::Seen => true,
+            SearchState::Alone | SearchState::Tried => false,
+            SearchState::Waiting | SearchState::Seen => true,
         }
     }
 
-    fn after_settling(self) -> Standing
+    fn after_settling(self) -> SearchState
         ensures { result ≡ spec.after_settling self }
     {
         match self {
-            Standing::Alone => Standing::Alone,
-            Standing::Waiting => Standing::Tried,
-            Standing::Tried | Standing::Seen => Standing::Seen,
+            SearchState::Alone => SearchState::Alone,
+            SearchState::Waiting => SearchState::Tried,
+            SearchState::Tried | SearchState::Seen => SearchState::Seen,
         }
     }
 
-    fn after_leaving(self) -> Standing
+    fn after_leaving(self) -> SearchState
         ensures { result ≡ spec.after_leaving self }
     {
         match self {
-            Standing::Alone | Standing::Seen => Standing::Seen,
-            Standing::Tried | Standing::Waiting => Standing::Waiting,
+            SearchState::Alone | SearchState::Seen => SearchState::Seen,
+            SearchState::Tried | SearchState::Waiting => SearchState::Waiting,
         }
     }
 }
@@ -84,7 +84,7 @@ pub(crate) fn first_standings(
     alloc: Global,
     drawing: &Drawing,
     aside: &[bool],
-) -> Result<Vec<Standing>, Memory>
+) -> Result<Vec<SearchState>, Memory>
     requires { length aside.now ≡ length drawing.now.curves.items }
     ensures { IfOk result (λ ss. AreFirstTo (plan drawing.now) aside.now
         (length drawing.now.curves.items) ss.items) }
@@ -96,22 +96,22 @@ pub(crate) fn first_standings(
     Ok(standings)
 }
 
-fn first_standing(alloc: Global, curve: &Curve, aside: bool) -> Result<Standing, Memory>
+fn first_standing(alloc: Global, curve: &Curve, aside: bool) -> Result<SearchState, Memory>
     requires { IsFit curve.now }
     ensures { IfOk result (IsFirst curve.now aside) }
 {
     if !aside {
-        return Ok(Standing::Alone);
+        return Ok(SearchState::Alone);
     }
     if is_bare(alloc, curve)? {
-        Ok(Standing::Seen)
+        Ok(SearchState::Seen)
     } else {
-        Ok(Standing::Tried)
+        Ok(SearchState::Tried)
     }
 }
 
 /// Marks for the curves that are left out of what is looked at.
-pub(crate) fn left_out_marks(alloc: Global, standings: &[Standing]) -> Result<Vec<bool>, Memory>
+pub(crate) fn left_out_marks(alloc: Global, standings: &[SearchState]) -> Result<Vec<bool>, Memory>
     ensures { IfOk result (λ marks. marks.items ≡ map is_left_out standings.now) }
 {
     let mut marks = Vec::with_capacity(alloc, standings.len())?;
@@ -122,7 +122,7 @@ pub(crate) fn left_out_marks(alloc: Global, standings: &[Standing]) -> Result<Ve
 }
 
 /// Marks for the curves that are alone.
-pub(crate) fn alone_marks(alloc: Global, standings: &[Standing]) -> Result<Vec<bool>, Memory>
+pub(crate) fn alone_marks(alloc: Global, standings: &[SearchState]) -> Result<Vec<bool>, Memory>
     ensures { IfOk result (λ marks. marks.items ≡ map is_alone standings.now) }
 {
     let mut marks = Vec::with_capacity(alloc, standings.len())?;
@@ -135,19 +135,22 @@ pub(crate) fn alone_marks(alloc: Global, standings: &[Standing]) -> Result<Vec<b
 /// Marks for those of the numbers whose curves are tried.
 pub(crate) fn tried_marks(
     alloc: Global,
-    standings: &[Standing],
+    standings: &[SearchState],
     numbers: &[u32],
 ) -> Result<Vec<bool>, Memory> {
     let mut marks = Vec::with_capacity(alloc, numbers.len())?;
     for number in numbers {
         let standing = standings.get(*number as usize);
-        marks.push(matches!(standing, Some(Standing::Tried)))?;
+        marks.push(matches!(standing, Some(SearchState::Tried)))?;
     }
     Ok(marks)
 }
 
 /// How curves stand once the last level settles what was looked at.
-pub(crate) fn after_settling(alloc: Global, standings: &[Standing]) -> Result<Vec<Standing>, Memory>
+pub(crate) fn after_settling(
+    alloc: Global,
+    standings: &[SearchState],
+) -> Result<Vec<SearchState>, Memory>
     ensures { IfOk result (λ ss. ss.items ≡ map after_settling standings.now) }
 {
     let mut next = Vec::with_capacity(alloc, standings.len())?;
@@ -160,9 +163,9 @@ pub(crate) fn after_settling(alloc: Global, standings: &[Standing]) -> Result<Ve
 /// How curves stand once those that are marked are near others.
 pub(crate) fn after_leaving(
     alloc: Global,
-    standings: &[Standing],
+    standings: &[SearchState],
     near: &[bool],
-) -> Result<Vec<Standing>, Memory>
+) -> Result<Vec<SearchState>, Memory>
     requires { length near.now ≡ length standings.now }
     ensures { IfOk result (λ ss. AreLeftTo standings.now (length standings.now) ss.items) }
 {
@@ -179,7 +182,7 @@ pub(crate) fn after_leaving(
 }
 
 /// Whether all curves were looked at.
-pub(crate) fn are_seen(standings: &[Standing]) -> bool
+pub(crate) fn are_seen(standings: &[SearchState]) -> bool
     ensures { IsTrue result → All IsSeen standings.now }
 {
     standings.iter().all(|standing| standing.is_seen())

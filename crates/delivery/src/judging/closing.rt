@@ -43,7 +43,7 @@ use table_layout::{AreaOf, Layout, TableId};
 #[derive(Drop)]
 pub enum Judged {
     /// No transfer: the first line at fault, and its code.
-    Misbuilt(u32, Structure),
+    Malformed(u32, Structure),
     /// All findings, in the order of the report.
     Faulty(Vec<Finding>),
     /// No finding, and an area that is over its limit.
@@ -102,12 +102,12 @@ impl<K: RowKeeper> Judge<K> {
 }
 
 // What a text comes to that is no transfer.
-fn misbuilt(refusal: ReadRefusal) -> Result<Judged, Memory>
+fn malformed(refusal: ReadRefusal) -> Result<Judged, Memory>
     ensures { (l : GivenLayout) (text : List ℕ) → IsKept HasTaken l text (Err refusal)
         → IfOk result (IsJudged l text) }
 {
     match refusal {
-        ReadRefusal::At { line, code } => Ok(Judged::Misbuilt(line, code)),
+        ReadRefusal::At { line, code } => Ok(Judged::Malformed(line, code)),
         ReadRefusal::Memory => Err(Memory),
     }
 }
@@ -287,6 +287,6 @@ pub fn judge_end(
 {
     match kept {
         Ok(kept) => judge_rows(alloc, layout, kept),
-        Err(refusal) => misbuilt(refusal),
+        Err(refusal) => malformed(refusal),
     }
 }

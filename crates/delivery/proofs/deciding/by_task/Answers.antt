@@ -8,7 +8,7 @@ use Rattle.commands.specs.declared.task.Task.{Task}
 use Rattle.reports.specs.OutcomeViews.{outcome_of}
 use Rattle.commands.proofs.ReadingSteps.{reads_by}
 use Rattle.commands.proofs.Results.{if_ok}
-use Rattle.delivery.specs.Ending.{Ends}
+use Rattle.delivery.specs.Ending.{LayoutOutcome}
 use Rattle.delivery.specs.Served.{AreReadable}
 use Rattle.delivery.proofs.deciding.by_task.Goals as goal
 
@@ -18,7 +18,7 @@ returns-in-Lists-clause-outcome g c =
     let counted : List ℕ → Type 0 = ReadRose (g.S.Shelf.read_faults c.args.shelf.now) (g.S.Shelf.read_faults c.args.shelf.now) in
     let l = layout_view c.args.layout.now in
     if_ok _ _ c.compiled.result
-    (λ o e. subst (λ (t : Task). Ends held counted (task_view t) l (outcome_of o)) (sym c.in-Lists.is) (record { gathered = texts l []; reads = refl; amounts = e }))
+    (λ o e. subst (λ (t : Task). LayoutOutcome held counted (task_view t) l (outcome_of o)) (sym c.in-Lists.is) (record { gathered = texts l []; reads = refl; amounts = e }))
     c.compiled.ensures
 
 pub decide_checked-requires-clause-small : goal.decide_checked-requires-clause-small
@@ -30,7 +30,7 @@ returns-in-Judges-clause-outcome g c =
     let counted : List ℕ → Type 0 = ReadRose (g.S.Shelf.read_faults c.args.shelf.now) (g.S.Shelf.read_faults c.decide_checked.new.shelf) in
     let l = layout_view c.args.layout.now in
     if_ok _ _ c.decide_checked.result
-    (λ o e. subst (λ (t : Task). Ends held counted (task_view t) l (outcome_of o)) (sym c.in-Judges.is) e)
+    (λ o e. subst (λ (t : Task). LayoutOutcome held counted (task_view t) l (outcome_of o)) (sym c.in-Judges.is) e)
     c.decide_checked.ensures.outcome
 
 pub returns-in-Judges-clause-reads : goal.returns-in-Judges-clause-reads
@@ -45,7 +45,7 @@ returns-in-Verifies-clause-outcome g c =
     let counted : List ℕ → Type 0 = ReadRose (g.S.Shelf.read_faults c.args.shelf.now) (g.S.Shelf.read_faults c.decide_verified.new.shelf) in
     let l = layout_view c.args.layout.now in
     if_ok _ _ c.decide_verified.result
-    (λ o e. subst (λ (t : Task). Ends held counted (task_view t) l (outcome_of o)) (sym c.in-Verifies.is) e)
+    (λ o e. subst (λ (t : Task). LayoutOutcome held counted (task_view t) l (outcome_of o)) (sym c.in-Verifies.is) e)
     c.decide_verified.ensures.outcome
 
 pub returns-in-Verifies-clause-reads : goal.returns-in-Verifies-clause-reads
@@ -59,7 +59,7 @@ returns-in-Rewrites-clause-outcome g c =
     (g.S.Shelf.read_faults c.decide_rewritten.new.shelf) in
     let l = layout_view c.args.layout.now in
     if_ok _ _ c.decide_rewritten.result
-    (λ o e. subst (λ (t : Task). Ends held counted (task_view t) l (outcome_of o))
+    (λ o e. subst (λ (t : Task). LayoutOutcome held counted (task_view t) l (outcome_of o))
     (sym c.in-Rewrites.is) e)
     c.decide_rewritten.ensures.outcome
 
@@ -77,7 +77,7 @@ returns-in-TestsPoints-clause-outcome g c =
     (g.S.Shelf.read_faults c.decide_tested.new.shelf) in
     let l = layout_view c.args.layout.now in
     if_ok _ _ c.decide_tested.result
-    (λ o e. subst (λ (t : Task). Ends held counted (task_view t) l (outcome_of o))
+    (λ o e. subst (λ (t : Task). LayoutOutcome held counted (task_view t) l (outcome_of o))
     (sym c.in-TestsPoints.is) e)
     c.decide_tested.ensures.outcome
 

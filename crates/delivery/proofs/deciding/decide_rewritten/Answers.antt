@@ -43,22 +43,22 @@ returns-in-Rows-clause-outcome g c =
     })
     (c.rewritten.ensures r.0 r.2)
 
-pub returns-in-Misbuilt-clause-outcome : goal.returns-in-Misbuilt-clause-outcome
-returns-in-Misbuilt-clause-outcome g c =
+pub returns-in-Malformed-clause-outcome : goal.returns-in-Malformed-clause-outcome
+returns-in-Malformed-clause-outcome g c =
     let held = g.S.Shelf.held c.args.shelf.now in
     let name = c.args.transfer.now in
     let l = layout_view c.args.layout.now in
     let counted : List ℕ → Type 0 =
     ReadRose (g.S.Shelf.read_faults c.args.shelf.now) (g.S.Shelf.read_faults c.read_for.new.shelf) in
     let r = subst (λ (r : RowsReading CanonFeed). AreFileRows HoldsRows held name l (counted name) r)
-    c.in-Misbuilt.is c.in_ok-kept-2.ensures.rows in
-    if_ok _ _ c.misbuilt.result
+    c.in-Malformed.is c.in_ok-kept-2.ensures.rows in
+    if_ok _ _ c.malformed.result
     (λ o e. record {
       gathered = texts l (r.0 ∷ []);
       reads = inr (inr (r.0, r.1, refl));
-      amounts = misread c.in-Misbuilt.line (fault_of c.in-Misbuilt.code) r.2 e;
+      amounts = misread c.in-Malformed.line (fault_of c.in-Malformed.code) r.2 e;
     })
-    c.misbuilt.ensures
+    c.malformed.ensures
 
 pub returns-in-Unread-clause-outcome : goal.returns-in-Unread-clause-outcome
 returns-in-Unread-clause-outcome g c =

@@ -8,7 +8,7 @@ use Rattle.commands.specs.declared.files.File.TheVariants.{Links, Transfer}
 use Rattle.commands.proofs.ReadingSteps.{reads_by, reads_then}
 use Rattle.commands.proofs.Results.{if_ok}
 use Rattle.reports.specs.OutcomeViews.{outcome_of}
-use Rattle.delivery.specs.Ending.{EndsAfter}
+use Rattle.delivery.specs.Ending.{OutcomeAfter}
 use Rattle.delivery.specs.LinkRows.{HasLinked}
 use Rattle.delivery.specs.Pieces.{AreFileRows}
 use Rattle.delivery.specs.declared.judging.linking.LinksKept.{LinksKept}
@@ -48,9 +48,9 @@ returns-in-Rows-clause-outcome g c =
     c.in-Rows.is c.in_ok-kept-2.ensures.rows in
     if_ok _ _ c.decide_linked.result
     (λ o h.
-    let moved : EndsAfter held near (tests_points source links) l (r.0 ∷ []) (links ∷ [])
+    let moved : OutcomeAfter held near (tests_points source links) l (r.0 ∷ []) (links ∷ [])
     (outcome_of o) =
-    subst (λ (held : Option Files). EndsAfter held near (tests_points source links) l (r.0 ∷ [])
+    subst (λ (held : Option Files). OutcomeAfter held near (tests_points source links) l (r.0 ∷ [])
     (links ∷ []) (outcome_of o)) c.in_ok-kept-2.ensures.reads.held h in
     let e = ends_on held near far
     (λ q s. rose_after (g.S.Shelf.read_faults c.args.shelf.now q)
@@ -70,8 +70,8 @@ returns-in-Rows-clause-reads g c =
     (λ r. c.in_ok-kept-2.ensures.reads.ready.readable c.args.links.now r.1.0)
     c.in_ok-kept-2.ensures.reads c.decide_linked.ensures.reads
 
-pub returns-in-Misbuilt-clause-outcome : goal.returns-in-Misbuilt-clause-outcome
-returns-in-Misbuilt-clause-outcome g c =
+pub returns-in-Malformed-clause-outcome : goal.returns-in-Malformed-clause-outcome
+returns-in-Malformed-clause-outcome g c =
     let held = g.S.Shelf.held c.args.shelf.now in
     let name = c.args.transfer.now in
     let l = layout_view c.args.layout.now in
@@ -87,12 +87,12 @@ returns-in-Misbuilt-clause-outcome g c =
     let links = from_file Links c.args.links.now in
     let r =
     subst (λ (r : RowsReading LinksKept). AreFileRows HasLinked held name l (first name) r)
-    c.in-Misbuilt.is c.in_ok-kept-2.ensures.rows in
+    c.in-Malformed.is c.in_ok-kept-2.ensures.rows in
     if_ok _ _ c.decide_unlinked.result
     (λ o h.
-    let moved : EndsAfter held near (tests_points source links) l (r.0 ∷ []) (links ∷ [])
+    let moved : OutcomeAfter held near (tests_points source links) l (r.0 ∷ []) (links ∷ [])
     (outcome_of o) =
-    subst (λ (held : Option Files). EndsAfter held near (tests_points source links) l (r.0 ∷ [])
+    subst (λ (held : Option Files). OutcomeAfter held near (tests_points source links) l (r.0 ∷ [])
     (links ∷ []) (outcome_of o)) c.in_ok-kept-2.ensures.reads.held h in
     let e = ends_on held near far
     (λ q s. rose_after (g.S.Shelf.read_faults c.args.shelf.now q)
@@ -107,8 +107,8 @@ returns-in-Misbuilt-clause-outcome g c =
     })
     (c.decide_unlinked.ensures.outcome l r.0 source r.2)
 
-pub returns-in-Misbuilt-clause-reads : goal.returns-in-Misbuilt-clause-reads
-returns-in-Misbuilt-clause-reads g c =
+pub returns-in-Malformed-clause-reads : goal.returns-in-Malformed-clause-reads
+returns-in-Malformed-clause-reads g c =
     reads_then (λ r. r.0)
     (λ r. c.in_ok-kept-2.ensures.reads.ready.readable c.args.links.now r.1.0)
     c.in_ok-kept-2.ensures.reads c.decide_unlinked.ensures.reads

@@ -12,13 +12,13 @@ use Rattle.delivery.proofs.deciding.decide_unlinked.Goals as goal
 
 pub returns-in-Ok-clause-outcome : goal.returns-in-Ok-clause-outcome
 returns-in-Ok-clause-outcome g c l text source k =
-    if_ok _ _ c.misbuilt.result
+    if_ok _ _ c.malformed.result
     (λ o e. record {
       gathered = texts l (text ∷ c.in-Ok._links.items ∷ []);
       reads = inr (inr (c.in-Ok._links.items, c.in-Ok.ensures.whole, refl));
       amounts = at_fault c.args.line (fault_of c.args.code) k e;
     })
-    c.misbuilt.ensures
+    c.malformed.ensures
 
 pub returns-in-Err-clause-outcome : goal.returns-in-Err-clause-outcome
 returns-in-Err-clause-outcome g c l text source k =

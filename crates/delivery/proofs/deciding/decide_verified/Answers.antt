@@ -9,7 +9,7 @@ use Rattle.commands.specs.declared.files.File.TheVariants.{Certificate}
 use Rattle.reports.specs.OutcomeViews.{outcome_of}
 use Rattle.commands.proofs.ReadingSteps.{reads_by, reads_then}
 use Rattle.commands.proofs.Results.{if_ok}
-use Rattle.delivery.specs.Ending.{EndsAfter}
+use Rattle.delivery.specs.Ending.{OutcomeAfter}
 use Rattle.delivery.specs.Pieces.{IsSourceJudged}
 use Rattle.delivery.specs.declared.transfers.TransferReading.{TransferReading}
 use Rattle.delivery.proofs.Sources.{text_of, unread_ends}
@@ -36,8 +36,8 @@ returns-in-Judged-clause-outcome g c =
     let t = text_of held first l c.args.source c.in-Judged.judged (subst (λ (r : TransferReading). IsSourceJudged held first l source r) c.in-Judged.is c.in_ok-judged.ensures.judged) in
     if_ok _ _ c.decide_filed.result
     (λ o h.
-    let moved : EndsAfter held near (verifies source filed) l (t.0 ∷ []) (filed ∷ []) (outcome_of o) =
-    subst (λ (held : Option Files). EndsAfter held near (verifies source filed) l (t.0 ∷ []) (filed ∷ []) (outcome_of o)) c.in_ok-judged.ensures.reads.held h in
+    let moved : OutcomeAfter held near (verifies source filed) l (t.0 ∷ []) (filed ∷ []) (outcome_of o) =
+    subst (λ (held : Option Files). OutcomeAfter held near (verifies source filed) l (t.0 ∷ []) (filed ∷ []) (outcome_of o)) c.in_ok-judged.ensures.reads.held h in
     let e = ends_on held near far
     (λ q r. rose_after (g.S.Shelf.read_faults c.args.shelf.now q) (g.S.Shelf.read_faults c.judge_source.new.shelf q) (g.S.Shelf.read_faults c.decide_filed.new.shelf q) (c.in_ok-judged.ensures.reads.reads q) r)
     (verifies source filed) l (t.0 ∷ []) (filed ∷ []) (outcome_of o) moved in

@@ -6,7 +6,7 @@ use Rattle.commands.specs.Gathering.{Reads, Compiles}
 use Rattle.reports.specs.OutcomeViews.{outcome_of}
 use Rattle.commands.proofs.ReadingSteps.{reads_by}
 use Rattle.commands.proofs.Results.{if_ok}
-use Rattle.delivery.specs.Ending.{EndsModel}
+use Rattle.delivery.specs.Ending.{ModelOutcome}
 use Rattle.delivery.specs.Served.{AreReadable}
 use Rattle.delivery.proofs.deciding.from_made_model.Goals as goal
 
@@ -17,7 +17,7 @@ returns-clause-outcome g c =
     let command = command_of c.args.command.now in
     if_ok _ _ c.from_model_text.result
     (λ o h.
-    let k = subst (λ (t : Task). EndsModel held counted t c.deref.result.now (outcome_of o)) c.task-task.ensures.task h in
+    let k = subst (λ (t : Task). ModelOutcome held counted t c.deref.result.now (outcome_of o)) c.task-task.ensures.task h in
     record {
       gathered = k.gathered;
       gathers = subst (λ (s : Source). Reads held counted s k.gathered (λ text. Compiles held counted (task_of command) text k.gathered)) (sym c.requires.model)

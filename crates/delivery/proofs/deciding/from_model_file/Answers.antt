@@ -8,7 +8,7 @@ use Rattle.commands.specs.declared.files.File.TheVariants.{Model}
 use Rattle.reports.specs.OutcomeViews.{outcome_of}
 use Rattle.commands.proofs.ReadingSteps.{reads_by, reads_then}
 use Rattle.commands.proofs.Results.{if_ok}
-use Rattle.delivery.specs.Ending.{EndsModel}
+use Rattle.delivery.specs.Ending.{ModelOutcome}
 use Rattle.delivery.specs.Served.{IsReadable, AreReadable}
 use Rattle.delivery.proofs.ServedLemmas.{all_readable}
 use Rattle.delivery.proofs.Steps.{rose_after, model_on, not_read_ends}
@@ -41,10 +41,10 @@ returns-in-Ok-clause-outcome g c =
     let text = c.in-Ok.text.items in
     if_ok _ _ c.from_model_text.result
     (λ o h.
-    let by_task = subst (λ (t : Task). EndsModel (g.S.Shelf.held c.read_file.new.shelf) near t c.deref.result.now (outcome_of o)) c.task-task.ensures.task h in
-    let moved : EndsModel held near task text (outcome_of o) =
-    subst (λ (held : Option Files). EndsModel held near task text (outcome_of o)) c.in-Ok.ensures.reads.held
-    (subst (λ (bytes : List ℕ). EndsModel (g.S.Shelf.held c.read_file.new.shelf) near task bytes (outcome_of o)) c.deref.ensures.value by_task) in
+    let by_task = subst (λ (t : Task). ModelOutcome (g.S.Shelf.held c.read_file.new.shelf) near t c.deref.result.now (outcome_of o)) c.task-task.ensures.task h in
+    let moved : ModelOutcome held near task text (outcome_of o) =
+    subst (λ (held : Option Files). ModelOutcome held near task text (outcome_of o)) c.in-Ok.ensures.reads.held
+    (subst (λ (bytes : List ℕ). ModelOutcome (g.S.Shelf.held c.read_file.new.shelf) near task bytes (outcome_of o)) c.deref.ensures.value by_task) in
     let e = model_on held near far
     (λ name r. rose_after (g.S.Shelf.read_faults c.args.shelf.now name) (g.S.Shelf.read_faults c.read_file.new.shelf name) (g.S.Shelf.read_faults c.from_model_text.new.shelf name) (c.in-Ok.ensures.reads.reads name) r)
     task text (outcome_of o) moved in

@@ -6,10 +6,10 @@ use Rattle.delivery.specs.Pieces.{IsJudged}
 use Rattle.delivery.specs.declared.judging.closing.Judged.{Judged}
 use Rattle.delivery.proofs.rows.sound_rows.Goals as goal
 
-pub returns-in_ok-misbuilt-in-Misbuilt : goal.returns-in_ok-misbuilt-in-Misbuilt
-returns-in_ok-misbuilt-in-Misbuilt c l text h =
-    let j = subst (λ (x : Judged). IsJudged l text x) c.in-Misbuilt.is h in
-    at_fault c.in-Misbuilt.line (fault_of c.in-Misbuilt.code) j c.in_ok-misbuilt-in-Misbuilt.ensures
+pub returns-in_ok-malformed-in-Malformed : goal.returns-in_ok-malformed-in-Malformed
+returns-in_ok-malformed-in-Malformed c l text h =
+    let j = subst (λ (x : Judged). IsJudged l text x) c.in-Malformed.is h in
+    at_fault c.in-Malformed.line (fault_of c.in-Malformed.code) j c.in_ok-malformed-in-Malformed.ensures
 
 pub returns-in_ok-rejected-in-Faulty : goal.returns-in_ok-rejected-in-Faulty
 returns-in_ok-rejected-in-Faulty c l text h =

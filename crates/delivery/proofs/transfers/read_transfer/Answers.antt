@@ -20,8 +20,8 @@ returns-in-Unread-clause-transfer g c =
     (subst (λ (r : RowsReading TransferKept). AreFileRows HasTaken held name l rose r)
     c.in-Unread.is c.in_ok-refusal.ensures.rows)
 
-pub returns-in-Misbuilt-clause-transfer : goal.returns-in-Misbuilt-clause-transfer
-returns-in-Misbuilt-clause-transfer g c =
+pub returns-in-Malformed-clause-transfer : goal.returns-in-Malformed-clause-transfer
+returns-in-Malformed-clause-transfer g c =
     let held = g.S.Shelf.held c.args.shelf.now in
     let name = c.args.name.now in
     let l = layout_view c.args.layout.now in
@@ -29,7 +29,7 @@ returns-in-Misbuilt-clause-transfer g c =
     let new = g.S.Shelf.read_faults c.read_for.new.shelf in
     subst (λ (r : RowsReading TransferKept).
     AreFileRows HasTaken held name l (Rose (old name) (new name)) r)
-    c.in-Misbuilt.is c.in_ok-refusal.ensures.rows
+    c.in-Malformed.is c.in_ok-refusal.ensures.rows
 
 pub judge_rows-requires-clause-text : goal.judge_rows-requires-clause-text
 judge_rows-requires-clause-text g c =

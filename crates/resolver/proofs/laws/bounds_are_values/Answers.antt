@@ -1,5 +1,5 @@
-use Rattle.resolver.proofs.BoundValues.{bound_is_value, value_is_bound}
-use Rattle.resolver.proofs.NumberTokens.{token_spells}
+use Rattle.resolver.proofs.TextLemmas.BoundValues.{bound_is_value, value_is_bound}
+use Rattle.resolver.proofs.TextLemmas.NumberTokens.{token_spells}
 use Rattle.resolver.proofs.laws.bounds_are_values.Goals as goal
 
 pub returns-clause-spelt : goal.returns-clause-spelt

@@ -1,4 +1,4 @@
-use Rattle.resolver.proofs.RuleLaws.{all_short, broken_is_listed, listed_is_broken}
+use Rattle.resolver.proofs.RuleLemmas.RuleLaws.{all_short, broken_is_listed, listed_is_broken}
 use Rattle.resolver.proofs.laws.broken_is_listed.Goals as goal
 
 pub returns-clause-listed : goal.returns-clause-listed

@@ -1,4 +1,5 @@
-use Rattle.resolver.proofs.RuleLaws.{all_short, first_broken, none_counts, none_is_broken}
+use Rattle.resolver.proofs.RuleLemmas.RuleLaws.{all_short, first_broken, none_counts}
+use Rattle.resolver.proofs.RuleLemmas.RuleLaws.{none_is_broken}
 use Rattle.resolver.proofs.laws.first_broken_counts.Goals as goal
 
 pub returns-clause-first : goal.returns-clause-first

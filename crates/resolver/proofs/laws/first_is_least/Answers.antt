@@ -1,6 +1,6 @@
 use Rattle.resolver.specs.Rules.{faults}
-use Rattle.resolver.proofs.Least.{least}
-use Rattle.resolver.proofs.NoFault.{none_broken}
+use Rattle.resolver.proofs.RuleLemmas.Least.{least}
+use Rattle.resolver.proofs.SoundLemmas.NoFault.{none_broken}
 use Rattle.resolver.proofs.laws.first_is_least.Goals as goal
 
 pub returns-clause-least : goal.returns-clause-least

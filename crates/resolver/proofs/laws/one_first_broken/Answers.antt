@@ -1,4 +1,4 @@
-use Rattle.resolver.proofs.OneFirstBroken.{one_first_broken}
+use Rattle.resolver.proofs.TextLemmas.OneFirstBroken.{one_first_broken}
 use Rattle.resolver.proofs.laws.one_first_broken.Goals as goal
 
 pub returns : goal.returns

@@ -1,5 +1,5 @@
-use Rattle.resolver.proofs.OneModel.{one_model}
-use Rattle.resolver.proofs.StandingModels.{is_kept}
+use Rattle.resolver.proofs.TextLemmas.OneModel.{one_model}
+use Rattle.resolver.proofs.SoundLemmas.StandingModels.{is_kept}
 use Rattle.resolver.proofs.laws.stands_for_what_is_written.Goals as goal
 
 pub returns-clause-kept : goal.returns-clause-kept

@@ -3,7 +3,7 @@ use Rattle.std.proofs.lemmas.List.{at_drop_all}
 use Rattle.ili_grammar.specs.declared.syntax.Element as element
 use Rattle.ili_grammar.specs.Values.{elements_of}
 use Rattle.resolver.specs.Numbers.{leaves}
-use Rattle.resolver.proofs.CountedLeaves.{leaves_behind, leaves_out}
+use Rattle.resolver.proofs.BuildLemmas.CountedLeaves.{leaves_behind, leaves_out}
 use Rattle.resolver.proofs.leaves.+leaves_in.Goals as goal
 
 pub loop-part-preserved : goal.loop-part-preserved

@@ -1,5 +1,5 @@
 use Rattle.std.proofs.Common.{refl, arith}
-use Rattle.resolver.proofs.CountedLeaves.{leaves_behind}
+use Rattle.resolver.proofs.BuildLemmas.CountedLeaves.{leaves_behind}
 use Rattle.resolver.proofs.leaves.leaves.Goals as goal
 
 pub loop-element-preserved : goal.loop-element-preserved

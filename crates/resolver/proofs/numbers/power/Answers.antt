@@ -1,5 +1,5 @@
 use Rattle.std.proofs.Common.{ℕ, ◌<◌, subst, sym}
-use Rattle.resolver.proofs.Powers.{power_positive}
+use Rattle.resolver.proofs.ListLemmas.Powers.{power_positive}
 use Rattle.resolver.proofs.numbers.power.Goals as goal
 
 pub returns-clause-least : goal.returns-clause-least

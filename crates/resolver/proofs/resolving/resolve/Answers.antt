@@ -8,9 +8,9 @@ use Rattle.resolver.specs.Models.{resolved_model}
 use Rattle.resolver.specs.Sound.{IsSound}
 use Rattle.resolver.specs.Standing.{IsModel}
 use Rattle.resolver.specs.Values.{model_of as built_model}
-use Rattle.resolver.proofs.RuleLaws.{all_short, first_named, none_is_broken}
-use Rattle.resolver.proofs.SoundModels.{is_sound}
-use Rattle.resolver.proofs.StandingModels.{is_kept}
+use Rattle.resolver.proofs.RuleLemmas.RuleLaws.{all_short, first_named, none_is_broken}
+use Rattle.resolver.proofs.SoundLemmas.SoundModels.{is_sound}
+use Rattle.resolver.proofs.SoundLemmas.StandingModels.{is_kept}
 use Rattle.resolver.proofs.resolving.resolve.Goals as goal
 
 pub returns-clause-model : goal.returns-clause-model

@@ -9,9 +9,9 @@ use Rattle.resolver.specs.Scopes.{Scope, everywhere, outside}
 use Rattle.resolver.specs.DomainScopes.{domains_in}
 use Rattle.resolver.specs.Limits.{AreBoundedDomains, IsBoundedScope, IsBoundedTopic}
 use Rattle.resolver.specs.Rules.{domains_faults, topic_faults, twice_in, first_fault}
-use Rattle.resolver.proofs.Folds.{first_append}
-use Rattle.resolver.proofs.Bounded.{bounded_outside}
-use Rattle.resolver.proofs.Within.{bounded_everywhere, bounded_topics}
+use Rattle.resolver.proofs.ListLemmas.Folds.{first_append}
+use Rattle.resolver.proofs.BuildLemmas.Bounded.{bounded_outside}
+use Rattle.resolver.proofs.BuildLemmas.Within.{bounded_everywhere, bounded_topics}
 use Rattle.resolver.proofs.rules.first_fault.Goals as goal
 
 -- what is wrong outside the topics was reported, and then what is wrong in them

@@ -21,5 +21,5 @@ returns-in-Ok c text h =
 pub returns-in-Err : goal.returns-in-Err
 returns-in-Err c text h =
     let l = layout_view c.args.layout.now in
-    c.misbuilt.ensures l text
+    c.malformed.ensures l text
     (subst (λ (k : Result TransferKept ReadRefusal). IsKept HasTaken l text k) c.in-Err.is h)

@@ -1,8 +1,8 @@
 use Rattle.std.proofs.Common.{◌∙◌, refl}
 use Rattle.resolver.specs.ScopeViews.{scope_of}
 use Rattle.resolver.specs.Models.{attribute, attributes}
-use Rattle.resolver.proofs.Bounded.{bounded_behind}
-use Rattle.resolver.proofs.Pushed.{next_resolved, all_resolved}
+use Rattle.resolver.proofs.BuildLemmas.Bounded.{bounded_behind}
+use Rattle.resolver.proofs.BuildLemmas.Pushed.{next_resolved, all_resolved}
 use Rattle.resolver.proofs.build.attributes.attributes.Goals as goal
 
 pub attribute-requires-clause-written : goal.attribute-requires-clause-written

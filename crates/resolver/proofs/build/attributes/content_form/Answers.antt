@@ -1,5 +1,5 @@
 use Rattle.resolver.specs.ScopeViews.{scope_of}
-use Rattle.resolver.proofs.Bounded.{type_bounded, value_bounded}
+use Rattle.resolver.proofs.BuildLemmas.Bounded.{type_bounded, value_bounded}
 use Rattle.resolver.proofs.build.attributes.content_form.Goals as goal
 
 pub type_form-requires-clause-kind : goal.type_form-requires-clause-kind

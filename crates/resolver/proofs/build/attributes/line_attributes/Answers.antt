@@ -1,8 +1,8 @@
 use Rattle.std.proofs.Common.{◌∙◌, refl}
 use Rattle.resolver.specs.ScopeViews.{scope_of}
 use Rattle.resolver.specs.Models.{line_attribute, line_attributes}
-use Rattle.resolver.proofs.Bounded.{bounded_behind}
-use Rattle.resolver.proofs.Pushed.{next_resolved, all_resolved}
+use Rattle.resolver.proofs.BuildLemmas.Bounded.{bounded_behind}
+use Rattle.resolver.proofs.BuildLemmas.Pushed.{next_resolved, all_resolved}
 use Rattle.resolver.proofs.build.attributes.line_attributes.Goals as goal
 
 pub line_attribute-requires-clause-attribute : goal.line_attribute-requires-clause-attribute

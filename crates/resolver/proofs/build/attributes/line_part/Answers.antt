@@ -2,7 +2,7 @@ use Rattle.std.proofs.Common.{List, subst, sym}
 use Rattle.ili_grammar.specs.declared.syntax.AttributeSyntax as attribute
 use Rattle.ili_grammar.specs.Values.{attributes_of}
 use Rattle.resolver.specs.Limits.{AreBounded}
-use Rattle.resolver.proofs.Bounded.{bounded_line}
+use Rattle.resolver.proofs.BuildLemmas.Bounded.{bounded_line}
 use Rattle.resolver.proofs.build.attributes.line_part.Goals as goal
 
 pub line_attributes-requires-clause-attributes : goal.line_attributes-requires-clause-attributes

@@ -1,6 +1,7 @@
 use Rattle.std.proofs.Common.{◌^◌, ℤ, pos, neg_ℤ, ◌<ℤ◌, subst, sym}
 use Rattle.ili_grammar.specs.Values.{decimal_of}
-use Rattle.resolver.proofs.Bounds.{bound_back, bound_fits, in_units_above, in_units_below}
+use Rattle.resolver.proofs.BuildLemmas.Bounds.{bound_back, bound_fits, in_units_above}
+use Rattle.resolver.proofs.BuildLemmas.Bounds.{in_units_below}
 use Rattle.resolver.proofs.build.forms.bound.Goals as goal
 
 pub overflow_cast-result : goal.overflow_cast-result

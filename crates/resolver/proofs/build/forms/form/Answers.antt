@@ -6,7 +6,7 @@ use Rattle.ili_grammar.specs.declared.syntax.Content.TheFolds.{fold-roll-TypeSyn
 use Rattle.ili_grammar.specs.Syntax.{TypeSyntax, LineSyntax, AttributeSyntax, Content}
 use Rattle.ili_grammar.specs.Values.{elements_of, type_of, content_step, type_step, attribute_step}
 use Rattle.ili_grammar.specs.Values.{line_step}
-use Rattle.resolver.proofs.CountedLeaves.{counted_form}
+use Rattle.resolver.proofs.BuildLemmas.CountedLeaves.{counted_form}
 use Rattle.resolver.proofs.build.forms.form.Goals as goal
 
 pub returns-in-Enumeration : goal.returns-in-Enumeration

@@ -7,7 +7,7 @@ use Rattle.ili_grammar.specs.Syntax.{Decimal}
 use Rattle.ili_grammar.specs.Values.{decimal_of}
 use Rattle.resolver.specs.Models.{text_length}
 use Rattle.resolver.specs.Numbers.{is_text_length}
-use Rattle.resolver.proofs.ExactNumbers.{length_kept}
+use Rattle.resolver.proofs.BuildLemmas.ExactNumbers.{length_kept}
 use Rattle.resolver.proofs.build.forms.text_length.Goals as goal
 
 fits : (n : ℕ) → n ≤ 65535 → FitsSigned w64 (pos n)

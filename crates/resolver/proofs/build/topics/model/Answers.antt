@@ -7,7 +7,7 @@ use Rattle.resolver.specs.Limits.{AreBoundedDomains, IsBoundedTopic}
 use Rattle.resolver.specs.Scopes.{everywhere}
 use Rattle.resolver.specs.Models.{topic as spec_topic}
 use Rattle.resolver.specs.Values.{topics_of as built_topics}
-use Rattle.resolver.proofs.Within.{bounded_topics, bounded_everywhere}
+use Rattle.resolver.proofs.BuildLemmas.Within.{bounded_topics, bounded_everywhere}
 use Rattle.resolver.proofs.build.topics.model.Goals as goal
 
 pub topics-requires-clause-above : goal.topics-requires-clause-above

@@ -5,8 +5,8 @@ use Rattle.ili_grammar.specs.Values.{table_of, tables_of}
 use Rattle.resolver.specs.ScopeViews.{scope_of}
 use Rattle.resolver.specs.Models.{table}
 use Rattle.resolver.specs.Values.{table_of as built_table}
-use Rattle.resolver.proofs.Folds.{next_viewed, all_pushed}
-use Rattle.resolver.proofs.Viewed.{of_item}
+use Rattle.resolver.proofs.ListLemmas.Folds.{next_viewed, all_pushed}
+use Rattle.resolver.proofs.ListLemmas.Viewed.{of_item}
 use Rattle.resolver.proofs.build.topics.tables.Goals as goal
 
 pub table-requires-clause-written : goal.table-requires-clause-written

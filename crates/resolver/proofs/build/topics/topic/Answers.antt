@@ -6,7 +6,7 @@ use Rattle.resolver.specs.Scopes.{Scope}
 use Rattle.resolver.specs.DomainScopes.{domains_in}
 use Rattle.resolver.specs.Models.{topic_in}
 use Rattle.resolver.specs.Values.{topic_of as built_topic}
-use Rattle.resolver.proofs.Bounded.{bounded_inside}
+use Rattle.resolver.proofs.BuildLemmas.Bounded.{bounded_inside}
 use Rattle.resolver.proofs.build.topics.topic.Goals as goal
 
 pub topic_in-requires-clause-scope : goal.topic_in-requires-clause-scope

@@ -5,8 +5,8 @@ use Rattle.ili_grammar.specs.Values.{topic_of, topics_of}
 use Rattle.resolver.specs.DomainScopes.{domains_in}
 use Rattle.resolver.specs.Models.{topic}
 use Rattle.resolver.specs.Values.{topic_of as built_topic}
-use Rattle.resolver.proofs.Folds.{next_viewed, all_pushed}
-use Rattle.resolver.proofs.Viewed.{of_item}
+use Rattle.resolver.proofs.ListLemmas.Folds.{next_viewed, all_pushed}
+use Rattle.resolver.proofs.ListLemmas.Viewed.{of_item}
 use Rattle.resolver.proofs.build.topics.topics.Goals as goal
 
 pub topic-requires-clause-written : goal.topic-requires-clause-written

@@ -5,7 +5,7 @@ use Rattle.ili_grammar.specs.Values.{ident_of}
 use Rattle.resolver.specs.NameIndexes.{names_in}
 use Rattle.resolver.specs.Scopes.{place, texts}
 use Rattle.resolver.specs.Models.{numbers}
-use Rattle.resolver.proofs.Folds.{next_pushed}
+use Rattle.resolver.proofs.ListLemmas.Folds.{next_pushed}
 use Rattle.resolver.proofs.build.values.list_places.Goals as goal
 
 pub loop-name-preserved : goal.loop-name-preserved

@@ -3,7 +3,7 @@ use Rattle.std.proofs.lemmas.List.{length-map}
 use Rattle.ili_grammar.specs.Syntax.{Ident}
 use Rattle.resolver.specs.NameIndexes.{names_in}
 use Rattle.resolver.specs.Scopes.{texts}
-use Rattle.resolver.proofs.Levels.{place_below}
+use Rattle.resolver.proofs.ScopeLemmas.Levels.{place_below}
 use Rattle.resolver.proofs.build.values.number.Goals as goal
 
 pub overflow_cast-result : goal.overflow_cast-result

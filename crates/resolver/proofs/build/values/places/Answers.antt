@@ -5,7 +5,7 @@ use Rattle.resolver.specs.declared.models.Places.{Places}
 use Rattle.resolver.specs.NameIndexes.{names_in}
 use Rattle.resolver.specs.Scopes.{texts}
 use Rattle.resolver.specs.Models.{numbers}
-use Rattle.resolver.proofs.Folds.{next_viewed, all_pushed}
+use Rattle.resolver.proofs.ListLemmas.Folds.{next_viewed, all_pushed}
 use Rattle.resolver.proofs.build.values.places.Goals as goal
 
 pub loop-list-preserved : goal.loop-list-preserved

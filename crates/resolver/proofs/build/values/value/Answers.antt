@@ -1,5 +1,5 @@
 use Rattle.resolver.specs.ScopeViews.{scope_of}
-use Rattle.resolver.proofs.Bounded.{type_bounded, value_bounded}
+use Rattle.resolver.proofs.BuildLemmas.Bounded.{type_bounded, value_bounded}
 use Rattle.resolver.proofs.build.values.value.Goals as goal
 
 pub form-requires-clause-numbers : goal.form-requires-clause-numbers

@@ -1,7 +1,7 @@
 use Rattle.resolver.specs.FaultViews.{fault_in}
 use Rattle.resolver.specs.NameIndexes.{names_in, names_if}
 use Rattle.resolver.specs.Steps.{domains_at}
-use Rattle.resolver.proofs.DomainRules.{domains_told}
+use Rattle.resolver.proofs.ScopeLemmas.DomainRules.{domains_told}
 use Rattle.resolver.proofs.rules.domains.check_domains.Goals as goal
 
 pub returns : goal.returns

@@ -8,8 +8,8 @@ use Rattle.ili_grammar.specs.Values.{domain_of}
 use Rattle.resolver.specs.ScopeViews.{scope_of}
 use Rattle.resolver.specs.Steps.{domains_at}
 use Rattle.resolver.specs.Rules.{domain_faults}
-use Rattle.resolver.proofs.Folds.{told_over}
-use Rattle.resolver.proofs.Viewed.{of_item}
+use Rattle.resolver.proofs.ListLemmas.Folds.{told_over}
+use Rattle.resolver.proofs.ListLemmas.Viewed.{of_item}
 use Rattle.resolver.proofs.rules.domains.check_types.Goals as goal
 
 pub check_type-requires-clause-kind : goal.check_type-requires-clause-kind

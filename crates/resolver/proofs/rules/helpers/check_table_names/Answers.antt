@@ -8,8 +8,8 @@ use Rattle.resolver.specs.Faults.{first_from}
 use Rattle.resolver.specs.FaultViews.{fault_in}
 use Rattle.resolver.specs.ScopeViews.{scope_of}
 use Rattle.resolver.specs.Rules.{Entry, twice, table_entries}
-use Rattle.resolver.proofs.Folds.{list_from}
-use Rattle.resolver.proofs.Keys.{entries_told}
+use Rattle.resolver.proofs.ListLemmas.Folds.{list_from}
+use Rattle.resolver.proofs.ListLemmas.Keys.{entries_told}
 use Rattle.resolver.proofs.rules.helpers.check_table_names.Goals as goal
 
 pub loop-table-preserved : goal.loop-table-preserved

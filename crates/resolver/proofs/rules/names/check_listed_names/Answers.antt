@@ -5,7 +5,7 @@ use Rattle.ili_grammar.specs.Values.{ident_of}
 use Rattle.resolver.specs.NameIndexes.{names_in}
 use Rattle.resolver.specs.Scopes.{texts}
 use Rattle.resolver.specs.Rules.{no_attribute}
-use Rattle.resolver.proofs.Folds.{told_over}
+use Rattle.resolver.proofs.ListLemmas.Folds.{told_over}
 use Rattle.resolver.proofs.rules.names.check_listed_names.Goals as goal
 
 pub loop-name-preserved : goal.loop-name-preserved

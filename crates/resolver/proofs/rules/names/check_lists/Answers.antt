@@ -4,7 +4,7 @@ use Rattle.ili_grammar.specs.Values.{lists_of}
 use Rattle.resolver.specs.NameIndexes.{names_in}
 use Rattle.resolver.specs.Scopes.{texts}
 use Rattle.resolver.specs.Rules.{lists_faults}
-use Rattle.resolver.proofs.Folds.{told_over}
+use Rattle.resolver.proofs.ListLemmas.Folds.{told_over}
 use Rattle.resolver.proofs.rules.names.check_lists.Goals as goal
 
 pub loop-list-preserved : goal.loop-list-preserved

@@ -4,7 +4,7 @@ use Rattle.ili_grammar.specs.Values.{ident_of}
 use Rattle.resolver.specs.FaultViews.{Reports}
 use Rattle.resolver.specs.Numbers.{most_decimals}
 use Rattle.resolver.specs.Rules.{spans_faults}
-use Rattle.resolver.proofs.NumberTypes.{one_span}
+use Rattle.resolver.proofs.BuildLemmas.NumberTypes.{one_span}
 use Rattle.resolver.proofs.rules.numbers.check_numbers.Goals as goal
 
 pub returns-in-Dim1 : goal.returns-in-Dim1

@@ -3,8 +3,8 @@ use Rattle.ili_grammar.specs.declared.syntax.AttributeSyntax as attribute
 use Rattle.ili_grammar.specs.Values.{attributes_of}
 use Rattle.resolver.specs.ScopeViews.{scope_of}
 use Rattle.resolver.specs.Rules.{attributes_faults}
-use Rattle.resolver.proofs.Folds.{told_over}
-use Rattle.resolver.proofs.Types.{short_behind}
+use Rattle.resolver.proofs.ListLemmas.Folds.{told_over}
+use Rattle.resolver.proofs.BuildLemmas.Types.{short_behind}
 use Rattle.resolver.proofs.rules.tables.check_attributes.Goals as goal
 
 pub loop-attribute-preserved : goal.loop-attribute-preserved

@@ -5,8 +5,8 @@ use Rattle.ili_grammar.specs.Values.{table_of, tables_of}
 use Rattle.resolver.specs.ScopeViews.{scope_of}
 use Rattle.resolver.specs.Limits.{IsBoundedTable}
 use Rattle.resolver.specs.Rules.{table_faults}
-use Rattle.resolver.proofs.Folds.{told_over}
-use Rattle.resolver.proofs.Viewed.{of_item}
+use Rattle.resolver.proofs.ListLemmas.Folds.{told_over}
+use Rattle.resolver.proofs.ListLemmas.Viewed.{of_item}
 use Rattle.resolver.proofs.rules.tables.check_tables.Goals as goal
 
 pub check_table-requires-clause-table : goal.check_table-requires-clause-table

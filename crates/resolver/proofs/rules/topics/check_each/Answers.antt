@@ -5,8 +5,8 @@ use Rattle.ili_grammar.specs.Values.{topic_of, topics_of}
 use Rattle.resolver.specs.Limits.{IsBoundedTopic}
 use Rattle.resolver.specs.DomainScopes.{domains_in}
 use Rattle.resolver.specs.Rules.{topic_faults}
-use Rattle.resolver.proofs.Folds.{told_over}
-use Rattle.resolver.proofs.Viewed.{of_item}
+use Rattle.resolver.proofs.ListLemmas.Folds.{told_over}
+use Rattle.resolver.proofs.ListLemmas.Viewed.{of_item}
 use Rattle.resolver.proofs.rules.topics.check_each.Goals as goal
 
 pub check_topic-requires-clause-topic : goal.check_topic-requires-clause-topic

@@ -7,7 +7,7 @@ use Rattle.resolver.specs.Limits.{IsBoundedScope}
 use Rattle.resolver.specs.Scopes.{Scope, inside}
 use Rattle.resolver.specs.DomainScopes.{domains_in}
 use Rattle.resolver.specs.Rules.{domains_faults, tables_faults}
-use Rattle.resolver.proofs.Bounded.{bounded_inside}
+use Rattle.resolver.proofs.BuildLemmas.Bounded.{bounded_inside}
 use Rattle.resolver.proofs.rules.topics.check_topic.Goals as goal
 
 pub check_parts-requires-clause-scope : goal.check_parts-requires-clause-scope

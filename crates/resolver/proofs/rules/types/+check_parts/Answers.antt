@@ -3,8 +3,8 @@ use Rattle.ili_grammar.specs.declared.syntax.Element as element
 use Rattle.ili_grammar.specs.Values.{elements_of}
 use Rattle.resolver.specs.FaultViews.{fault_in}
 use Rattle.resolver.specs.Rules.{parts_faults}
-use Rattle.resolver.proofs.Folds.{told_over}
-use Rattle.resolver.proofs.Types.{parts_begin}
+use Rattle.resolver.proofs.ListLemmas.Folds.{told_over}
+use Rattle.resolver.proofs.BuildLemmas.Types.{parts_begin}
 use Rattle.resolver.proofs.rules.types.+check_parts.Goals as goal
 
 pub loop-part-init : goal.loop-part-init

@@ -4,8 +4,8 @@ use Rattle.ili_grammar.specs.Values.{ident_of, attributes_of}
 use Rattle.resolver.specs.FaultViews.{fault_in}
 use Rattle.resolver.specs.ScopeViews.{scope_of}
 use Rattle.resolver.specs.Rules.{attributes_faults}
-use Rattle.resolver.proofs.Folds.{told_over}
-use Rattle.resolver.proofs.Types.{line_begin, short_behind, short_read}
+use Rattle.resolver.proofs.ListLemmas.Folds.{told_over}
+use Rattle.resolver.proofs.BuildLemmas.Types.{line_begin, short_behind, short_read}
 use Rattle.resolver.proofs.rules.types.+rules.Goals as goal
 
 pub check_line-loop-attribute-init : goal.check_line-loop-attribute-init

@@ -2,7 +2,7 @@ use Rattle.std.proofs.Common.{List, ◌∙◌, refl}
 use Rattle.ili_grammar.specs.declared.syntax.Element as element
 use Rattle.ili_grammar.specs.Values.{elements_of}
 use Rattle.resolver.specs.Rules.{parts_faults}
-use Rattle.resolver.proofs.Folds.{told_over}
+use Rattle.resolver.proofs.ListLemmas.Folds.{told_over}
 use Rattle.resolver.proofs.rules.types.check_enumeration.Goals as goal
 
 pub loop-element-preserved : goal.loop-element-preserved

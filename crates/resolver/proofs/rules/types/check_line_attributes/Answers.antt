@@ -3,7 +3,7 @@ use Rattle.ili_grammar.specs.declared.syntax.AttributeSyntax as attribute
 use Rattle.ili_grammar.specs.Values.{attributes_of}
 use Rattle.resolver.specs.ScopeViews.{scope_of}
 use Rattle.resolver.specs.Rules.{line_attribute_faults}
-use Rattle.resolver.proofs.Folds.{told_over}
+use Rattle.resolver.proofs.ListLemmas.Folds.{told_over}
 use Rattle.resolver.proofs.rules.types.check_line_attributes.Goals as goal
 
 pub loop-attribute-preserved : goal.loop-attribute-preserved

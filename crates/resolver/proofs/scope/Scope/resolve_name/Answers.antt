@@ -4,7 +4,7 @@ use Rattle.ili_grammar.specs.Values.{type_of}
 use Rattle.resolver.specs.Scopes.{meaning_outside}
 use Rattle.resolver.specs.DomainScopes.{domains_above}
 use Rattle.resolver.specs.ScopeViews.{meaning_of, scope_of}
-use Rattle.resolver.proofs.Meanings.{followed_is, meaning_here}
+use Rattle.resolver.proofs.ScopeLemmas.Meanings.{followed_is, meaning_here}
 use Rattle.resolver.proofs.scope.Scope.resolve_name.Goals as goal
 
 pub returns : goal.returns

@@ -4,7 +4,7 @@ use Rattle.ili_grammar.specs.Values.{type_of}
 use Rattle.resolver.specs.Scopes.{outside}
 use Rattle.resolver.specs.DomainScopes.{domains_in}
 use Rattle.resolver.specs.ScopeViews.{meaning_of}
-use Rattle.resolver.proofs.Meanings.{followed_is}
+use Rattle.resolver.proofs.ScopeLemmas.Meanings.{followed_is}
 use Rattle.resolver.proofs.scope.Scope.resolve_outside.Goals as goal
 
 pub returns : goal.returns

@@ -6,7 +6,7 @@ use Rattle.std.specs.List.{list_any}
 use Rattle.std.proofs.Common.{None}
 use Rattle.std.specs.Option.{is_some}
 use Rattle.resolver.specs.Aliases.{step_in}
-use Rattle.resolver.proofs.Circles.{mark_step, ends_are_rounds}
+use Rattle.resolver.proofs.ScopeLemmas.Circles.{mark_step, ends_are_rounds}
 use Rattle.resolver.proofs.scope.aliases.cyclic.Goals as goal
 
 pub loop-target-preserved : goal.loop-target-preserved

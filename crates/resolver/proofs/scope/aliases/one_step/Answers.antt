@@ -1,5 +1,5 @@
 use Rattle.std.proofs.Common.{◌≡◌, length, arith}
-use Rattle.resolver.proofs.Reaching.{jump_one}
+use Rattle.resolver.proofs.ListLemmas.Reaching.{jump_one}
 use Rattle.resolver.proofs.scope.aliases.one_step.Goals as goal
 
 pub returns : goal.returns

@@ -1,6 +1,6 @@
 use Rattle.std.proofs.Common.{◌≡◌, length, arith}
 use Rattle.resolver.specs.Aliases.{step_in}
-use Rattle.resolver.proofs.Reaching.{jump_next, jump_last}
+use Rattle.resolver.proofs.ListLemmas.Reaching.{jump_next, jump_last}
 use Rattle.resolver.proofs.scope.aliases.targets.Goals as goal
 
 pub loop-preserved : goal.loop-preserved

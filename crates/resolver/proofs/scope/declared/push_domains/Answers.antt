@@ -2,7 +2,7 @@ use Rattle.std.proofs.Common.{refl, ◌∙◌}
 use Rattle.std.specs.Borrow.{Bor}
 use Rattle.ili_grammar.specs.declared.syntax.DomainSyntax as domain
 use Rattle.ili_grammar.specs.Values.{domain_of, domains_of}
-use Rattle.resolver.proofs.Folds.{next_viewed}
+use Rattle.resolver.proofs.ListLemmas.Folds.{next_viewed}
 use Rattle.resolver.proofs.scope.declared.push_domains.Goals as goal
 
 pub loop-domain-preserved : goal.loop-domain-preserved

@@ -2,7 +2,7 @@ use Rattle.std.proofs.Common.{ℕ, List, Option, length, ◌∙◌, subst, refl}
 use Rattle.resolver.specs.Scopes.{texts, longest}
 use Rattle.resolver.specs.Aliases.{step_in, IsJump}
 use Rattle.resolver.specs.NameIndexes.{names_in, names_if}
-use Rattle.resolver.proofs.Levels.{steps_within, steps_made, names_long}
+use Rattle.resolver.proofs.ScopeLemmas.Levels.{steps_within, steps_made, names_long}
 use Rattle.resolver.proofs.scope.domain_scope.aliases.Goals as goal
 
 pub targets-requires : goal.targets-requires

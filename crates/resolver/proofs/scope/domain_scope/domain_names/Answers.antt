@@ -5,7 +5,7 @@ use Rattle.ili_grammar.specs.declared.syntax.Ident as ident
 use Rattle.ili_grammar.specs.Values.{ident_of}
 use Rattle.resolver.specs.Scopes.{domain_names}
 use Rattle.resolver.specs.Steps.{domains_at}
-use Rattle.resolver.proofs.Folds.{next_viewed}
+use Rattle.resolver.proofs.ListLemmas.Folds.{next_viewed}
 use Rattle.resolver.proofs.scope.domain_scope.domain_names.Goals as goal
 
 pub loop-domain-preserved : goal.loop-domain-preserved

@@ -1,5 +1,5 @@
 use Rattle.std.proofs.Common.{◌≡◌, ◌+◌, ◌-◌, ◌<◌, length, arith}
-use Rattle.resolver.proofs.Indexes.{place_down}
+use Rattle.resolver.proofs.ListLemmas.Indexes.{place_down}
 use Rattle.resolver.proofs.scope.name_index.first_places.Goals as goal
 
 pub loop-place-preserved : goal.loop-place-preserved

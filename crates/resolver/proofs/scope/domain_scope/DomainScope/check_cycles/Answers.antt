@@ -6,7 +6,7 @@ use Rattle.ili_grammar.specs.Values.{domain_of}
 use Rattle.resolver.specs.FaultViews.{fault_in}
 use Rattle.resolver.specs.Scopes.{longest}
 use Rattle.resolver.specs.Aliases.{step_in}
-use Rattle.resolver.proofs.Levels.{some_within, cycles_step, marked}
+use Rattle.resolver.proofs.ScopeLemmas.Levels.{some_within, cycles_step, marked}
 use Rattle.resolver.proofs.scope.domain_scope.DomainScope.check_cycles.Goals as goal
 
 pub cyclic-requires-clause-steps : goal.cyclic-requires-clause-steps

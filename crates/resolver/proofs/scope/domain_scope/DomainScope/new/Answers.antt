@@ -6,7 +6,7 @@ use Rattle.resolver.specs.Numbers.{counted_leaves}
 use Rattle.resolver.specs.Scopes.{texts, domain_names}
 use Rattle.resolver.specs.NameIndexes.{names_if}
 use Rattle.resolver.specs.Steps.{domains_at, steps_of}
-use Rattle.resolver.proofs.Levels.{within_some}
+use Rattle.resolver.proofs.ScopeLemmas.Levels.{within_some}
 use Rattle.resolver.proofs.scope.domain_scope.DomainScope.new.Goals as goal
 
 pub aliases-requires : goal.aliases-requires

@@ -1,6 +1,6 @@
 use Rattle.std.proofs.Common.{◌≡◌, ◌<◌, List, ℕ, length, ap, arith}
 use Rattle.ili_grammar.specs.Values.{type_of}
-use Rattle.resolver.proofs.Levels.{level_place, last_is}
+use Rattle.resolver.proofs.ScopeLemmas.Levels.{level_place, last_is}
 use Rattle.resolver.proofs.scope.domain_scope.DomainScope.target.Goals as goal
 
 pub target_type-requires-clause-place : goal.target_type-requires-clause-place

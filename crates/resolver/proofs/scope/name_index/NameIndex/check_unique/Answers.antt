@@ -2,7 +2,7 @@ use Rattle.std.proofs.Common.{◌∙◌}
 use Rattle.resolver.specs.Scopes.{texts}
 use Rattle.resolver.specs.NameIndexes.{names_if}
 use Rattle.resolver.specs.FaultViews.{fault_in}
-use Rattle.resolver.proofs.Repeats.{twice_over}
+use Rattle.resolver.proofs.ListLemmas.Repeats.{twice_over}
 use Rattle.resolver.proofs.scope.name_index.NameIndex.check_unique.Goals as goal
 
 pub loop-place-preserved : goal.loop-place-preserved

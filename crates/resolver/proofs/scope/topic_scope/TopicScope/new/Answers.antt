@@ -4,7 +4,7 @@ use Rattle.ili_grammar.specs.Values.{domains_of, tables_of}
 use Rattle.resolver.specs.Scopes.{texts, table_names}
 use Rattle.resolver.specs.NameIndexes.{names_in}
 use Rattle.resolver.specs.DomainScopes.{domains_in}
-use Rattle.resolver.proofs.Named.{tables_read}
+use Rattle.resolver.proofs.ListLemmas.Named.{tables_read}
 use Rattle.resolver.proofs.scope.topic_scope.TopicScope.new.Goals as goal
 
 pub returns : goal.returns
