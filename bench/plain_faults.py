@@ -14,7 +14,7 @@ import sys
 from fractions import Fraction
 
 import plain_partition
-from plain_partition import turn
+from plain_partition import read_drawing, turn
 
 
 def meeting_place(s, t):
@@ -93,15 +93,7 @@ def middle(straight):
 
 
 def main():
-    straights, points = [], []
-    with open(sys.argv[1]) as file:
-        for line in file:
-            word, *rest = line.split()
-            numbers = tuple(map(int, rest))
-            if word == "S":
-                straights.append((numbers[:2], numbers[2:]))
-            elif word == "P":
-                points.append(numbers)
+    straights, points = read_drawing(sys.argv[1])
     faults = Faults(straights, points)
     for word, found in (("MEETING", faults.meetings), ("ON", faults.on), ("TWO", faults.two()),
                         ("EMPTY", faults.empty()), ("OPEN", faults.open())):

@@ -12,7 +12,7 @@ Prints for each point its rings, each with its corners. random_polygons.py impor
 import sys
 from collections import defaultdict
 
-from plain_partition import Cells
+from plain_partition import Cells, read_drawing
 from second_checker import clockwise
 
 
@@ -87,15 +87,7 @@ def lines_of(rings):
 
 
 def main():
-    straights, points = [], []
-    with open(sys.argv[1]) as file:
-        for line in file:
-            word, *rest = line.split()
-            numbers = tuple(map(int, rest))
-            if word == "S":
-                straights.append((numbers[:2], numbers[2:]))
-            elif word == "P":
-                points.append(numbers)
+    straights, points = read_drawing(sys.argv[1])
     for number, rings in enumerate(polygons(straights, points)):
         print("POINT %d %d" % (number, len(rings)), *lines_of(rings), sep="\n")
 

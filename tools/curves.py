@@ -15,7 +15,7 @@ wrong.
 import sys
 
 sys.dont_write_bytecode = True
-from areas import Form, Model, Refusal, logical_lines
+from areas import Refusal, read_areas
 
 
 def parts(area):
@@ -35,14 +35,11 @@ def main(words):
         print(__doc__, file=sys.stderr)
         return 2
     try:
-        with open(words[0], "rb") as file:
-            model = Model(file.read().decode("latin-1"))
-        with open(words[1], "rb") as file:
-            Form(logical_lines(file, model.goes_on), model).text()
+        areas = read_areas(words)
     except (OSError, Refusal) as why:
         print(f"curves.py: {why}", file=sys.stderr)
         return 1
-    for area in model.areas:
+    for area in areas:
         print("\n".join(parts(area)))
     return 0
 

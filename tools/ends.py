@@ -14,7 +14,7 @@ import sys
 from collections import Counter, defaultdict
 
 sys.dont_write_bytecode = True
-from areas import Form, Model, Refusal, logical_lines, units
+from areas import Refusal, read_areas, units
 from polygons import decimal
 
 
@@ -60,11 +60,7 @@ def main(words):
         print(__doc__, file=sys.stderr)
         return 2
     try:
-        with open(words[0], "rb") as file:
-            model = Model(file.read().decode("latin-1"))
-        with open(words[1], "rb") as file:
-            Form(logical_lines(file, model.goes_on), model).text()
-        for area in model.areas:
+        for area in read_areas(words):
             reach = units(words[2] if len(words) > 2 else "0.1", area.scale)
             for end in free_ends(area, reach):
                 print(told(area, *end))
