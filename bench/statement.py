@@ -1,6 +1,6 @@
 #!/usr/bin/env python3
-"""Writes docs/STATEMENT.md: which definitions a reader of the contract of `delivery::run` has to
-believe, in the order of reading: files with the names that others use; for the rule also what each
+"""Writes docs/STATEMENT.md: which definitions a reader of the contract of `delivery::run`, and of that of
+`itffaults::run`, has to believe, in the order of reading: files with the names that others use; for the rule also what each
 file is about and the sentence that stands above each name in specs/; for the answers those above
 `HasCause`. What serves one file alone is in the sums.
 
@@ -73,6 +73,12 @@ the formula is what is proved.
 options and finite maps of the kit; and the traits `Shelf` and `Sink` of `ports`, which of real files \
 and a real output say nothing but the counts. The script goes by names, so a few definitions may be \
 counted that are not needed.
+"""
+
+FAULTS = """## The program `itffaults`
+
+The clause `cause` of `itffaults::run` (`HasCause`) adds {definitions} definitions with {lines} lines, in \
+{files} files. What it says is in [PROOFS](PROOFS.md#itffaults).
 """
 
 
@@ -324,14 +330,13 @@ class Section:
         return [one for group in self.modules.values() for one in group]
 
 
-def parts_of(sources, contract):
-    """The parts of the page, each with its sections."""
+def parts_of(sources, contract, known):
+    """The parts of the page, each with its sections; what they have becomes known."""
     gone = set(contract.starts) ^ {label for _, labels in CLAUSES for label in labels}
     if gone:
         sys.exit(f"these clauses of run are new or gone, so change CLAUSES: {', '.join(sorted(gone))}")
     every = sources.reach([one for starts in contract.starts.values() for one in starts], set())
 
-    known = set()
     area = [Section(sources, title, text, [the_one(every, name)], known) for title, name, text in AREA]
     parts = [(CLAIM, area)]
     cause = the_one(every, "HasCause")
@@ -342,6 +347,12 @@ def parts_of(sources, contract):
         parts.append((title, causes + sections))
         causes = []
     return parts
+
+
+def faults_part(sources, known):
+    """What the contract of `itffaults` rests on beside what is known."""
+    cause = sources.modules["Rattle.itffaults.specs.Faults"].definitions["HasCause"]
+    return Section(sources, "All faults", "", [cause], known)
 
 
 def the_one(definitions, name):
@@ -380,7 +391,7 @@ def escaped(text):
     return text.replace("|", "\\|").replace("<", "&lt;").replace("*", "\\*")
 
 
-def page_of(sources, contract, parts):
+def page_of(sources, contract, parts, faults):
     """The text of the page."""
     sections = [section for _, here in parts for section in here]
     table = []
@@ -405,7 +416,11 @@ def page_of(sources, contract, parts):
             text += [clause_text(section) for section in here]
             text.append("")
     others = [section for _, here in parts[1:] for section in here]
-    text += ["## The files of the other parts\n", *crate_texts(sources, others), "", *types_text(sections)]
+    text += ["## The files of the other parts\n", *crate_texts(sources, others), ""]
+    more, lines, files = size([faults])
+    text += [FAULTS.format(definitions=more, lines=lines, files=files),
+             *section_texts(sources, faults, used_elsewhere(sources, contract, [*sections, faults]), False, set()),
+             "", *types_text([*sections, faults])]
     return "\n".join(text).rstrip("\n") + "\n"
 
 
@@ -496,10 +511,12 @@ def main():
         sys.exit(__doc__)
     sources = Sources()
     contract = Contract(sources)
-    parts = parts_of(sources, contract)
-    page = page_of(sources, contract, parts)
-    bare = [one for _, here in parts for section in here for one in section.definitions()
-            if not one.comment]
+    known = set()
+    parts = parts_of(sources, contract, known)
+    faults = faults_part(sources, known)
+    page = page_of(sources, contract, parts, faults)
+    bare = [one for section in [*(section for _, here in parts for section in here), faults]
+            for one in section.definitions() if not one.comment]
     for one in bare:
         print(f"{one.module}: {one.name} has no sentence", file=sys.stderr)
     wrong = bool(bare)
