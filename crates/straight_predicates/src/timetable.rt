@@ -26,8 +26,8 @@ impl Timetable {
 
     /// The timetable of these edges. The only error is out of memory. It sorts the ends: of m
     /// edges it takes O(m log m) time. The timetable keeps 8 bytes for each edge and 32 for each
-    /// event, and has room for an event at each end, 72 bytes an edge in all; while it is made, the
-    /// sorted ends take 48 more.
+    /// event, of which there are at most two an edge; while it is made, the sorted ends take 32
+    /// bytes an edge more.
     pub fn new(alloc: Global, edges: &[Edge]) -> Result<Timetable, Memory>
         requires few { length edges.now < 2 ^ 31 }
         requires sorted { AreSorted edges.now }
@@ -36,10 +36,18 @@ impl Timetable {
             (table_of t)) }
     {
         let ends = sorted_ends(alloc, edges)?;
-        let mut slots = Vec::with_capacity(alloc, ends.len())?;
+        let mut slots = Vec::with_capacity(alloc, ends.runs())?;
         let mut numbers = Vec::with_capacity(alloc, ends.len())?;
+        let mut group = Vec::new(alloc);
         let mut rays = Vec::new(alloc);
-        fill(&mut slots, &mut numbers, &mut rays, edges, &ends)?;
+        fill(
+            &mut slots,
+            &mut numbers,
+            &mut group,
+            &mut rays,
+            edges,
+            &ends,
+        )?;
         Ok(Timetable { slots, numbers })
     }
 
