@@ -13,6 +13,7 @@ pub mod RayOrder
 pub mod Cuts
 pub mod Rightward
 pub mod Filling
+pub mod StopSlots
 pub mod Groups
 pub mod EndRuns
 pub mod FillSteps

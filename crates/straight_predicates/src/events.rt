@@ -6,13 +6,14 @@ ghost use Rattle.straight_predicates.specs.EdgeLists.{edge_of, AreSorted, AreAll
 ghost use Rattle.straight_predicates.specs.Meetings.{AreClose};
 ghost use Rattle.straight_predicates.specs.PackedEnds.{ends_in};
 ghost use Rattle.straight_predicates.specs.Slopes.{ray_edges};
-ghost use Rattle.straight_predicates.specs.Slots.{AreSlots, timed_at};
+ghost use Rattle.straight_predicates.specs.Slots.{AreSlots, end_of_stops, slots_of, timed_at};
 ghost use Rattle.straight_predicates.specs.Tables.{AddsEvent, AreEndsOf, IsGroup, IsGroupOf};
 ghost use Rattle.straight_predicates.specs.Tables.{IsSplit, ends_of, low_end};
 
 use super::end_list::EndList;
 use super::rays::{Ray, ray_of, sort_rays};
-use super::slots::{End, Slot};
+use super::slots::End;
+use super::stops::Stop;
 use plane::{Edge, Point};
 use ports::Memory;
 use std::alloc::Global;
@@ -70,7 +71,7 @@ fn add_ends(ends: &mut EndList, edge: Edge, number: u32) -> Result<(), Memory>
 /// Writes the events of all ends. `group` and `rays` are room for the ends at one point and to sort
 /// in.
 pub fn fill(
-    slots: &mut Vec<Slot>,
+    stops: &mut Vec<Stop>,
     numbers: &mut Vec<u32>,
     group: &mut Vec<End>,
     rays: &mut Vec<Ray>,
@@ -81,17 +82,17 @@ pub fn fill(
     requires sorted { AreSorted edges.now }
     requires close { AreAllClose edges.now }
     requires ends { AreEndsOf edges.now (ends_in ends.now) }
-    requires slots { slots.old.items ≡ [] }
+    requires stops { stops.old.items ≡ [] }
     requires numbers { numbers.old.items ≡ [] }
     ensures table { OnOk result (IsTimetable (length edges.now) (edge_of edges.now) (map
-        (timed_at numbers.new.items) slots.new.items)) }
-    ensures within { OnOk result (AreSlots (length numbers.new.items) slots.new.items) }
-    ensures few { OnOk result (vec_len slots.new < 2 ^ 32) }
+        (timed_at numbers.new.items) (slots_of stops.new.items))) }
+    ensures within { OnOk result (AreSlots (length numbers.new.items) (slots_of stops.new.items)) }
+    ensures few { OnOk result (vec_len stops.new < 2 ^ 32) }
 {
     let mut i = 0;
     while i < ends.len() {
         copy_group(group, ends, i)?;
-        add_event(slots, numbers, rays, edges, group)?;
+        add_event(stops, numbers, rays, edges, group)?;
         i += group.len();
     }
     Ok(())
@@ -118,7 +119,7 @@ fn copy_group(group: &mut Vec<End>, ends: &EndList, from: usize) -> Result<(), M
 
 // Writes the event of a group of ends.
 fn add_event(
-    slots: &mut Vec<Slot>,
+    stops: &mut Vec<Stop>,
     numbers: &mut Vec<u32>,
     rays: &mut Vec<Ray>,
     edges: &[Edge],
@@ -128,23 +129,19 @@ fn add_event(
     requires close { AreAllClose edges.now }
     requires group { IsGroupOf edges.now (slice_index_or group.now 0 (low_end [] 0)).at group.now }
     requires few { length numbers.old.items + length group.now < 2 ^ 32 }
-    ensures { OnOk result (AddsEvent
-        (edge_of edges.now) group.now slots.old.items numbers.old.items slots.new.items
-        numbers.new.items) }
+    requires last { end_of_stops stops.old.items ≡ length numbers.old.items }
+    ensures event { OnOk result (AddsEvent
+        (edge_of edges.now) group.now (slots_of stops.old.items) numbers.old.items
+        (slots_of stops.new.items) numbers.new.items) }
+    ensures last { OnOk result (end_of_stops stops.new.items ≡ length numbers.new.items) }
 {
     let at = group[0].at;
-    let from = numbers.len() as u32;
     split_group(numbers, rays, edges, group)?;
     let middle = numbers.len() as u32;
     sort_rays(rays);
     add_numbers(numbers, rays)?;
     let upto = numbers.len() as u32;
-    slots.push(Slot {
-        at,
-        from,
-        middle,
-        upto,
-    })?;
+    stops.push(Stop { at, middle, upto })?;
     Ok(())
 }
 
