@@ -24,7 +24,7 @@
 //! an event moves at most 1,024 entries of 4 bytes in each, beside those that come and go, however
 //! many edges are live, and passes over the chunks before its place, of which there are at most
 //! m / 256 + 1. On maps some hundreds of edges are live, in one chunk. The answer takes 12 bytes
-//! an edge, 40 an event and 12 a cell; it keeps the timetable of the edges, the edges that end in
+//! an edge, 32 an event and 12 a cell; it keeps the timetable of the edges, the edges that end in
 //! one list, and no list for an event. `clashing` takes no more time.
 #![tactic(auto)]
 

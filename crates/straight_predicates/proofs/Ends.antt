@@ -1,24 +1,20 @@
 -- All ends of edges, and what is so of them once they are sorted.
-use Rattle.std.proofs.Common.{◌≡◌, ℕ, zero, suc, ◌+◌, ◌<◌, ◌≤◌, ◌⊎◌, inl, inr, ℤ, ◌<ℤ◌, ◌≤ℤ◌, Bool}
+use Rattle.std.proofs.Common.{◌≡◌, ℕ, zero, suc, ◌+◌, ◌<◌, ◌≤◌, inl, inr, Bool}
 use Rattle.std.proofs.Common.{true, false, cond, List, [], ◌∷◌, ◌++◌, length, map, take, get_or}
 use Rattle.std.proofs.Common.{refl, arith, ap, sym, ◌∙◌, subst}
-use Rattle.std.proofs.lemmas.Int.{ints, by_lt_z}
-use Rattle.std.specs.Ordering.{is_lt, int_cmp, nat_cmp, ordering_then}
-use Rattle.std.specs.declared.cmp.Ordering.{Ordering}
-use Rattle.std.specs.List.Sorted.{IsPermutation, IsSortedByKey}
+use Rattle.std.proofs.lemmas.Int.{ints}
+use Rattle.std.specs.List.Sorted.{IsPermutation}
 use Rattle.std.proofs.lemmas.List.{take_more, length-take-le}
 use Rattle.std.proofs.lemmas.List.Sorted.{IsPermutation-sym, length_permutation}
 use Rattle.plane.specs.declared.kinds.Point.{Point}
 use Rattle.plane.specs.declared.kinds.Edge.{Edge}
 use Rattle.plane.specs.Forms.Vectors.{Before}
 use Rattle.plane.specs.Lists.{Has, Neighbours, Once}
-use Rattle.plane.proofs.ListLemmas.Points.{point_eq}
 use Rattle.straight_predicates.specs.EdgeLists.{edge_of, AreSorted}
+use Rattle.straight_predicates.specs.Packing.{IsNotAfter}
 use Rattle.straight_predicates.specs.Tables.{AreEndsOf, IsEndOf, ComesFirst, all_ends, ends_of}
 use Rattle.straight_predicates.specs.declared.slots.End.{End}
-use Rattle.straight_predicates.proofs.Orders.{int_less, int_equal, nat_not_less}
 use Rattle.straight_predicates.proofs.Permutations.{has_permutation, once_permutation}
-use Rattle.straight_predicates.proofs.Permutations.{sorted_neighbours}
 
 pub never : (p : Point) → Before p p → ⊥
 never p (inl l) = omega (arith, ints, l)
@@ -77,36 +73,7 @@ all_once k (e ∷ edges) = (
   ((λ i. let l = code_least (suc k) edges _ i in omega (arith, l)), all_once (suc k) edges),
 )
 
--- ---- sorted by the key
-abbrev pub key_of : End → ℤ × ℤ × ℕ
-key_of z = (z.at.x, z.at.y, z.edge)
-
-abbrev pub key_cmp : ℤ × ℤ × ℕ → ℤ × ℤ × ℕ → Ordering
-key_cmp x y = ordering_then (ordering_then (int_cmp x.0 y.0) (int_cmp x.1 y.1)) (nat_cmp x.2 y.2)
-
-clash : true ≡ false → ⊥
-clash q = cc
-
-not_after : (y z : End) → is_lt (key_cmp (key_of z) (key_of y)) ≡ false
-    → Before y.at z.at ⊎ ((y.at ≡ z.at) × (y.edge ≤ z.edge))
-not_after y z h =
-    by_lt_z y.at.x z.at.x
-    (λ (l : y.at.x <ℤ z.at.x). inl (inl l))
-    (λ (l : z.at.x ≤ℤ y.at.x). by_lt_z z.at.x y.at.x
-    (λ (k : z.at.x <ℤ y.at.x).
-    absurd (clash (sym (ap (λ o. is_lt (ordering_then (ordering_then o (int_cmp z.at.y y.at.y)) (nat_cmp z.edge y.edge))) (int_less z.at.x y.at.x k)) ∙ h)))
-    (λ (k : y.at.x ≤ℤ z.at.x).
-    let ex : z.at.x ≡ y.at.x = omega (arith, ints, l, k) in
-    let hx = sym (ap (λ o. is_lt (ordering_then (ordering_then o (int_cmp z.at.y y.at.y)) (nat_cmp z.edge y.edge))) (int_equal z.at.x y.at.x ex)) ∙ h in
-    by_lt_z y.at.y z.at.y
-    (λ (m : y.at.y <ℤ z.at.y). inl (inr (sym ex, m)))
-    (λ (m : z.at.y ≤ℤ y.at.y). by_lt_z z.at.y y.at.y
-    (λ (n : z.at.y <ℤ y.at.y). absurd (clash (sym (ap (λ o. is_lt (ordering_then o (nat_cmp z.edge y.edge))) (int_less z.at.y y.at.y n)) ∙ hx)))
-    (λ (n : y.at.y ≤ℤ z.at.y).
-    let ey : z.at.y ≡ y.at.y = omega (arith, ints, m, n) in
-    let hy = sym (ap (λ o. is_lt (ordering_then o (nat_cmp z.edge y.edge))) (int_equal z.at.y y.at.y ey)) ∙ hx in
-    inr (point_eq y.at z.at (sym ex) (sym ey), nat_not_less z.edge y.edge hy)))))
-
+-- ---- in order
 -- two ends of one point and one edge are one end
 one_end : (edges : List Edge) → AreSorted edges → (y z : End) → IsEndOf edges y → IsEndOf edges z
     → y.at ≡ z.at → y.edge ≡ z.edge → code y ≡ code z
@@ -138,11 +105,11 @@ one_end edges s y z a b p q = by_side y.starts z.starts refl refl
 
 rising : (edges : List Edge) → AreSorted edges → (zs : List End)
     → ((z : End) → Has z zs → IsEndOf edges z) → Once (map code zs)
-    → Neighbours (λ y z. is_lt (key_cmp (key_of z) (key_of y)) ≡ false) zs → Neighbours ComesFirst zs
+    → Neighbours IsNotAfter zs → Neighbours ComesFirst zs
 rising edges s [] f o h = tt
 rising edges s (z ∷ []) f o h = (tt, tt)
 rising edges s (y ∷ (z ∷ zs)) f o h = (
-  elim (not_after y z h.0) [
+  elim h.0 [
     | inl l ↦ inl l
     | inr l ↦ inr (l.0, (let m = l.1 in let n : y.edge ≡ z.edge → ⊥ = λ q. o.0 (inl (one_end edges s y z (f y (inl refl)) (f z (inr (inl refl))) l.0 q)) in omega (arith, m, n)))
   ],
@@ -153,7 +120,7 @@ from_zero : (n i : ℕ) → n ≡ 0 + i → n ≡ i
 from_zero n i q = omega (arith, q)
 
 pub sorted_all : (edges : List Edge) (zs : List End) → AreSorted edges
-    → IsPermutation (all_ends 0 edges) zs → IsSortedByKey key_of key_cmp zs → AreEndsOf edges zs
+    → IsPermutation (all_ends 0 edges) zs → Neighbours IsNotAfter zs → AreEndsOf edges zs
 sorted_all edges zs s p h =
     let only : (z : End) → Has z zs → IsEndOf edges z = λ z i.
     (let b = all_only 0 edges z (has_permutation zs (all_ends 0 edges) z (IsPermutation-sym (all_ends 0 edges) zs p) i) in
@@ -162,7 +129,7 @@ sorted_all edges zs s p h =
     record {
       only = only;
       all = λ e l. (has_permutation (all_ends 0 edges) zs _ p (all_low 0 edges e e l (omega arith)), has_permutation (all_ends 0 edges) zs _ p (all_high 0 edges e e l (omega arith)));
-      rising = rising edges s zs only (once_permutation code (all_ends 0 edges) zs p (all_once 0 edges)) (sorted_neighbours (λ x y. is_lt (key_cmp (key_of x) (key_of y))) zs h);
+      rising = rising edges s zs only (once_permutation code (all_ends 0 edges) zs p (all_once 0 edges)) h;
       size = length_permutation (all_ends 0 edges) zs p ∙ all_size 0 edges;
     }
 

@@ -1,5 +1,5 @@
 -- The loop that writes the events, one group a turn.
-use Rattle.std.proofs.Common.{◌≡◌, ℕ, suc, pos, true, ◌+◌, ◌-◌, ◌<◌, ◌≤◌, List, [], ◌∷◌, ◌++◌}
+use Rattle.std.proofs.Common.{◌≡◌, ℕ, suc, ◌+◌, ◌-◌, ◌<◌, ◌≤◌, List, [], ◌∷◌, ◌++◌}
 use Rattle.std.proofs.Common.{length, map, take, drop, get_or, refl, arith, ap, sym, ◌∙◌, subst}
 use Rattle.std.proofs.Common.{drop_of_length-le}
 use Rattle.std.proofs.lemmas.List.{take_all, take-append-drop, take-append-le, drop-append-le}
@@ -16,7 +16,7 @@ use Rattle.straight_predicates.specs.Tables.{IsGroupOf}
 use Rattle.straight_predicates.specs.declared.slots.End.{End}
 use Rattle.straight_predicates.specs.declared.slots.Slot.{Slot}
 use Rattle.straight_predicates.proofs.Filling.{filled_more, filled_none, filled_all}
-use Rattle.straight_predicates.proofs.Groups.{IsCut, cut_group, drop_twice}
+use Rattle.straight_predicates.proofs.Groups.{cut_group, drop_twice}
 
 -- ---- slots whose numbers grow
 part_kept : (numbers more : List ℕ) (from upto : ℕ) → from ≤ upto → upto ≤ length numbers
@@ -48,41 +48,26 @@ slots_kept numbers more (s ∷ slots) w =
 slot_grows : (old new : ℕ) (s : Slot) → old ≤ new → IsSlot old s → IsSlot new s
 slot_grows old new s l w = record { first = w.first; second = w.second; last = let m = w.last in omega (arith, l, m) }
 
--- ---- the slices as a program takes them
-rest_is : (ends : List End) (i : ℕ) → take (length ends - i) (drop i ends) ≡ drop i ends
-rest_is ends i = take_all (length ends - i) (drop i ends) (let s = length-drop i ends in omega (arith, s))
+-- ---- a group
+pub bound : (ends : List End) (i n : ℕ) → i < length ends → IsGroup (drop i ends) n
+    → i + n ≤ length ends
+bound ends i n l g = let w = g.within in let s = length-drop i ends in omega (arith, w, s, l)
 
-group_is : (ends : List End) (i n : ℕ) → take (i + n - i) (drop i ends) ≡ take n (drop i ends)
-group_is ends i n = ap (λ (k : ℕ). take k (drop i ends)) (shift i n)
-  where
-    shift : (i n : ℕ) → i + n - i ≡ n
-    shift i n = omega arith
+pub group_at : (edges : List Edge) (ends group : List End) (i n : ℕ) (d : End)
+    → AreEndsOf edges ends → IsGroup (drop i ends) n → group ≡ take n (drop i ends)
+    → IsGroupOf edges (get_or group 0 d).at group
+group_at edges ends group i n d a g e = subst (λ zs. IsGroupOf edges (get_or zs 0 d).at zs) (sym e) (cut_group edges ends i n d a g).group
 
-module _ (edges : List Edge) (ends : List End) (i n : ℕ) (d : End) (a : AreEndsOf edges ends) (l : i < length ends) (g : IsGroup (take (length ends - i) (drop i ends)) n) where
-  cut : IsCut edges ends i n d
-  cut = cut_group edges ends i n d a (subst (λ zs. IsGroup zs n) (rest_is ends i) g)
-
-  pub group_at : IsGroupOf edges (get_or (take (i + n - i) (drop i ends)) 0 d).at (take (i + n - i) (drop i ends))
-  group_at = subst (λ zs. IsGroupOf edges (get_or zs 0 d).at zs) (sym (group_is ends i n)) cut.group
-
-  bound : i + n ≤ length ends
-  bound =
-      let w = g.within in
-      let s = ap length (rest_is ends i) ∙ length-drop i ends in
-      omega (arith, w, s, l)
-
-pub room_at : (edges : List Edge) (ends : List End) (i n : ℕ) (slots : List Slot) (numbers : List ℕ)
-    → AreEndsOf edges ends → i < length ends → IsGroup (take (length ends - i) (drop i ends)) n
-    → IsFilledTo edges ends i slots numbers → length numbers + length (take (i + n - i) (drop i ends)) ≤ length edges + length edges
-room_at edges ends i n slots numbers a l g f =
-    let b = bound edges ends i n (z_of) a l g in
+pub room_at : (edges : List Edge) (ends group : List End) (i n : ℕ) (slots : List Slot)
+    (numbers : List ℕ) → AreEndsOf edges ends → i < length ends → IsGroup (drop i ends) n
+    → group ≡ take n (drop i ends) → IsFilledTo edges ends i slots numbers
+    → length numbers + length group ≤ length edges + length edges
+room_at edges ends group i n slots numbers a l g e f =
+    let b = bound ends i n l g in
     let s = a.size in
-    let e = f.numbers in
-    let size = ap length (group_is ends i n) ∙ length-take-le n (drop i ends) (let q = length-drop i ends in omega (arith, b, q)) in
-    omega (arith, b, s, e, size)
-  where
-    z_of : End
-    z_of = get_or ends 0 (record { at = record { x = pos 0; y = pos 0 }; edge = 0; starts = true })
+    let m = f.numbers in
+    let size = ap length e ∙ length-take-le n (drop i ends) (let q = length-drop i ends in omega (arith, b, q)) in
+    omega (arith, b, s, m, size)
 
 pub begin : (edges : List Edge) (ends : List End) (slots : List Slot) (numbers : List ℕ)
     → slots ≡ [] → numbers ≡ [] → IsFilledTo edges ends 0 slots numbers
@@ -97,12 +82,12 @@ begin edges ends slots numbers e f =
     subst (λ ss. IsFilledTo edges ends 0 ss numbers) (sym e) (subst (λ (ns : List ℕ). IsFilledTo edges ends 0 [] ns) (sym f) start)
 
 module _ (edges : List Edge) (ends : List End) (i n : ℕ) (d : End) (slots : List Slot) (numbers : List ℕ) (new_slots : List Slot) (new_numbers : List ℕ)
-    (a : AreEndsOf edges ends) (l : i < length ends) (g : IsGroup (take (length ends - i) (drop i ends)) n) (f : IsFilledTo edges ends i slots numbers) where
+    (a : AreEndsOf edges ends) (l : i < length ends) (g : IsGroup (drop i ends) n) (f : IsFilledTo edges ends i slots numbers) where
   done : AddsEvent (edge_of edges) (take n (drop i ends)) slots numbers new_slots new_numbers
       → IsFilledTo edges ends (i + n) new_slots new_numbers
   done e =
-      let c = cut edges ends i n d a l g in
-      let b = bound edges ends i n d a l g in
+      let c = cut_group edges ends i n d a g in
+      let b = bound ends i n l g in
       let size = e.size in
       let size_group : length (take n (drop i ends)) ≡ n = length-take-le n (drop i ends) (let q = length-drop i ends in omega (arith, b, q)) in
       let old = f.numbers in
@@ -130,9 +115,10 @@ module _ (edges : List Edge) (ends : List End) (i n : ℕ) (d : End) (slots : Li
           ∙ map-append (timed_at new_numbers) slots (e.slot ∷ [])
           ∙ ap (λ ts. ts ++ timed_at new_numbers e.slot ∷ []) (ap (λ (ns : List ℕ). map (timed_at ns) slots) e.numbers ∙ slots_kept numbers e.more slots f.slots)
 
-  pub step : AddsEvent (edge_of edges) (take (i + n - i) (drop i ends)) slots numbers new_slots new_numbers
+  pub step : (group : List End) → group ≡ take n (drop i ends)
+      → AddsEvent (edge_of edges) group slots numbers new_slots new_numbers
       → IsFilledTo edges ends (i + n) new_slots new_numbers
-  step e = done (subst (λ zs. AddsEvent (edge_of edges) zs slots numbers new_slots new_numbers) (group_is ends i n) e)
+  step group q e = done (subst (λ zs. AddsEvent (edge_of edges) zs slots numbers new_slots new_numbers) q e)
 
 pub table_at_end : (edges : List Edge) (ends : List End) (i : ℕ) (slots : List Slot) (numbers : List ℕ)
     → AreSorted edges → AreEndsOf edges ends → length ends ≤ i

@@ -13,10 +13,13 @@ pub mod RayOrder
 pub mod Cuts
 pub mod Rightward
 pub mod Filling
+pub mod StopSlots
 pub mod Groups
+pub mod EndRuns
 pub mod FillSteps
 pub mod ChunkParts
 pub mod Ends
+pub mod PackedNumbers
 pub mod NotedEvents
 pub mod Joined
 pub mod ChunkSteps

@@ -7,3 +7,5 @@ pub mod Chunks
 pub mod Slots
 pub mod Rightward
 pub mod EdgeEvents
+pub mod Packing
+pub mod PackedEnds

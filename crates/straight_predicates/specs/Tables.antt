@@ -11,12 +11,12 @@ use Rattle.straight_predicates.specs.Slopes.{IsRayOf, ray_edges}
 use Rattle.straight_predicates.specs.declared.rays.Ray.{Ray}
 use Rattle.straight_predicates.specs.declared.slots.End.{End}
 use Rattle.straight_predicates.specs.declared.slots.Slot.{Slot}
-use Rattle.straight_predicates.specs.Slots.{AreSlots, IsSlot, timed_at}
+use Rattle.straight_predicates.specs.Slots.{AreSlots, IsSlot, slots_of, timed_at}
 use Rattle.straight_predicates.specs.declared.timetable.Timetable.{Timetable}
 
 -- The events of a timetable, with the edges of each.
 abbrev pub table_of : Timetable → List Timed
-table_of t = map (timed_at t.numbers.items) t.slots.items
+table_of t = map (timed_at t.numbers.items) (slots_of t.stops.items)
 
 -- The end is one of the edges' ends.
 pub record IsEndOf (edges : List Edge) (z : End) : Type 0 where

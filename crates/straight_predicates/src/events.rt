@@ -1,42 +1,57 @@
 // The events of edges: their ends are sorted, and those of one point make an event.
-ghost use Rattle.std.specs.Prelude.{◌≡◌, ◌+◌, ◌^◌, ◌<◌, ◌++◌, ℕ, [], IfOk, OnOk, length, map};
-ghost use Rattle.std.specs.Prelude.{slice_index_or, vec_len};
+ghost use Rattle.std.specs.Prelude.{◌≡◌, ◌+◌, ◌^◌, ◌<◌, ◌≤◌, ◌++◌, ℕ, [], IfOk, OnOk, length, map};
+ghost use Rattle.std.specs.Prelude.{drop, slice_index_or, take, vec_len};
 ghost use Rattle.plane.specs.Runs.Timetables.{IsTimetable};
 ghost use Rattle.straight_predicates.specs.EdgeLists.{edge_of, AreSorted, AreAllClose};
+ghost use Rattle.straight_predicates.specs.Meetings.{AreClose};
+ghost use Rattle.straight_predicates.specs.PackedEnds.{ends_in};
 ghost use Rattle.straight_predicates.specs.Slopes.{ray_edges};
-ghost use Rattle.straight_predicates.specs.Slots.{AreSlots, timed_at};
+ghost use Rattle.straight_predicates.specs.Slots.{AreSlots, end_of_stops, slots_of, timed_at};
 ghost use Rattle.straight_predicates.specs.Tables.{AddsEvent, AreEndsOf, IsGroup, IsGroupOf};
 ghost use Rattle.straight_predicates.specs.Tables.{IsSplit, ends_of, low_end};
 
+use super::end_list::EndList;
 use super::rays::{Ray, ray_of, sort_rays};
-use super::slots::{End, Slot};
-use plane::Edge;
+use super::slots::End;
+use super::stops::Stop;
+use plane::{Edge, Point};
 use ports::Memory;
 use std::alloc::Global;
 
-fn key(end: &End) -> (i64, i64, u32)
-    ensures { result ≡ (end.now.at.x, end.now.at.y, end.now.edge) }
-{
-    (end.at.x, end.at.y, end.edge)
-}
-
 /// All ends of the edges, in order.
-pub fn sorted_ends(alloc: Global, edges: &[Edge]) -> Result<Vec<End>, Memory>
+pub fn sorted_ends(alloc: Global, edges: &[Edge]) -> Result<EndList, Memory>
     requires few { length edges.now < 2 ^ 31 }
     requires sorted { AreSorted edges.now }
-    ensures { IfOk result (λ ends. AreEndsOf edges.now ends.items) }
+    requires close { AreAllClose edges.now }
+    ensures { IfOk result (λ ends. AreEndsOf edges.now (ends_in ends)) }
 {
-    let mut ends = Vec::with_capacity(alloc, 2 * edges.len())?;
+    let mut ends = EndList::new(alloc, first_end(edges), 2 * edges.len())?;
     for (i, edge) in edges.iter().enumerate() {
         let number = i as u32;
         add_ends(&mut ends, *edge, number)?;
     }
-    ends.sort_unstable_by_key(key);
+    ends.sort();
     Ok(ends)
 }
 
-fn add_ends(ends: &mut Vec<End>, edge: Edge, number: u32) -> Result<(), Memory>
-    ensures { OnOk result (ends.new.items ≡ ends.old.items ++ ends_of number edge) }
+// An end of the first edge, to which all ends are close; any point where there is no edge.
+fn first_end(edges: &[Edge]) -> Point
+    requires { AreAllClose edges.now }
+    ensures { (e : ℕ) → e < length edges.now → AreClose result (edge_of edges.now e).low
+        × AreClose result (edge_of edges.now e).high }
+{
+    if edges.is_empty() {
+        return Point { x: 0, y: 0 };
+    }
+    edges[0].low
+}
+
+fn add_ends(ends: &mut EndList, edge: Edge, number: u32) -> Result<(), Memory>
+    requires few { number < 2 ^ 31 }
+    requires low { AreClose ends.old.origin edge.low }
+    requires high { AreClose ends.old.origin edge.high }
+    ensures origin { ends.new.origin ≡ ends.old.origin }
+    ensures ends { OnOk result (ends_in ends.new ≡ ends_in ends.old ++ ends_of number edge) }
 {
     let low = End {
         at: edge.low,
@@ -53,51 +68,58 @@ fn add_ends(ends: &mut Vec<End>, edge: Edge, number: u32) -> Result<(), Memory>
     Ok(())
 }
 
-/// Writes the events of all ends. `rays` is room to sort in.
+/// Writes the events of all ends. `group` and `rays` are room for the ends at one point and to sort
+/// in.
 pub fn fill(
-    slots: &mut Vec<Slot>,
+    stops: &mut Vec<Stop>,
     numbers: &mut Vec<u32>,
+    group: &mut Vec<End>,
     rays: &mut Vec<Ray>,
     edges: &[Edge],
-    ends: &[End],
+    ends: &EndList,
 ) -> Result<(), Memory>
     requires few { length edges.now < 2 ^ 31 }
     requires sorted { AreSorted edges.now }
     requires close { AreAllClose edges.now }
-    requires ends { AreEndsOf edges.now ends.now }
-    requires slots { slots.old.items ≡ [] }
+    requires ends { AreEndsOf edges.now (ends_in ends.now) }
+    requires stops { stops.old.items ≡ [] }
     requires numbers { numbers.old.items ≡ [] }
     ensures table { OnOk result (IsTimetable (length edges.now) (edge_of edges.now) (map
-        (timed_at numbers.new.items) slots.new.items)) }
-    ensures within { OnOk result (AreSlots (length numbers.new.items) slots.new.items) }
-    ensures few { OnOk result (vec_len slots.new < 2 ^ 32) }
+        (timed_at numbers.new.items) (slots_of stops.new.items))) }
+    ensures within { OnOk result (AreSlots (length numbers.new.items) (slots_of stops.new.items)) }
+    ensures few { OnOk result (vec_len stops.new < 2 ^ 32) }
 {
     let mut i = 0;
     while i < ends.len() {
-        let n = group_length(&ends[i..]);
-        add_event(slots, numbers, rays, edges, &ends[i..i + n])?;
-        i += n;
+        copy_group(group, ends, i)?;
+        add_event(stops, numbers, rays, edges, group)?;
+        i += group.len();
     }
     Ok(())
 }
 
-// How many of the first ends lie at one point.
-fn group_length(ends: &[End]) -> usize
-    requires { 0 < length ends.now }
-    ensures { IsGroup ends.now result }
+// Makes the group those of the ends from a place on that lie at one point.
+fn copy_group(group: &mut Vec<End>, ends: &EndList, from: usize) -> Result<(), Memory>
+    requires { from < length (ends_in ends.now) }
+    ensures one { OnOk result (IsGroup (drop from (ends_in ends.now)) (length group.new.items)) }
+    ensures ends { OnOk result (group.new.items
+        ≡ take (length group.new.items) (drop from (ends_in ends.now))) }
 {
-    let at = ends[0].at;
-    for (n, end) in ends.iter().enumerate() {
+    group.clear();
+    let at = ends.get(from).at;
+    for n in 0..ends.len() - from {
+        let end = ends.get(from + n);
         if end.at != at {
-            return n;
+            return Ok(());
         }
+        group.push(end)?;
     }
-    ends.len()
+    Ok(())
 }
 
 // Writes the event of a group of ends.
 fn add_event(
-    slots: &mut Vec<Slot>,
+    stops: &mut Vec<Stop>,
     numbers: &mut Vec<u32>,
     rays: &mut Vec<Ray>,
     edges: &[Edge],
@@ -107,23 +129,19 @@ fn add_event(
     requires close { AreAllClose edges.now }
     requires group { IsGroupOf edges.now (slice_index_or group.now 0 (low_end [] 0)).at group.now }
     requires few { length numbers.old.items + length group.now < 2 ^ 32 }
-    ensures { OnOk result (AddsEvent
-        (edge_of edges.now) group.now slots.old.items numbers.old.items slots.new.items
-        numbers.new.items) }
+    requires last { end_of_stops stops.old.items ≡ length numbers.old.items }
+    ensures event { OnOk result (AddsEvent
+        (edge_of edges.now) group.now (slots_of stops.old.items) numbers.old.items
+        (slots_of stops.new.items) numbers.new.items) }
+    ensures last { OnOk result (end_of_stops stops.new.items ≡ length numbers.new.items) }
 {
     let at = group[0].at;
-    let from = numbers.len() as u32;
     split_group(numbers, rays, edges, group)?;
     let middle = numbers.len() as u32;
     sort_rays(rays);
     add_numbers(numbers, rays)?;
     let upto = numbers.len() as u32;
-    slots.push(Slot {
-        at,
-        from,
-        middle,
-        upto,
-    })?;
+    stops.push(Stop { at, middle, upto })?;
     Ok(())
 }
 

@@ -24,7 +24,7 @@
 //!
 //! Cost: a turn is two products of 64-bit numbers to 128 bits; `meet` takes at most four turns and
 //! a few comparisons. None of these takes memory. A timetable of m edges takes O(m log m) time, and
-//! at most 120 bytes an edge while it is made, 48 of them for the ends that it sorts; its readers
+//! at most 88 bytes an edge while it is made, 32 of them for the ends that it sorts; its readers
 //! are one load, but `edge_events`, which is linear and takes 8 bytes an edge, and `widest`, which
 //! is linear in the events.
 //!
@@ -43,14 +43,17 @@ mod chunks;
 mod cutting;
 mod directions;
 mod edge_events;
+mod end_list;
 mod events;
 mod meeting;
 mod meets;
 mod on_straights;
 mod order;
+mod packing;
 mod rays;
 mod slopes;
 mod slots;
+mod stops;
 mod timetable;
 mod turning;
 mod turns;
