@@ -120,6 +120,7 @@ fn faults_of_rest(
     requires meetings { AreMeetings (plan drawing.now) meetings.items }
     ensures { IfOk result (IsToldOf drawing.now.tolerance (plan drawing.now)) }
 {
+    level_breaks::laws::straights_are_settled();
     let out = left_out_marks(alloc, drawing.curves.len(), &meetings)?;
     match points_on_marked(alloc, drawing, &out, MOST)? {
         None => Ok(AreaFaults::Many(meetings)),
