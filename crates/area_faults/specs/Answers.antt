@@ -54,8 +54,13 @@ pub record AreUnsettled (t : ℤ) (d : Plan) (f : Faults) (a : AreaAnswer) : Typ
   pub unsettled : f.meetings.items ≡ [] → IsUnsettled d
   pub answer : IsAnswerBy t d a
 
+-- Some pairs that meet badly, of a drawing that no level settles.
+pub record AreMany (d : Plan) (ms : List MeetingAt) : Type 0 where
+  pub some : AreSomeMeetings d ms
+  pub unsettled : IsUnsettled d
+
 -- What is told of a drawing that permits that overlap.
 abbrev pub IsToldOf : ℤ → Plan → AreaFaults → Type 0
 IsToldOf t d (Told f) = AreAllFaults d f
 IsToldOf t d (Unsettled f a) = AreUnsettled t d f a
-IsToldOf t d (Many ms) = AreSomeMeetings d ms.items
+IsToldOf t d (Many ms) = AreMany d ms.items

@@ -10,8 +10,8 @@
 //!   to be open (`fault_lists::laws::each_fault_is_told`). The fault that `area_search` answers is
 //!   the first in the first list that has any, and it answers a certificate exactly where none has
 //!   one (`laws`).
-//! - **Too many.** Where a very great number of pairs meets badly, some of them are told and
-//!   nothing else.
+//! - **Too many.** Where a very great number of pairs meets badly, or of points lies on curves that
+//!   are left out, some of the pairs are told and nothing else. No level settles such a drawing.
 //! - **Degenerate cases.** No curve, no point, equal curves, curves that end within a face and
 //!   points at vertices are all taken.
 //! - **Not here:** lines of the transfer, coordinates in a model's decimals, and any text.

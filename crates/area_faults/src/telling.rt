@@ -117,6 +117,7 @@ fn faults_of_rest(
 ) -> Result<AreaFaults, Memory>
     requires curves { length (plan drawing.now).curves ≤ 16000000 }
     requires straights { AreStraights (plan drawing.now) }
+    requires unsettled { IsUnsettled (plan drawing.now) }
     requires meetings { AreMeetings (plan drawing.now) meetings.items }
     ensures { IfOk result (IsToldOf drawing.now.tolerance (plan drawing.now)) }
 {

@@ -31,4 +31,7 @@ returns c =
     all_faults d c.in_ok-faults-in-Some.faults t (settled_straights c.straights_are_settled.ensures d c.in_ok-faults-in-Some.faults.meetings.items c.requires.straights t.told.meetings)
 
 pub returns-in-None : goal.returns-in-None
-returns-in-None c = some_of_all (plan c.args.drawing.now) c.args.meetings.items c.requires.meetings
+returns-in-None c = record {
+  some = some_of_all (plan c.args.drawing.now) c.args.meetings.items c.requires.meetings;
+  unsettled = c.requires.unsettled;
+}
