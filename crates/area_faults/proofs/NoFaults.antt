@@ -85,7 +85,8 @@ module _ (d : Plan) (f : Faults) (all : AreAllFaults d f) where
       (t : ℤ) (d : Plan) (c : Certificate) → IsAnswerBy t d (Proved c)
       → ProvesGround t d c.bent (claims c)
 
-  own_area : (t : ℤ) (is_bent : Bool) (c : Certificate) → ProvesGround t d is_bent (claims c) → IsArea d
+  own_area : (t : ℤ) (is_bent : Bool) (c : Certificate) → ProvesGround t d is_bent (claims c)
+      → IsArea d
   own_area t is_bent c p = by_ground p.right.is_ground
     where
       by_ground : IsGround t d is_bent p.g p.origin → IsArea d

@@ -100,7 +100,8 @@ module _ (d r : Plan) (out : ℕ → Bool) (rest : IsRestOf d r out) (kept : (i 
   all_closed z i l o q s Q S j off miss hit = kept i l o
 
   -- each curve of the drawing is one of the rest
-  pub number_of : (i : ℕ) → i < length d.curves → (k : ℕ) × (k < length r.curves) × (rest.number k ≡ i)
+  pub number_of : (i : ℕ) → i < length d.curves
+      → (k : ℕ) × (k < length r.curves) × (rest.number k ≡ i)
   number_of i l = elim (rest.whole i l) [ inl o ↦ absurd (kept i l o) | inr k ↦ k ]
 
   whole_off : (z : Vector) → IsOff r z → IsOff d z
