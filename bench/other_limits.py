@@ -39,11 +39,30 @@ def line_text(number, places, owner=""):
     return "OBJE %d%s\nSTPT %s\n%sELIN\n" % (number, owner, metres(places[0]), vertices)
 
 
-def area(lines, points, more=""):
-    """The transfer of an AREA, and other tables."""
+def area_of(text, points, more=""):
+    """The transfer of an AREA with the text of its lines, and other tables."""
     rows = "".join("OBJE %d %s\n" % (k, metres(at)) for k, at in enumerate(points, 1))
-    text = "".join(line_text(k, line) for k, line in enumerate(lines, 1))
     return "%sTABL A_F\n%sETAB\nTABL A\n%sETAB\n%s%s" % (FRONT, text, rows, more, TAIL)
+
+
+def area(lines, points, more=""):
+    """The same, with lines of straights."""
+    return area_of("".join(line_text(k, line) for k, line in enumerate(lines, 1)), points, more)
+
+
+def circles(count):
+    """The transfer of circles about one place, with one object, and a straight that crosses the
+    outermost one."""
+    x = y = 450000000
+    texts = []
+    for k in range(1, count + 1):
+        r = 1000 + 200 * k
+        places = [(x + r, y), (x, y + r), (x - r, y), (x, y - r), (x + r, y)]
+        words = ("STPT", "ARCP", "LIPT", "ARCP", "LIPT")
+        texts.append("OBJE %d\n%sELIN\n" % (k, "".join("%s %s\n" % (word, metres(at))
+                                                       for word, at in zip(words, places))))
+    texts.append(line_text(count + 1, [(x - 50, y + r - 70), (x + 30, y + r + 300)]))
+    return area_of("".join(texts), [(x, y)])
 
 
 def surfaces(rings):
@@ -138,6 +157,9 @@ def cases(itfcheck, itffaults, size):
     yield Case("itffaults, 4,000 lines through each other", itffaults, [], plain, area(star, []), 1)
     fro = [[(1000, 2000)] + [(2000, 1000), (1000, 2000)] * (size // 30)]
     yield Case("itffaults, one line to and fro", itffaults, [], plain, area(fro, []), 1)
+    for count in (1000, 2000, 4000):
+        yield Case("itffaults, %d circles about one place, one of them crossed" % count, itffaults, [],
+                   plain, circles(count), 1)
     hub, count = (100000, 400000), size // 200
     fan = [[hub, (900000, 10 * k)] for k in range(count)]
     yield Case("itffaults, points where straights end", itffaults, [], plain, area(fan, [hub] * count), 1)

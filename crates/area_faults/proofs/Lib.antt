@@ -24,3 +24,9 @@ pub mod ReadFaces
 pub mod CallFacts
 pub mod FoundFaces
 pub mod ToldFaults
+pub mod FewMarks
+pub mod LeastTold
+pub mod WholeRest
+pub mod Firsts
+pub mod FirstFaults
+pub mod NoFaults

@@ -6,7 +6,9 @@ use Rattle.std.proofs.lemmas.List.Elements.{Contains-get_or}
 use Rattle.plane.specs.Rule.BadPairs.{IsBadPair}
 use Rattle.plane.specs.Rule.Plans.{Plan}
 use Rattle.near_pairs.specs.Boxes.{mark_of}
-use Rattle.area_search.specs.Answers.{HasNoBadPair}
+use Rattle.tubes.specs.DrawnEdges.{AreStraights}
+use Rattle.tubes.specs.Settled.{IsSettledAt}
+use Rattle.area_search.specs.Answers.{HasNoBadPair, IsSettled}
 use Rattle.area_search.specs.Unsettled.MarkedPoints.{ArePairsOn}
 use Rattle.fault_lists.specs.FaultLists.{AreMeetings}
 use Rattle.fault_lists.specs.declared.kinds.Faults.{Faults}
@@ -105,5 +107,23 @@ no_meetings d ms e clear = subst (AreMeetings d) (sym e) (record {
     none : (m : MeetingAt) → Contains [] m → ⊥
     none m (k, h, q) = omega (arith, h)
 
-pub all_faults : (d : Plan) (f : Faults) → IsToldWith d false f → AreAllFaults d f
-all_faults d f h = record { told = h.told; kept = h.out }
+pub all_faults : (d : Plan) (f : Faults) → IsToldWith d false f
+    → (f.meetings.items ≡ [] → IsSettled d) → AreAllFaults d f
+all_faults d f h s = record { told = h.told; least = h.least; kept = h.out; settled = s }
+
+abbrev StraightsAreSettled : Type 0
+StraightsAreSettled =
+    (d : Plan) → AreStraights d → ((k l : ℕ) → IsBadPair d k l → ⊥) → IsSettledAt d 0
+
+-- straights of which no two meet badly
+pub settled_straights : StraightsAreSettled → (d : Plan) (ms : List MeetingAt) → AreStraights d
+    → AreMeetings d ms → ms ≡ [] → IsSettled d
+settled_straights law d ms s a e = (0, record { low = omega arith; settled = law d s none; least = λ l m. absurd (omega (arith, m)) })
+  where
+    no_one : (m : MeetingAt) → Contains [] m → ⊥
+    no_one m (k, l, q) = omega (arith, l)
+
+    none : (k l : ℕ) → IsBadPair d k l → ⊥
+    none k l bad =
+        let (m, c, q) = a.all k l bad in
+        no_one m (subst (λ (xs : List MeetingAt). Contains xs m) e c)

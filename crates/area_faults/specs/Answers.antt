@@ -1,15 +1,20 @@
 -- What is told of a drawing.
-use Rattle.std.specs.Prelude.{◌≡◌, ◌↔◌, ◌⊎◌, ℕ, ◌<◌, ℤ, Bool, List, [], false, true}
+use Rattle.std.specs.Prelude.{◌≡◌, ◌↔◌, ◌⊎◌, ℕ, ◌<◌, ◌≤◌, ℤ, Bool, List, [], false, true}
+use Rattle.std.specs.List.{Contains}
+use Rattle.plane.specs.Rule.LeftOut.{IsRestOf}
+use Rattle.plane.specs.Rule.Places.{Place, Vector}
 use Rattle.plane.specs.Rule.Plans.{Plan}
 use Rattle.area_faults.specs.declared.kinds.AreaFaults.{AreaFaults}
 use Rattle.area_faults.specs.declared.kinds.AreaFaults.TheVariants.{Many, Told, Unsettled}
 use Rattle.area_faults.specs.Meetings.{AreSomeMeetings}
-use Rattle.area_search.specs.Answers.{IsUnsettled}
+use Rattle.area_search.specs.Answers.{IsSettled, IsUnsettled}
 use Rattle.area_search.specs.Grounds.{IsAnswerBy}
 use Rattle.area_search.specs.declared.kinds.AreaAnswer.{AreaAnswer}
 use Rattle.fault_lists.specs.declared.kinds.Faults.{Faults}
 use Rattle.fault_lists.specs.declared.kinds.MeetingAt.{MeetingAt}
-use Rattle.fault_lists.specs.FaultLists.{AreFaults, IsMet}
+use Rattle.fault_lists.specs.declared.kinds.SideAt.{SideAt}
+use Rattle.fault_lists.specs.FaceLists.{side_number}
+use Rattle.fault_lists.specs.FaultLists.{AreFaults, IsBeside, IsMet}
 
 -- Left out are, of so many curves, those that are in an entry; or all of them.
 abbrev pub AreLeftOut : ℕ → List MeetingAt → Bool → (ℕ → Bool) → Type 0
@@ -21,15 +26,25 @@ pub record AreBelow (count : ℕ) (m : MeetingAt) : Type 0 where
   pub first : m.first < count
   pub second : m.second < count
 
--- All faults, with all curves left out or not.
+-- Each side of the list is the least one of its face, of all sides of curves that are not left out.
+abbrev pub AreLeastSides : (d r : Plan) (out : ℕ → Bool) → IsRestOf d r out → List SideAt → Type 0
+AreLeastSides d r out rest sides =
+    (s o : SideAt) (z : Vector) → Contains sides s → (out o.curve ≡ true → ⊥) → Place z
+    → IsBeside d r out rest s z → IsBeside d r out rest o z → side_number s ≤ side_number o
+
+-- All faults, with all curves left out or not. A face without a point is told by its least side.
 pub record IsToldWith (d : Plan) (all_out : Bool) (f : Faults) : Type 0 where
   pub told : AreFaults d f
+  pub least : AreLeastSides d told.r told.out told.rest f.faces.empty.items
   pub out : f.all_out ≡ all_out
 
--- All faults, where curves are left out that meet badly, and no others.
+-- All faults, where curves are left out that meet badly, and no others; where none do, some level
+-- settles the drawing.
 pub record AreAllFaults (d : Plan) (f : Faults) : Type 0 where
   pub told : AreFaults d f
+  pub least : AreLeastSides d told.r told.out told.rest f.faces.empty.items
   pub kept : f.all_out ≡ false
+  pub settled : f.meetings.items ≡ [] → IsSettled d
 
 -- Pairs that meet badly and points on curves, with all curves left out; where no two curves meet
 -- badly no level settles the drawing. And the answer of the search.
@@ -39,8 +54,13 @@ pub record AreUnsettled (t : ℤ) (d : Plan) (f : Faults) (a : AreaAnswer) : Typ
   pub unsettled : f.meetings.items ≡ [] → IsUnsettled d
   pub answer : IsAnswerBy t d a
 
+-- Some pairs that meet badly, of a drawing that no level settles.
+pub record AreMany (d : Plan) (ms : List MeetingAt) : Type 0 where
+  pub some : AreSomeMeetings d ms
+  pub unsettled : IsUnsettled d
+
 -- What is told of a drawing that permits that overlap.
 abbrev pub IsToldOf : ℤ → Plan → AreaFaults → Type 0
 IsToldOf t d (Told f) = AreAllFaults d f
 IsToldOf t d (Unsettled f a) = AreUnsettled t d f a
-IsToldOf t d (Many ms) = AreSomeMeetings d ms.items
+IsToldOf t d (Many ms) = AreMany d ms.items

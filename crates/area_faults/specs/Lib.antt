@@ -1,4 +1,5 @@
 pub mod Answers
+pub mod Firsts
 pub mod RestFaces
 pub mod Crossings
 pub mod MeetingMarks

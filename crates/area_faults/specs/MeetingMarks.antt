@@ -4,12 +4,14 @@ use Rattle.std.specs.Prelude.{slice_index}
 use Rattle.plane.specs.Forms.Segments.{IsEdgeOf}
 use Rattle.plane.specs.Forms.Vectors.{Before}
 use Rattle.plane.specs.Rule.BadPairs.{IsBadPair}
-use Rattle.plane.specs.Rule.Plans.{Plan}
+use Rattle.plane.specs.Rule.Plans.{Plan, curve}
 use Rattle.plane.specs.declared.kinds.Curve.{Curve}
+use Rattle.plane.specs.declared.kinds.CurveKind.TheVariants as kind
 use Rattle.plane.specs.declared.kinds.Edge.{Edge}
 use Rattle.straight_predicates.specs.EdgeLists.{edge_of}
 use Rattle.near_pairs.specs.Boxes.{IsOneMarked, mark_of}
 use Rattle.meetings.specs.CurveBoxes.{AreMarksTo}
+use Rattle.meetings.specs.CurvePairs.{IsArcPair}
 use Rattle.meetings.specs.StraightEdges.{curve_of}
 use Rattle.area_faults.specs.declared.marks.CurveEdges.{CurveEdges}
 
@@ -18,7 +20,20 @@ pub record AreMeetingMarks (d : Plan) (marks : List Bool) : Type 0 where
   pub size : length marks ≡ length d.curves
   pub pairs : (i j : ℕ) → IsBadPair d i j → IsOneMarked marks i j
 
+-- Of each bad pair with a half arc one is marked.
+pub record AreArcPairMarks (d : Plan) (marks : List Bool) : Type 0 where
+  pub size : length marks ≡ length d.curves
+  pub pairs : (i j : ℕ) → IsArcPair d i j → IsOneMarked marks i j
+
 -- ---- while they are looked for
+-- Of the first k curves those are marked that the second list marks, and those straights that the
+-- first list marks.
+pub record AreBothTo (d : Plan) (marks few : List Bool) (k : ℕ) (both : List Bool) : Type 0 where
+  pub size : length both ≡ k
+  pub of_few : (i : ℕ) → i < k → mark_of few i ≡ true → mark_of both i ≡ true
+  pub of_straight : (i : ℕ) → i < k → mark_of marks i ≡ true
+      → (curve d i).kind ≡ kind.Straight → mark_of both i ≡ true
+
 -- The half arcs of the drawing are marked, and maybe others.
 abbrev pub HasArcMarks : Plan → List Bool → Type 0
 HasArcMarks d marks = AreMarksTo d.curves (length d.curves) marks

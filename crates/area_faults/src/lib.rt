@@ -7,9 +7,11 @@
 //!   some level settles it, with nothing left out. Where none does, all curves are left out, so
 //!   that no face is judged, and the answer of `area_search` is told beside.
 //! - **The rule that it serves.** Each fault of the drawing is told, or lies in a face that is told
-//!   to be open (`fault_lists::laws::each_fault_is_told`).
-//! - **Too many.** Where a very great number of pairs meets badly, some of them are told and
-//!   nothing else.
+//!   to be open (`fault_lists::laws::each_fault_is_told`). The fault that `area_search` answers is
+//!   the first in the first list that has any, and it answers a certificate exactly where none has
+//!   one (`laws`).
+//! - **Too many.** Where a very great number of pairs meets badly, or of points lies on curves that
+//!   are left out, some of the pairs are told and nothing else. No level settles such a drawing.
 //! - **Degenerate cases.** No curve, no point, equal curves, curves that end within a face and
 //!   points at vertices are all taken.
 //! - **Not here:** lines of the transfer, coordinates in a model's decimals, and any text.
@@ -17,6 +19,7 @@
 
 mod crossings;
 mod kinds;
+pub mod laws;
 mod left_out;
 mod marks;
 mod meeting_lists;

@@ -2,15 +2,17 @@
 ghost use Rattle.std.specs.Prelude.{◌≡◌, ◌↔◌, ◌^◌, ◌<◌, None, IfOk, IfSome, IsTrue, length};
 ghost use Rattle.std.specs.Prelude.{replicate, true, false};
 ghost use Rattle.plane.specs.Rule.Plans.{plan};
+ghost use Rattle.plane.specs.declared.kinds.CurveKind.TheVariants as kind;
 ghost use Rattle.straight_predicates.specs.EdgeLists.{AreAllClose, AreSorted};
 ghost use Rattle.near_pairs.specs.Boxes.{mark_of};
 ghost use Rattle.meetings.specs.CurveBoxes.{IsEachPlaced};
-ghost use Rattle.area_faults.specs.MeetingMarks.{AreMeetingMarks, AreMoreMarks, AreUnmarked};
-ghost use Rattle.area_faults.specs.MeetingMarks.{HasArcMarks};
+ghost use Rattle.area_faults.specs.MeetingMarks.{AreArcPairMarks, AreMeetingMarks, AreMoreMarks};
+ghost use Rattle.area_faults.specs.MeetingMarks.{AreUnmarked, HasArcMarks};
 
+use area_search::few_aside;
 use line_sweep::{BadEdges, SweepRefusal, clashing, sweep};
-use meetings::{BadPair, half_arc_marks};
-use plane::{Curve, Drawing, Edge};
+use meetings::{BadPair, half_arc_marks, has_many_pairs};
+use plane::{Curve, CurveKind, Drawing, Edge};
 use ports::Memory;
 use std::alloc::Global;
 use straight_predicates::edge_between;
@@ -18,11 +20,32 @@ use straight_predicates::edge_between;
 // The most sweeps before all curves are marked.
 const ROUNDS: u32 = 8;
 
-/// Marks for curves of which each pair that meets badly has one: half arcs, and straights without
-/// which no two of the others are bad; or all curves, where such straights are not found. The only
-/// error is out of memory. It takes two sweeps of the straights, up to nine times, of which the
-/// first is left out where two curves are known that meet badly and all are straights.
+// The most curves of a drawing of which `few_aside` finds some.
+const MOST_CURVES: usize = 16_000_000;
+
+/// Marks for curves of which each pair that meets badly has one: straights without which no two of
+/// the others are bad, or all, where such straights are not found; and all half arcs, or, where
+/// these have many others near them, few curves without which level 5 settles the drawing, if they
+/// are found. The only error is out of memory. It takes two sweeps of the straights, up to nine
+/// times, of which the first is left out where two curves are known that meet badly and all are
+/// straights; and where half arcs have many others near them what `few_aside` takes.
 pub(crate) fn meeting_marks(
+    alloc: Global,
+    drawing: &Drawing,
+    known: Option<BadPair>,
+) -> Result<Vec<bool>, Memory>
+    ensures { IfOk result (λ marks. AreMeetingMarks (plan drawing.now) marks.items) }
+{
+    let marks = marks_with_arcs(alloc, drawing, known)?;
+    match few_marks(alloc, drawing)? {
+        Some(few) => with_few(alloc, drawing, &marks, &few),
+        None => Ok(marks),
+    }
+}
+
+// Marks for the half arcs, and for straights without which no two of the others are bad; or for all
+// curves.
+fn marks_with_arcs(
     alloc: Global,
     drawing: &Drawing,
     known: Option<BadPair>,
@@ -160,4 +183,46 @@ fn either(alloc: Global, first: &[bool], second: &[bool]) -> Result<Vec<bool>, M
         marks.push(first[number] || second[number])?;
     }
     Ok(marks)
+}
+
+// Few curves of which each bad pair with a half arc has one, where half arcs have many others near
+// them and such curves are found.
+fn few_marks(alloc: Global, drawing: &Drawing) -> Result<Option<Vec<bool>>, Memory>
+    ensures { IfOk result (λ r. IfSome r (λ few. AreArcPairMarks (plan drawing.now) few.items)) }
+{
+    if drawing.curves.len() > MOST_CURVES {
+        return Ok(None);
+    }
+    let half_arcs = half_arc_marks(alloc, &drawing.curves)?;
+    if !has_many_pairs(alloc, drawing, &half_arcs)? {
+        return Ok(None);
+    }
+    match few_aside(alloc, drawing)? {
+        Some(aside) => Ok(Some(aside.marks)),
+        None => Ok(None),
+    }
+}
+
+// Marks for the few curves, and for those straights that are marked.
+fn with_few(
+    alloc: Global,
+    drawing: &Drawing,
+    marks: &[bool],
+    few: &[bool],
+) -> Result<Vec<bool>, Memory>
+    requires marks { AreMeetingMarks (plan drawing.now) marks.now }
+    requires few { AreArcPairMarks (plan drawing.now) few.now }
+    ensures { IfOk result (λ both. AreMeetingMarks (plan drawing.now) both.items) }
+{
+    let mut both = Vec::with_capacity(alloc, marks.len())?;
+    for number in 0..drawing.curves.len() {
+        both.push(few[number] || (marks[number] && is_straight(&drawing.curves[number])))?;
+    }
+    Ok(both)
+}
+
+fn is_straight(curve: &Curve) -> bool
+    ensures { curve.now.kind ≡ kind.Straight → result ≡ true }
+{
+    curve.kind == CurveKind::Straight
 }

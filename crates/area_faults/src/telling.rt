@@ -117,9 +117,11 @@ fn faults_of_rest(
 ) -> Result<AreaFaults, Memory>
     requires curves { length (plan drawing.now).curves ≤ 16000000 }
     requires straights { AreStraights (plan drawing.now) }
+    requires unsettled { IsUnsettled (plan drawing.now) }
     requires meetings { AreMeetings (plan drawing.now) meetings.items }
     ensures { IfOk result (IsToldOf drawing.now.tolerance (plan drawing.now)) }
 {
+    level_breaks::laws::straights_are_settled();
     let out = left_out_marks(alloc, drawing.curves.len(), &meetings)?;
     match points_on_marked(alloc, drawing, &out, MOST)? {
         None => Ok(AreaFaults::Many(meetings)),

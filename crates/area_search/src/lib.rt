@@ -64,5 +64,6 @@ mod unsettled;
 pub use kinds::{AreaAnswer, AreaFinding, FacedDrawing, FoundObjects, Region};
 pub use level::{SettledFaces, faces_of_straights, find_area, find_objects, settled_faces};
 pub use numbers::numbers_with;
+pub use points::OnCurve;
 pub use settled::mesh_of_run;
-pub use unsettled::points_on_marked;
+pub use unsettled::{ExcludedCurves, few_aside, points_on_marked};

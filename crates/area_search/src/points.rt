@@ -7,7 +7,7 @@ use std::alloc::Global;
 
 /// An object's point, and a curve on which it lies.
 #[derive(Clone, Copy, Debug, PartialEq, Eq)]
-pub(crate) struct OnCurve {
+pub struct OnCurve {
     pub point: u32,
     pub curve: u32,
 }

@@ -10,7 +10,7 @@ use Rattle.plane.specs.Rule.Plans.{Plan}
 use Rattle.plane.specs.Runs.Gaps.{closed_gaps}
 use Rattle.tubes.specs.Settled.{IsSettledAt, edges_at}
 use Rattle.tubes.specs.declared.kinds.Owner.{Owner}
-use Rattle.area_search.specs.Answers.{HasNoBadPair, IsLeastLevel, IsUnsettled}
+use Rattle.area_search.specs.Answers.{HasNoBadPair, IsLeastLevel, IsSettled, IsUnsettled}
 use Rattle.area_search.specs.Settled.CaseRoots.{owner_at}
 use Rattle.area_search.specs.Settled.Cases.{IsCase}
 use Rattle.area_search.specs.declared.level.bad_edges.CurvePair.{CurvePair}
@@ -61,8 +61,10 @@ abbrev pub AreShown : Plan → LevelsShown → Type 0
 AreShown d (levels.Settled found) = IsSettlingLevel d found
 AreShown d (levels.Unsettled bad) = IsUnsettled d × IsBadIfAny d bad
 
--- The faces of a drawing without two curves that meet badly, by numbers; no curve is left out.
+-- The faces of a drawing that some level settles, so that no two of its curves meet badly, by
+-- numbers; no curve is left out.
 pub record AreFacesOf (d : Plan) (f : DrawingFaces) : Type 0 where
+  pub settled : IsSettled d
   pub clear : HasNoBadPair d
   pub faces : HasFaces d (λ i. false) f
   pub numbered : IsNumbered f

@@ -24,7 +24,7 @@ const ROUNDS: u32 = 8;
 /// Curves that are set aside, by their marks, and the least point on one of the others, if there is
 /// one.
 #[derive(Drop)]
-pub(crate) struct ExcludedCurves {
+pub struct ExcludedCurves {
     pub marks: Vec<bool>,
     pub on_others: Option<OnCurve>,
 }
@@ -56,9 +56,11 @@ pub(crate) fn set_aside(
     })
 }
 
-// The second case: half arcs without a tube at the last level, and in each round curves that are
-// near others at that level among those that are left.
-fn few_aside(alloc: Global, drawing: &Drawing) -> Result<Option<ExcludedCurves>, Memory>
+/// Few curves to set aside, without which the last level settles the drawing, if they are found:
+/// half arcs without a tube at that level, and in each round curves that are near others at that
+/// level among those that are left. The only error is out of memory. It takes the edges of the last
+/// level and two sweeps of them, up to eight times.
+pub fn few_aside(alloc: Global, drawing: &Drawing) -> Result<Option<ExcludedCurves>, Memory>
     requires few { length (plan drawing.now).curves ≤ 16000000 }
     ensures { IfOk result (λ r. IfSome r (λ a.
         AreAside (plan drawing.now) a.marks.items a.on_others)) }

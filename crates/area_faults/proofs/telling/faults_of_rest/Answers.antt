@@ -3,7 +3,7 @@ use Rattle.plane.specs.Rule.Plans.{plan}
 use Rattle.fault_lists.specs.DrawingFaces.{HasFaces}
 use Rattle.near_pairs.specs.Boxes.{mark_of}
 use Rattle.area_faults.proofs.ToldFaults.{all_faults, both_out, met_below, out_of_curves, pairs_for}
-use Rattle.area_faults.proofs.ToldFaults.{points_below, some_of_all}
+use Rattle.area_faults.proofs.ToldFaults.{points_below, settled_straights, some_of_all}
 use Rattle.area_faults.proofs.telling.faults_of_rest.Goals as goal
 
 pub left_out_marks-requires : goal.left_out_marks-requires
@@ -24,11 +24,14 @@ pub returns : goal.returns
 returns c =
     let d = plan c.args.drawing.now in
     let h = rw c.in-Some.is at c.in_ok-points_on_marked.ensures in
-    all_faults d c.in_ok-faults-in-Some.faults
-    (c.in_ok-faults-in-Some.ensures.faults (mark_of c.in_ok-out.out.items)
+    let t = (c.in_ok-faults-in-Some.ensures.faults (mark_of c.in_ok-out.out.items)
     (out_of_curves d c.args.meetings.items c.deref.result.now c.len.result c.in_ok-out.out.items c.deref.ensures.value (c.len.ensures ∙ c.args.drawing.now.curves.ok.0) c.in_ok-out.ensures.marked)
     (subst (λ (bs : List Bool). HasFaces d (mark_of bs) c.in_ok-faces-in-Some.faces) c.deref-in-Some.ensures.value c.in_ok-faces-in-Some.ensures.faces)
-    (pairs_for d c.in_ok-out.out.items c.deref-2.result.now c.in-Some.pairs.items c.deref-in-Some-2.result.now c.deref-2.ensures.value c.deref-in-Some-2.ensures.value h))
+    (pairs_for d c.in_ok-out.out.items c.deref-2.result.now c.in-Some.pairs.items c.deref-in-Some-2.result.now c.deref-2.ensures.value c.deref-in-Some-2.ensures.value h)) in
+    all_faults d c.in_ok-faults-in-Some.faults t (settled_straights c.straights_are_settled.ensures d c.in_ok-faults-in-Some.faults.meetings.items c.requires.straights t.told.meetings)
 
 pub returns-in-None : goal.returns-in-None
-returns-in-None c = some_of_all (plan c.args.drawing.now) c.args.meetings.items c.requires.meetings
+returns-in-None c = record {
+  some = some_of_all (plan c.args.drawing.now) c.args.meetings.items c.requires.meetings;
+  unsettled = c.requires.unsettled;
+}

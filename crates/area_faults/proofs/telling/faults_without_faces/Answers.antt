@@ -22,4 +22,7 @@ returns c =
     }
 
 pub returns-in-None : goal.returns-in-None
-returns-in-None c = some_of_all (plan c.args.drawing.now) c.args.meetings.items c.requires.meetings
+returns-in-None c = record {
+  some = some_of_all (plan c.args.drawing.now) c.args.meetings.items c.requires.meetings;
+  unsettled = c.requires.unsettled;
+}

@@ -1,5 +1,6 @@
 use Rattle.std.proofs.Common.{refl}
 use Rattle.plane.specs.Rule.Plans.{plan}
+use Rattle.area_faults.proofs.LeastTold.{least_sides}
 use Rattle.area_faults.proofs.telling.told.Goals as goal
 
 pub returns-clause-faults : goal.returns-clause-faults
@@ -13,5 +14,6 @@ returns-clause-faults c = λ out left faces pairs. record {
     rest = faces.1;
     over = c.numbers_tell_faults.ensures (plan c.args.drawing.now) faces.0 out faces.1 c.args.faces.now c.in_ok-faces.faces faces.2 c.in_ok-faces.ensures;
   };
+  least = least_sides (plan c.args.drawing.now) faces.0 out faces.1 c.args.faces.now c.in_ok-faces.faces faces.2 c.in_ok-faces.ensures;
   out = refl;
 }
