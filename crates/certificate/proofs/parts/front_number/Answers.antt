@@ -1,4 +1,4 @@
-use Rattle.std.proofs.Common.{◌≡◌, ◌+◌, ◌*◌, ◌-◌, ◌^◌, min, get_or, true, arith}
+use Rattle.std.proofs.Common.{◌≡◌, get_or, true, arith}
 use Rattle.std.specs.Char.{is_ascii_digit}
 use Rattle.certificate.proofs.Digits.{value_more, prefix_more}
 use Rattle.certificate.proofs.parts.front_number.Goals as goal
