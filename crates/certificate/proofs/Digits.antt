@@ -1,6 +1,8 @@
 -- Runs of digits.
-use Rattle.std.proofs.Common.{◌≡◌, ℕ, zero, suc, ◌+◌, ◌-◌, ◌*◌, ◌^◌, ◌<◌, ◌≤◌, min, Bool, true}
-use Rattle.std.proofs.Common.{false, cond, ◌&&◌, List, [], ◌∷◌, length, take, get_or, refl, arith}
+use Rattle.std.proofs.Common.{◌≡◌, ℕ, ◌+◌, ◌-◌, ◌*◌, ◌^◌, ◌<◌, min, Bool, true}
+use Rattle.std.proofs.Common.{false, cond, ◌&&◌, List, [], ◌∷◌, length, take, drop, get_or, refl}
+use Rattle.std.proofs.Common.{arith, add-one}
+use Rattle.std.proofs.Math.Seq.{drop-cons}
 use Rattle.std.specs.Char.{is_ascii_digit, digit_value}
 use Rattle.std.specs.Str.{all_ascii_digits}
 use Rattle.std.specs.Str.Parse.{digits_value}
@@ -25,26 +27,21 @@ pub front_is_digits : (bytes : List ℕ)
 front_is_digits [] = refl
 front_is_digits (c ∷ bytes) = front_by_first c bytes (is_ascii_digit c) refl (front_is_digits bytes)
 
-digit_at : (ds : List ℕ) (i : ℕ) → all_ascii_digits ds ≡ true → i < length ds
-    → is_ascii_digit (get_or ds i 0) ≡ true
-digit_at [] i h l = absurd (omega arith)
-digit_at (d ∷ ds) zero h l = (both_true _ _ h).0
-digit_at (d ∷ ds) (suc i) h l = digit_at ds i (both_true _ _ h).1 (omega arith)
-
-digit_bounds : (c : ℕ) → is_ascii_digit c ≡ true → (48 ≤ c) × (c ≤ 57)
-digit_bounds c h = grind (arith, nat_tests)
-
--- a digit, as the code reads it
-pub digit_low : (ds : List ℕ) (i : ℕ) → all_ascii_digits ds ≡ true → i < length ds
-    → 48 ≤ get_or ds i 0
-digit_low ds i h l = (digit_bounds _ (digit_at ds i h l)).0
-
 value_of_digit : (c : ℕ) → is_ascii_digit c ≡ true → digit_value c ≡ c - 48
 value_of_digit c h = grind (arith, nat_tests)
 
-pub value_more : (ds : List ℕ) (i v : ℕ) → all_ascii_digits ds ≡ true → i < length ds
+-- one digit more
+pub value_more : (ds : List ℕ) (i v : ℕ) → is_ascii_digit (get_or ds i 0) ≡ true → i < length ds
     → v ≡ min (digits_value 10 (take i ds)) (2 ^ 32)
     → min (v * 10 + (get_or ds i 0 - 48)) (2 ^ 32) ≡ min (digits_value 10 (take (i + 1) ds)) (2 ^ 32)
 value_more ds i v h l e =
-    let d : digit_value (get_or ds i 0) ≡ get_or ds i 0 - 48 = value_of_digit (get_or ds i 0) (digit_at ds i h l) in
+    let d : digit_value (get_or ds i 0) ≡ get_or ds i 0 - 48 = value_of_digit (get_or ds i 0) h in
     omega (arith, digits_value_more 10 ds i l, d, e)
+
+-- digits at the front, up to a place and one more
+pub prefix_more : (ds : List ℕ) (i : ℕ) → is_ascii_digit (get_or ds i 0) ≡ true → i < length ds
+    → i + prefix_len is_ascii_digit (drop i ds) ≡ prefix_len is_ascii_digit ds
+    → i + 1 + prefix_len is_ascii_digit (drop (i + 1) ds) ≡ prefix_len is_ascii_digit ds
+prefix_more ds i h l e =
+    let d : prefix_len is_ascii_digit (drop i ds) ≡ 1 + prefix_len is_ascii_digit (drop (i + 1) ds) = rw (drop-cons ds i 0 l, h, add-one i) refl in
+    omega (arith, d, e)

@@ -1,10 +1,15 @@
+pub mod BodyLaws
 pub mod Digits
 pub mod Texts
 pub mod FirstBadLine
 pub mod FirstLines
+pub mod ListLaws
+pub mod Local
 pub mod FormLaws
 pub mod Loop
 pub mod Pairs
 pub mod PartLaws
+pub mod Pieces
+pub mod Resuming
 pub mod Stops
 pub mod TextLaws

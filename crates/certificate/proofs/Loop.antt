@@ -10,12 +10,9 @@ use Rattle.std.specs.Borrow.{Bor}
 use Rattle.certificate.specs.Parts.{Line}
 use Rattle.certificate.specs.Reading.{Text, Lines, ◌>>=◌, Fails, Finds, line_of, line_at, many_at}
 use Rattle.certificate.specs.Views.{found_view}
+use Rattle.certificate.specs.Feeding.{with_front}
 
--- what was read before, and what is still read
-abbrev pub with_front : {A : Type 0} → List A → Lines (List A) → Lines (List A)
-with_front front read = read >>= λ x. Ok (front ++ x.0, x.1)
-
-regroup : {A : Type 0} (front : List A) (x : A) (read : Lines (List A))
+pub regroup : {A : Type 0} (front : List A) (x : A) (read : Lines (List A))
     → with_front front (read >>= λ y. Ok (x ∷ y.0, y.1)) ≡ with_front (front ++ x ∷ []) read
 regroup {A = A} front x (Ok y) = ap (λ (xs : List A). Ok (xs, y.1)) (simp append_assoc)
 regroup front x (Err f) = refl

@@ -17,6 +17,9 @@
 //!   `Short` where the text ends before it, `Number` where it has its form but a number with a
 //!   leading zero or one above 4,294,967,295, `Line` where it has not its form. `specs/Parts.antt`
 //!   has the forms.
+//! - **`CertFeed`** takes a text piece by piece, wherever it is cut, and gives the same list or the
+//!   same first bad line as `read` of the whole text. Whole lines are read as they come; held are a
+//!   piece and the front of a line.
 //! - **`numbers_fit`** says that a certificate has a spelling where it has three names and counts
 //!   below 2^32, so that `read` gives a list of fewer than 2^32 such back from its text.
 //! - **Degenerate cases.** The empty list has two lines. A last line without LF, a line after the
@@ -28,12 +31,13 @@
 //! - **Cost.** `read` and `write` are linear in the text, `numbers_fit` in the certificate, for
 //!   which it takes no memory. `read` grows its lists by the lines that come, never by a count
 //!   that the text promises, so time and memory are bounded by the text's length whatever its
-//!   counts say. A number is read digit by digit, whatever its length.
+//!   counts say. A number is read digit by digit, whatever its length, in one pass.
 //!
-//! The layer above may use the clauses of these three calls and the two laws.
+//! The layer above may use the clauses of these calls and the two laws.
 #![tactic(auto)]
 
 mod fault;
+mod feed;
 mod fitting;
 mod forms;
 mod laws;
@@ -41,10 +45,13 @@ mod lines;
 mod notes;
 mod parts;
 mod reading;
+mod sections;
+mod stages;
 mod text;
 mod writing;
 
 pub use fault::CertFault;
+pub use feed::CertFeed;
 pub use fitting::numbers_fit;
 pub use laws::{one_list, one_pairing};
 pub use notes::{Certificate, HalfNote, Link, PointPlace};

@@ -1,14 +1,13 @@
 // The parts of a line, from left to right: each function finds one at the front of some bytes.
-ghost use Rattle.std.specs.Prelude.{◌≡◌, ◌<◌, ◌≤◌, ◌^◌, ◌+◌, min, length, IfSome, true};
+ghost use Rattle.std.specs.Prelude.{◌≡◌, ◌<◌, ◌≤◌, ◌^◌, ◌+◌, min, length, take, IfSome};
 ghost use Rattle.std.specs.List.{prefix_len};
 ghost use Rattle.std.specs.Char.{is_ascii_digit};
-ghost use Rattle.std.specs.Str.{all_ascii_digits};
 ghost use Rattle.std.specs.Str.Parse.{digits_value};
 ghost use Rattle.certificate.specs.Spelling.{is_name_byte};
 ghost use Rattle.certificate.specs.Reading.{Finds};
 ghost use Rattle.certificate.specs.Views.{found_view};
 ghost use Rattle.certificate.specs.Parts.{after_word, name_at, number, number_at, link_at};
-ghost use Rattle.certificate.specs.Parts.{half_note, half_at, has_leading_zero, side_at};
+ghost use Rattle.certificate.specs.Parts.{half_note, half_at, side_at};
 
 use crate::notes::{HalfNote, Link};
 
@@ -53,64 +52,44 @@ pub fn name_at(bytes: &[u8]) -> Part<'_, &[u8]>
     Some(bytes.split_at(length))
 }
 
-// How many bytes at the front are digits.
-fn digits_len(bytes: &[u8]) -> usize
-    ensures value { result ≡ prefix_len is_ascii_digit bytes.now }
-    ensures within { result ≤ length bytes.now }
-{
-    for (i, byte) in bytes.iter().enumerate() {
-        if !byte.is_ascii_digit() {
-            return i;
-        }
-    }
-    bytes.len()
-}
-
-// The value of some digits, or 2^32 where it is greater.
-fn value(digits: &[u8]) -> u64
-    requires { all_ascii_digits digits.now ≡ true }
-    ensures { result ≡ min (digits_value 10 digits.now) (2 ^ 32) }
+// The value of the digits at the front, or 2^32 where it is greater, and how many they are.
+fn front_number(bytes: &[u8]) -> (u64, usize)
+    ensures value { result.0 ≡ min (digits_value 10 (take result.1 bytes.now)) (2 ^ 32) }
+    ensures digits { result.1 ≡ prefix_len is_ascii_digit bytes.now }
+    ensures within { result.1 ≤ length bytes.now }
 {
     let mut value: u64 = 0;
-    for digit in digits {
-        value = (value * 10 + u64::from(*digit - b'0')).min(1 << 32);
+    for (i, byte) in bytes.iter().enumerate() {
+        if !byte.is_ascii_digit() {
+            return (value, i);
+        }
+        value = (value * 10 + u64::from(*byte - b'0')).min(1 << 32);
     }
-    value
+    (value, bytes.len())
 }
 
-fn has_leading_zero(digits: &[u8]) -> bool
-    ensures { result ≡ has_leading_zero digits.now }
-{
-    matches!(digits, [b'0', _, ..])
-}
-
-// The number that some digits spell; none with a leading zero, or from 2^32 on.
-fn number(digits: &[u8]) -> Option<u32>
-    requires { all_ascii_digits digits.now ≡ true }
+// The number of some digits that have this value: none with a leading zero, or from 2^32 on.
+fn number_of(digits: &[u8], value: u64) -> Option<u32>
+    requires { value ≡ min (digits_value 10 digits.now) (2 ^ 32) }
     ensures { result ≡ number digits.now }
 {
-    if has_leading_zero(digits) {
-        return None;
-    }
-    let value = value(digits);
-    if value > u64::from(u32::MAX) {
+    if matches!(digits, [b'0', _, ..]) || value > u64::from(u32::MAX) {
         return None;
     }
     Some(value as u32)
 }
 
 // A run of digits at the front, read as a number.
-#[tactic(auto, using(crate::proofs::Digits::front_is_digits))]
 pub fn number_at(bytes: &[u8]) -> Spelt<'_, u32>
     ensures value { Finds found_view result (number_at bytes.now) }
     ensures shorter { IfSome result (λ part. length part.1.now < length bytes.now) }
 {
-    let length = digits_len(bytes);
+    let (value, length) = front_number(bytes);
     if length == 0 {
         return None;
     }
     let (digits, rest) = bytes.split_at(length);
-    Some((number(digits), rest))
+    Some((number_of(digits, value), rest))
 }
 
 // A link at the front.
