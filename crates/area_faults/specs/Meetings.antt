@@ -10,6 +10,7 @@ use Rattle.fault_lists.specs.FaultLists.{AreMeetings, IsMeetingPlace}
 use Rattle.area_faults.specs.declared.meeting_lists.MeetingList.{MeetingList}
 use Rattle.area_faults.specs.declared.meeting_lists.MeetingList.TheVariants as list
 
+-- the number of a pair in the order of pairs
 abbrev pub entry_code : MeetingAt → ℕ
 entry_code m = code m.first m.second
 

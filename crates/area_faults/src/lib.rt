@@ -15,6 +15,11 @@
 //! - **Degenerate cases.** No curve, no point, equal curves, curves that end within a face and
 //!   points at vertices are all taken.
 //! - **Not here:** lines of the transfer, coordinates in a model's decimals, and any text.
+//!
+//! Cost: the levels as in `area_search`. Where none settles: two sweeps of the straights, up to
+//! nine times; a test of each pair of a marked curve and another whose boxes share a place, up to
+//! 2,000,000 findings; the same for points and curves left out, up to 4,000,000. Then of straights
+//! a sweep of the rest with its faces; with half arcs the search.
 #![tactic(auto)]
 
 mod crossings;

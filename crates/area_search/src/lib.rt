@@ -35,6 +35,7 @@
 //!   with its faces and the face of each object's point, for whoever asks what bounds a region.
 //!   `settled_faces` gives the faces of any drawing that a level settles by numbers, of its points
 //!   and beside its curves, whatever is at fault in them.
+//! - **For `area_faults`:** `points_on_marked`, `numbers_with` and `mesh_of_run`.
 //! - **Degenerate cases.** No line, no point, several rings, holes, lines that end inside a region,
 //!   rings that touch in a vertex, equal points and points at vertices are all taken.
 //! - **Not here:** names of areas, lines of the transfer, and the text of a certificate.
@@ -47,10 +48,8 @@
 //! the bent drawing, which has at most as many edges as its half arcs and three for each straight,
 //! and is there with the drawing. Where no level settles the drawing: a sweep of
 //! the straights, the tubes of level 5, and curves set aside times the curves, points and groups of
-//! edges that begin within their boxes. Set aside are all half arcs; or, where these have more than
-//! some 32 others near them on the average, those without which level 5 settles the drawing, if up
-//! to eight times two sweeps of its edges find them. Where more than some 32 of these are near each
-//! curve, up to 96 times two sweeps more.
+//! edges that begin within their boxes. Set aside are all half arcs; or, where many others are near
+//! them, those without which level 5 settles the drawing, if some sweeps find them (`unsettled`).
 #![tactic(auto)]
 
 mod kinds;

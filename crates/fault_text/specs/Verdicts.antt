@@ -61,20 +61,23 @@ abbrev pub outer_verdict : Bool → Verdict
 outer_verdict true = Faulty
 outer_verdict false = Clean
 
--- what is said of an area none of whose counts is above 0
+-- What is said of an area none of whose counts is above 0. Of one with too many points on curves no
+-- fault is told; no level settles it.
 abbrev pub bare_verdict : AreaFaults → Verdict
 bare_verdict (Told f) = outer_verdict f.faces.outer_open
 bare_verdict (Unsettled f a) = answer_verdict a
-bare_verdict (Many ms) = Faulty
+bare_verdict (Many ms) = Open
 
 -- what is to be said of an area
 abbrev pub verdict_of : AreaFaults → Verdict
 verdict_of x = if has_some (counts_of x) then Faulty else bare_verdict x
 
+-- it says that something is at fault
 abbrev pub is_faulty : Verdict → Bool
 is_faulty Faulty = true
 is_faulty other = false
 
+-- it says that something is unsettled
 abbrev pub is_unsettled : Verdict → Bool
 is_unsettled Open = true
 is_unsettled other = false

@@ -1,6 +1,6 @@
 //! The text that tells all faults of all areas of a transfer, and the lines of the report on them.
 //!
-//! - **The text.** `fault_text` has an area after the other: its names, a line for each fault, and
+//! - **The text.** `fault_text` has one area after another: its names, a line for each fault, and
 //!   eight counts. Curves and objects are named by their lines of the transfer, and places have the
 //!   decimals of the model. `specs/Text` spells each line; docs/faults.md says what they mean.
 //! - **The report.** `fault_report` has a line for each area: its names, the eight counts, and a

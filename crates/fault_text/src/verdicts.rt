@@ -128,14 +128,15 @@ fn outer_verdict(is_open: bool) -> Verdict
     }
 }
 
-// What is to be said of an area none of whose counts is above 0.
+// What is to be said of an area none of whose counts is above 0. Of one with too many points on
+// curves no fault is told; no level settles it.
 fn bare_verdict(told: &AreaFaults) -> Verdict
     ensures { result ≡ bare_verdict told.now }
 {
     match told {
         AreaFaults::Told(faults) => outer_verdict(faults.faces.outer_open),
         AreaFaults::Unsettled(_, answer) => answer_verdict(answer),
-        AreaFaults::Many(_) => Verdict::Faulty,
+        AreaFaults::Many(_) => Verdict::Unsettled,
     }
 }
 

@@ -5,7 +5,7 @@
 //! check, and writes nothing. Else it tells all faults of each area in the file F (docs/faults.md),
 //! and reports how many there are.
 //!
-//! - **Status.** 0: nothing is told of any area, and no SURFACE is at fault. 1: something is. 2: no
+//! - **Status.** 0: no fault is told of any area, and no SURFACE is at fault. 1: one is. 2: no
 //!   fault is told, and an area is undecided. The others are those of a check.
 //! - **Order.** Everything is read and told before the first write. Out of memory nothing is
 //!   written.
