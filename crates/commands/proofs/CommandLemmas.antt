@@ -1,13 +1,13 @@
 -- The words of a command, one by one.
 use Rattle.std.specs.Prelude.{codes}
 use Rattle.std.specs.Cmp.Lexicographic.{pointwise}
-use Rattle.std.proofs.lemmas.Slice.Eq.{bytes_eq-CallOutcome}
+use Rattle.std.proofs.lemmas.Slice.Eq.{bytes_eq-Decides}
 use Rattle.commands.specs.Commands.{FileNames, IsCompile, IsSpelled}
 use Rattle.std.proofs.Common.{◌≡◌, ◌≤◌, ◌<◌, ℕ, true, nat_eq, List, [], ◌∷◌, length, get_or, sym}
 use Rattle.std.proofs.Common.{◌∙◌, arith}
 
 pub same_word : (a b : List ℕ) → pointwise nat_eq a b ≡ true → a ≡ b
-same_word a b h = (bytes_eq-CallOutcome a b).0 h
+same_word a b h = (bytes_eq-Decides a b).0 h
 
 pub two_words : (ws : List (List ℕ)) (a b : List ℕ) → 2 ≤ length ws → length ws < 3
     → a ≡ get_or ws 0 a → b ≡ get_or ws 1 b → ws ≡ a ∷ b ∷ []

@@ -1,5 +1,5 @@
 use Rattle.std.proofs.Common.{arith, ◌≡◌, ℕ, Some, None, true, false, decimal, sym, ap, ◌∙◌}
-use Rattle.std.proofs.lemmas.Slice.Eq.{bytes_eq-CallOutcome}
+use Rattle.std.proofs.lemmas.Slice.Eq.{bytes_eq-Decides}
 use Rattle.commands.proofs.TrialSizes.{spelled_size}
 use Rattle.commands.proofs.trial.size_of.Goals as goal
 use Rattle.commands.proofs.trial.size_of.Goals.{else-size-ge1-via-then-size-ge1+then-size-le500+else-eq}
@@ -18,7 +18,7 @@ returns-else-size-ge1-clause-none c n h =
     elim c.else-size-ge1.branch [
       | else-size-ge1-via-then-size-ge1+then-size-le500+else-eq w ↦
           let a : w.format.result.now ≡ c.args.word.now = w.format.ensures.text ∙ ap decimal s ∙ sym h.spelled in
-          let t : true ≡ false = sym ((bytes_eq-CallOutcome w.format.result.now c.args.word.now).1 a) ∙ sym w.eq.ensures ∙ w.if-eq.false in
+          let t : true ≡ false = sym ((bytes_eq-Decides w.format.result.now c.args.word.now).1 a) ∙ sym w.eq.ensures ∙ w.if-eq.false in
           cc
       | else-size-ge1-via-then-size-ge1+else-size-le500 w ↦ absurd (omega (arith, s, h.most, w.if-size-le500.false))
       | else-size-ge1-via-else-size-ge1 w ↦ absurd (omega (arith, s, h.least, w.if-size-ge1.false))
