@@ -137,6 +137,12 @@ class Planted:
         return "\n".join(lines + ["COUNTS " + counts, "END", ""])
 
 
+def without_rings(text):
+    """The lines of a file without those of rings."""
+    lines = text.splitlines(keepends=True)
+    return "".join(line for line in lines if line[0].isalpha() and not line.startswith("RING "))
+
+
 def timed(*words):
     """The status, and the best CPU time of three runs."""
     times = []
@@ -168,7 +174,7 @@ def main():
         with open("want", "w") as file:
             file.write(planted.file())
         with open("F") as file:
-            if file.read() != planted.file() or status != (1 if kinds else 0):
+            if without_rings(file.read()) != planted.file() or status != (1 if kinds else 0):
                 sys.exit("F is not as it was planted (%s): see %s" % (" ".join(kinds), folder))
         print("%.2f times check: %d of %s" % (time / base, each, ", ".join(kinds) or "no kind"))
 

@@ -10,8 +10,8 @@ The drawings are those of random_drawings.py with more slips at once: lines that
 them or lie on them, regions without a point, with two or more, points outside and on lines, and
 lines that end within a region. Each line of the file has to be the one of plain_faults.py, or with
 arcs what plain_arcs.py gives: of two lines that meet in more than one place any of these may be
-named, and of two with an arc that share no end the start of the first. It stops at the first
-difference, and leaves its files.
+named, and of two with an arc that share no end the start of the first. The rings of regions are
+those of plain_rings.py. It stops at the first difference, and leaves its files.
 """
 import collections
 import itertools
@@ -22,6 +22,7 @@ import tempfile
 
 import plain_arcs
 import plain_faults
+import plain_rings
 import random_arcs
 import random_drawings
 from random_drawings import STEP, compare_many, fail, metres
@@ -144,14 +145,25 @@ def told_faces(faults, drawn, placed, curves, objects):
                                     metres(placed[second]))}
     for curve, side in faults.empty():
         yield {"EMPTY %d %s %s" % (curves[curve], side, ends(curve))}
+        yield from told_rings(faults, drawn, curve, side)
     for curve in faults.cuts():
         yield {"CUT %d %s" % (curves[curve], ends(curve))}
     if faults.outer in faults.open_faces:
         yield {"OUTER"}
     for curve, side in faults.open():
         yield {"OPEN %d %s %s" % (curves[curve], side, ends(curve))}
+        yield from told_rings(faults, drawn, curve, side)
     for point in faults.unjudged():
         yield {"UNJUDGED %d %s" % (objects[point], metres(placed[point]))}
+
+
+def told_rings(faults, drawn, curve, side):
+    """Those of the rings of the region on that side."""
+    rings = plain_rings.Rings({kept: drawn[kept] for kept in faults.sides})
+    for ring in rings.of_face(faults.sides, faults.sides[curve][side == "RIGHT"]):
+        yield {"RING %d" % len(ring)}
+        for places in ring:
+            yield {" ".join(map(metres, places))}
 
 
 def whole_text(faults, drawn, placed, curves, objects):
@@ -195,7 +207,8 @@ def compare_file(program, folder, text, wanted, tally):
         if number >= len(want) or line not in want[number]:
             fail(folder, "line %d" % (number + 1), line, want[number : number + 1])
     for line in got[3:-2]:
-        tally[line.split()[0]] += 1
+        if line[0].isalpha():
+            tally[line.split()[0]] += 1
     tally["drawings with status %d" % status] += 1
 
 

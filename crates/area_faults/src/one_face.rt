@@ -23,6 +23,7 @@ pub fn one_open_face(alloc: Global, drawing: &Drawing) -> Result<DrawingFaces, M
         open,
         points,
         curves,
+        next: Vec::new(alloc),
     })
 }
 

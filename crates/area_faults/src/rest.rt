@@ -4,11 +4,12 @@
 // (`half_units`). A sweep of its edges gives a complete run, in which the objects' points and the
 // middles are located (`placing`), and of which the mesh has the faces by numbers (`labelling`).
 // These are then read off it: the faces that hold middles are open, and points and sides of curves
-// have their faces (`numbering`).
+// have their faces (`numbering`); and it tells which side of a curve follows which (`walking`).
 mod finding;
 mod half_units;
 mod labelling;
 mod numbering;
 mod placing;
+mod walking;
 
 pub use finding::rest_faces;

@@ -18,8 +18,8 @@ use crate::one_face::one_open_face;
 use crate::point_list::all_on;
 use crate::rest::rest_faces;
 use area_search::{SettledFaces, find_area, points_on_marked, settled_faces};
-use fault_lists::laws::numbers_tell_faults;
-use fault_lists::{DrawingFaces, Faults, MeetingAt, OnAt, face_faults};
+use fault_lists::laws::{numbers_tell_faults, numbers_tell_rings};
+use fault_lists::{DrawingFaces, Faults, MeetingAt, OnAt, face_faults, regions};
 use meetings::BadPair;
 use plane::{Curve, CurveKind, Drawing};
 use ports::Memory;
@@ -99,13 +99,18 @@ fn told(
         → IfOk result (IsToldWith (plan drawing.now) all_out) }
 {
     numbers_tell_faults();
+    numbers_tell_rings();
     let on = all_on(alloc, faces, pairs)?;
-    let faces = face_faults(alloc, faces)?;
+    let found = face_faults(alloc, faces)?;
+    let empty = regions(alloc, drawing, faces, &found.empty)?;
+    let open = regions(alloc, drawing, faces, &found.open)?;
     Ok(Faults {
         meetings,
         on,
         all_out,
-        faces,
+        faces: found,
+        empty,
+        open,
     })
 }
 

@@ -12,7 +12,8 @@
 // (`case_certificates`), by links from each half-edge to the border, a tube or a point
 // (`case_roots`) and by labels (`case_notes`). Of a drawing of straights the mesh with its faces is
 // an answer too (`faced`), and of any drawing the faces of its points and beside its curves
-// (`drawing_faces`), by numbers of their own (`face_numbers`).
+// (`drawing_faces`), by numbers of their own (`face_numbers`), and which side of a curve follows
+// which round its face (`next_sides`).
 //
 // Not here: whether the level settles the drawing, which the run has shown before (`level`).
 mod case;
@@ -26,6 +27,7 @@ mod face_numbers;
 mod faced;
 mod finishing;
 mod meshing;
+mod next_sides;
 mod owners;
 mod place_regions;
 mod sides;

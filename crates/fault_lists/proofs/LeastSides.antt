@@ -54,7 +54,7 @@ pub one_side : (s o : SideAt) → side_number s ≡ side_number o → s ≡ o
 one_side s o h = let e = same_sides s.curve o.curve s.left o.left h in ap (λ (c : ℕ). side c s.left) e.0 ∙ ap (λ (b : Bool). side o.curve b) e.1
 
 -- a side is a side of one face
-one_face_beside : (f : DrawingFaces) (m n : ℕ) (s : SideAt) → IsSide f m s → IsSide f n s → m ≡ n
+pub one_face_beside : (f : DrawingFaces) (m n : ℕ) (s : SideAt) → IsSide f m s → IsSide f n s → m ≡ n
 one_face_beside f m n s h k =
     let e : Some h.faces ≡ Some k.faces = sym h.is ∙ k.is in
     let same : h.faces ≡ k.faces = cc in

@@ -37,7 +37,7 @@ module _ {A : Type 0} (Is : A → Type 0) (number : A → ℕ) where
       nothing : (x : A) → Contains [] x → ⊥
       nothing x (k, l, e) = omega (arith, l)
 
-  rising_push : (xs : List A) (x : A) → IsStrictlyIncreasing (map number xs)
+  pub rising_push : (xs : List A) (x : A) → IsStrictlyIncreasing (map number xs)
       → ((y : A) → Contains xs y → number y < number x)
       → IsStrictlyIncreasing (map number (xs ++ x ∷ []))
   rising_push xs x rise less = subst (λ ns. IsStrictlyIncreasing ns) (sym (map-append number xs (x ∷ []))) (numbers_push (map number xs) (number x) rise each)

@@ -1,8 +1,9 @@
 -- All faults of a drawing, list by list.
 use Rattle.std.specs.Prelude.{◌≡◌, ◌↔◌, ◌⊎◌, ℕ, ◌+◌, ◌*◌, ◌^◌, ◌<◌, Bool, true, false, List}
-use Rattle.std.specs.Prelude.{length, map}
+use Rattle.std.specs.Prelude.{[], length, map}
 use Rattle.std.specs.List.{Contains}
 use Rattle.std.specs.List.Sorted.{IsStrictlyIncreasing}
+use Rattle.plane.specs.Lists.{Has}
 use Rattle.plane.specs.Rule.BadPairs.{IsBadPair}
 use Rattle.plane.specs.Rule.CrossedCurves.{IsLost}
 use Rattle.plane.specs.Rule.Curves.{IsOn}
@@ -20,9 +21,11 @@ use Rattle.fault_lists.specs.declared.kinds.Faults.{Faults}
 use Rattle.fault_lists.specs.declared.kinds.MeetingAt.{MeetingAt}
 use Rattle.fault_lists.specs.declared.kinds.OnAt.{OnAt}
 use Rattle.fault_lists.specs.declared.kinds.PointPair.{PointPair}
+use Rattle.fault_lists.specs.declared.kinds.Region.{Region}
 use Rattle.fault_lists.specs.declared.kinds.SideAt.{SideAt}
 use Rattle.fault_lists.specs.FaceLists.{side_number}
 use Rattle.fault_lists.specs.Faults.{AreTwo, LiesOn, LiesOutside}
+use Rattle.fault_lists.specs.Rings.{AreRings}
 use Rattle.fault_lists.specs.Sides.{side_end}
 
 -- ---- curves that meet badly, and points on curves
@@ -140,6 +143,21 @@ pub record AreFaultsOver (d r : Plan) (out : ℕ → Bool) (rest : IsRestOf d r 
   pub unjudged : (j : ℕ) → j < length d.points → IsOff r (point (object d j))
       → IsOpen d r out (point (object d j)) → Contains f.unjudged.items j
 
+-- ---- rings
+-- The second side is one of a curve that is not left out, and some face of the rest has both.
+abbrev pub HasBoth : (d r : Plan) (out : ℕ → Bool) → IsRestOf d r out → SideAt → SideAt → Type 0
+HasBoth d r out rest s o =
+    (out o.curve ≡ true → ⊥)
+    × ((z : Vector) × Place z × IsBeside d r out rest s z × IsBeside d r out rest o z)
+
+-- The faces of these sides, each with its rings, which have each side of the face once, joined end
+-- to end; or with no ring.
+pub record AreRegionsOver (d r : Plan) (out : ℕ → Bool) (rest : IsRestOf d r out)
+    (sides : List SideAt) (regions : List Region) : Type 0 where
+  pub sides_are : map (λ (x : Region). x.side) regions ≡ sides
+  pub rings : (x : Region) → Has x regions
+      → (x.rings.items ≡ []) ⊎ AreRings d (HasBoth d r out rest x.side) x.rings.items
+
 -- All faults of the drawing. Left out are the curves that meet others badly, or all of them.
 pub record AreFaults (d : Plan) (f : Faults) : Type 0 where
   pub meetings : AreMeetings d f.meetings.items
@@ -150,6 +168,8 @@ pub record AreFaults (d : Plan) (f : Faults) : Type 0 where
   pub r : Plan
   pub rest : IsRestOf d r out
   pub over : AreFaultsOver d r out rest f.faces
+  pub empty : AreRegionsOver d r out rest f.faces.empty.items f.empty.items
+  pub broken : AreRegionsOver d r out rest f.faces.open.items f.open.items
 
 -- The fault at the place is told, or the face of the place is told to be open.
 abbrev pub IsToldOr : (d : Plan) (f : Faults) → AreFaults d f → Vector → Type 0 → Type 0

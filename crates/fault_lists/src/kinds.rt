@@ -1,5 +1,8 @@
 // Faults, by the numbers of curves and of objects' points.
+ghost use Rattle.std.specs.Prelude.{◌≡◌};
+
 use plane::Point;
+use std::marker::Model;
 
 /// Two curves that meet badly, the lesser number first, and a place at which they meet or near it.
 #[derive(Clone, Copy, Debug, PartialEq, Eq)]
@@ -50,6 +53,46 @@ pub struct FaceFaults {
     pub unjudged: Vec<u32>,
 }
 
+/// A closed way along sides of one face, with the face on the left, from its least side on: each
+/// side ends where the next one begins, and the last one where the first one begins.
+#[derive(Drop)]
+pub struct Ring {
+    sides: Vec<SideAt>,
+}
+
+impl Model for Ring {
+    ghost use Rattle.std.specs.Prelude.{List};
+    ghost use Rattle.fault_lists.specs.declared.kinds.SideAt.{SideAt as Side};
+
+    ghost Value = { List Side };
+
+    ghost view = { λ ring. ring.sides.items };
+}
+
+impl Ring {
+    /// The ring of these sides.
+    pub(crate) fn new(sides: Vec<SideAt>) -> Ring
+        ensures { result ≡ sides.items }
+    {
+        Ring { sides }
+    }
+
+    /// Its sides, in the order in which they are passed.
+    pub fn sides(&self) -> &[SideAt]
+        ensures { result.now ≡ self.now }
+    {
+        &self.sides
+    }
+}
+
+/// A face by one of its sides, and its rings in the order of their least sides, which have each
+/// side of the face once; or no ring, where they are not told.
+#[derive(Drop)]
+pub struct Region {
+    pub side: SideAt,
+    pub rings: Vec<Ring>,
+}
+
 /// All faults of a drawing.
 #[derive(Drop)]
 pub struct Faults {
@@ -60,4 +103,8 @@ pub struct Faults {
     /// Whether all curves are left out, and not those alone that meet badly.
     pub all_out: bool,
     pub faces: FaceFaults,
+    /// The regions of the sides that `faces` has in `empty`, with their rings.
+    pub empty: Vec<Region>,
+    /// Those of the sides that it has in `open`.
+    pub open: Vec<Region>,
 }

@@ -1,5 +1,5 @@
 // Each fault of a drawing is told.
-ghost use Rattle.std.specs.Prelude.{◌≡◌, ◌⊎◌, ℕ, ◌<◌, Bool, true, length};
+ghost use Rattle.std.specs.Prelude.{◌≡◌, ◌⊎◌, ℕ, ◌<◌, Bool, List, true, length};
 ghost use Rattle.std.specs.List.{Contains};
 ghost use Rattle.plane.specs.Rule.BadPairs.{IsBadPair};
 ghost use Rattle.plane.specs.Rule.CrossedCurves.{IsLost};
@@ -13,18 +13,28 @@ ghost use Rattle.fault_lists.specs.declared.kinds.FaceFaults.{FaceFaults};
 ghost use Rattle.fault_lists.specs.declared.kinds.Faults.{Faults};
 ghost use Rattle.fault_lists.specs.declared.kinds.MeetingAt.{MeetingAt};
 ghost use Rattle.fault_lists.specs.declared.kinds.OnAt.{OnAt};
+ghost use Rattle.fault_lists.specs.declared.kinds.Region.{Region};
 ghost use Rattle.fault_lists.specs.declared.kinds.SideAt.{SideAt};
 ghost use Rattle.fault_lists.specs.DrawingFaces.{AreDrawingFaces};
 ghost use Rattle.fault_lists.specs.FaceLists.{AreFaceFaults};
 ghost use Rattle.fault_lists.specs.Faults.{AreTwo, LiesOn, LiesOutside};
-ghost use Rattle.fault_lists.specs.FaultLists.{AreFaults, AreFaultsOver, AreToldTwo, IsBeside};
+ghost use Rattle.fault_lists.specs.FaultLists.{AreFaults, AreFaultsOver, AreRegionsOver};
+ghost use Rattle.fault_lists.specs.FaultLists.{AreToldTwo, IsBeside};
 ghost use Rattle.fault_lists.specs.FaultLists.{IsMet, IsOfPair, IsToldOr};
+ghost use Rattle.fault_lists.specs.Rings.{AreRegions};
 
 /// What the numbers of the faces of a drawing tell is what is at fault in its faces.
 pub fn numbers_tell_faults()
     ensures { (d r : Plan) (out : ℕ → Bool) (rest : IsRestOf d r out) (f : DrawingFaces)
         (t : FaceFaults) → AreDrawingFaces d r out rest f → AreFaceFaults f t
         → AreFaultsOver d r out rest t }
+{}
+
+/// The sides that one face has by the numbers are those of one face of the drawing.
+pub fn numbers_tell_rings()
+    ensures { (d r : Plan) (out : ℕ → Bool) (rest : IsRestOf d r out) (f : DrawingFaces)
+        (sides : List SideAt) (regions : List Region) → AreDrawingFaces d r out rest f
+        → AreRegions d f sides regions → AreRegionsOver d r out rest sides regions }
 {}
 
 /// Each fault of the drawing is in its list, or lies in a face that is told to be open. Two points

@@ -5,6 +5,8 @@ use Rattle.std.specs.List.{flat_map}
 use Rattle.decimals.specs.Written.{spelling_of}
 use Rattle.plane.specs.Rule.Plans.{Plan, curve, plan}
 use Rattle.plane.specs.declared.kinds.Curve.{Curve}
+use Rattle.plane.specs.declared.kinds.CurveKind.{CurveKind}
+use Rattle.plane.specs.declared.kinds.CurveKind.TheVariants as kind
 use Rattle.plane.specs.declared.kinds.Placed.{Placed}
 use Rattle.plane.specs.declared.kinds.Point.{Point}
 use Rattle.area_faults.specs.declared.kinds.AreaFaults.{AreaFaults}
@@ -13,12 +15,13 @@ use Rattle.area_search.specs.declared.kinds.AreaAnswer.{AreaAnswer}
 use Rattle.area_search.specs.declared.kinds.AreaAnswer.TheVariants as found
 use Rattle.area_search.specs.declared.kinds.AreaFinding.{AreaFinding}
 use Rattle.area_search.specs.declared.kinds.AreaFinding.TheVariants as fault
-use Rattle.fault_lists.specs.declared.kinds.FaceFaults.{FaceFaults}
 use Rattle.fault_lists.specs.declared.kinds.Faults.{Faults}
 use Rattle.fault_lists.specs.declared.kinds.MeetingAt.{MeetingAt}
 use Rattle.fault_lists.specs.declared.kinds.OnAt.{OnAt}
 use Rattle.fault_lists.specs.declared.kinds.PointPair.{PointPair}
+use Rattle.fault_lists.specs.declared.kinds.Region.{Region}
 use Rattle.fault_lists.specs.declared.kinds.SideAt.{SideAt}
+use Rattle.fault_lists.specs.Rings.{start_on}
 use Rattle.fault_text.specs.declared.kinds.AreaTelling.{AreaTelling}
 use Rattle.fault_text.specs.declared.verdicts.Counts.{Counts}
 use Rattle.fault_text.specs.Verdicts.{counts_of}
@@ -62,9 +65,13 @@ abbrev pub side_text : Bool → List ℕ
 side_text true = codes " LEFT"
 side_text false = codes " RIGHT"
 
--- the two numbers of a place in so many decimals, with a blank before each
+-- the two numbers of a place in so many decimals, with a blank between them
+abbrev pub corner_text : ℕ → Point → List ℕ
+corner_text s p = spelling_of p.x s ++ codes " " ++ spelling_of p.y s
+
+-- the same with a blank before each
 abbrev pub place_text : ℕ → Point → List ℕ
-place_text s p = codes " " ++ spelling_of p.x s ++ codes " " ++ spelling_of p.y s
+place_text s p = codes " " ++ corner_text s p
 
 -- the places of the two ends of a curve, and the end of the line
 abbrev pub ends_text : ℕ → Curve → List ℕ
@@ -103,6 +110,29 @@ side_line word s d x =
 abbrev pub cut_line : ℕ → Plan → ℕ → List ℕ
 cut_line s d i = codes "CUT " ++ decimal (curve d i).line ++ ends_text s (curve d i)
 
+-- of a half arc a third point of its circle
+abbrev pub third_of : CurveKind → ℕ → Curve → List ℕ
+third_of kind.Straight s c = []
+third_of kind.HalfArc s c = place_text s c.third
+
+abbrev pub third_text : ℕ → Curve → List ℕ
+third_text s c = third_of c.kind s c
+
+-- where a side begins, as it is passed with the region on the left, and the third point of an arc
+abbrev pub corner_line : ℕ → Plan → SideAt → List ℕ
+corner_line s d x =
+    corner_text s (start_on x.left (curve d x.curve)) ++ third_text s (curve d x.curve)
+    ++ codes "\n"
+
+-- a ring: how many sides it has, and where each begins
+abbrev pub ring_text : ℕ → Plan → List SideAt → List ℕ
+ring_text s d sides =
+    codes "RING " ++ decimal (length sides) ++ codes "\n" ++ flat_map (corner_line s d) sides
+
+-- a region: a word, its first side, and its rings
+abbrev pub region_text : List ℕ → ℕ → Plan → Region → List ℕ
+region_text word s d r = side_line word s d r.side ++ flat_map (ring_text s d) r.rings.items
+
 -- whether the outer face is open
 abbrev pub outer_text : Bool → List ℕ
 outer_text true = codes "OUTER\n"
@@ -115,18 +145,18 @@ first_text s d f =
     flat_map (meeting_line s d) f.meetings.items ++ flat_map (on_line s d) f.on.items
 
 -- open faces, and points in them
-abbrev pub open_text : ℕ → Plan → FaceFaults → List ℕ
+abbrev pub open_text : ℕ → Plan → Faults → List ℕ
 open_text s d f =
-    outer_text f.outer_open ++ flat_map (side_line (codes "OPEN ") s d) f.open.items
-    ++ flat_map (object_line (codes "UNJUDGED ") s d) f.unjudged.items
+    outer_text f.faces.outer_open ++ flat_map (region_text (codes "OPEN ") s d) f.open.items
+    ++ flat_map (object_line (codes "UNJUDGED ") s d) f.faces.unjudged.items
 
 -- what is at fault in faces, and which are open
-abbrev pub faces_text : ℕ → Plan → FaceFaults → List ℕ
+abbrev pub faces_text : ℕ → Plan → Faults → List ℕ
 faces_text s d f =
-    flat_map (object_line (codes "OUTSIDE ") s d) f.outside.items
-    ++ flat_map (two_line s d) f.shared.items
-    ++ flat_map (side_line (codes "EMPTY ") s d) f.empty.items
-    ++ flat_map (cut_line s d) f.cuts.items ++ open_text s d f
+    flat_map (object_line (codes "OUTSIDE ") s d) f.faces.outside.items
+    ++ flat_map (two_line s d) f.faces.shared.items
+    ++ flat_map (region_text (codes "EMPTY ") s d) f.empty.items
+    ++ flat_map (cut_line s d) f.faces.cuts.items ++ open_text s d f
 
 -- the first fault that a search names
 abbrev pub fault_words : Plan → AreaFinding → List ℕ
@@ -148,7 +178,7 @@ answer_words d (found.Fault f) = codes "FIRST " ++ fault_words d f
 -- What is told of an area. Where no level settles it, no face is judged, and the answer of the
 -- search follows.
 abbrev pub told_text : ℕ → Plan → AreaFaults → List ℕ
-told_text s d (Told f) = first_text s d f ++ faces_text s d f.faces
+told_text s d (Told f) = first_text s d f ++ faces_text s d f
 told_text s d (Unsettled f a) =
     first_text s d f ++ codes "UNSETTLED\n" ++ answer_words d a ++ codes "\n"
 told_text s d (Many ms) = flat_map (meeting_line s d) ms.items ++ codes "MANY\n"

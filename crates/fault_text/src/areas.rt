@@ -7,15 +7,16 @@ ghost use Rattle.fault_text.specs.Text.{fault_text, fault_words, first_text, hea
 ghost use Rattle.fault_text.specs.Text.{open_text, outer_text, telling_of, tellings, told_text};
 ghost use Rattle.fault_text.specs.Verdicts.{counts_of};
 
-use crate::curves::{add_cuts, add_meetings, add_sides};
+use crate::curves::{add_cuts, add_meetings};
 use crate::kinds::AreaTelling;
 use crate::naming::{curve_at, placed_at};
 use crate::points::{add_all_on, add_all_two, add_objects};
+use crate::rings::add_regions;
 use crate::verdicts::{Counts, counts_of};
 use crate::words::{add_next, add_next_number, add_number, add_numbered, add_pair, add_side};
 use area_faults::AreaFaults;
 use area_search::{AreaAnswer, AreaFinding};
-use fault_lists::{FaceFaults, Faults};
+use fault_lists::Faults;
 use file_pages::HeldText;
 use plane::Drawing;
 use ports::Memory;
@@ -62,14 +63,14 @@ fn add_open(
     text: &mut HeldText,
     drawing: &Drawing,
     scale: u8,
-    faces: &FaceFaults,
+    faults: &Faults,
 ) -> Result<(), Memory>
     requires { scale ≤ 9 }
-    ensures { OnOk result (text.new ≡ text.old ++ open_text scale (plan drawing.now) faces.now) }
+    ensures { OnOk result (text.new ≡ text.old ++ open_text scale (plan drawing.now) faults.now) }
 {
-    add_outer(text, faces.outer_open)?;
-    add_sides(text, drawing, scale, b"OPEN ", &faces.open)?;
-    add_objects(text, drawing, scale, b"UNJUDGED ", &faces.unjudged)
+    add_outer(text, faults.faces.outer_open)?;
+    add_regions(text, drawing, scale, b"OPEN ", &faults.open)?;
+    add_objects(text, drawing, scale, b"UNJUDGED ", &faults.faces.unjudged)
 }
 
 // What is at fault in faces, and which are open.
@@ -77,16 +78,16 @@ fn add_faces(
     text: &mut HeldText,
     drawing: &Drawing,
     scale: u8,
-    faces: &FaceFaults,
+    faults: &Faults,
 ) -> Result<(), Memory>
     requires { scale ≤ 9 }
-    ensures { OnOk result (text.new ≡ text.old ++ faces_text scale (plan drawing.now) faces.now) }
+    ensures { OnOk result (text.new ≡ text.old ++ faces_text scale (plan drawing.now) faults.now) }
 {
-    add_objects(text, drawing, scale, b"OUTSIDE ", &faces.outside)?;
-    add_all_two(text, drawing, scale, &faces.shared)?;
-    add_sides(text, drawing, scale, b"EMPTY ", &faces.empty)?;
-    add_cuts(text, drawing, scale, &faces.cuts)?;
-    add_open(text, drawing, scale, faces)
+    add_objects(text, drawing, scale, b"OUTSIDE ", &faults.faces.outside)?;
+    add_all_two(text, drawing, scale, &faults.faces.shared)?;
+    add_regions(text, drawing, scale, b"EMPTY ", &faults.empty)?;
+    add_cuts(text, drawing, scale, &faults.faces.cuts)?;
+    add_open(text, drawing, scale, faults)
 }
 
 // A fault that a search names, by lines of the transfer.
@@ -153,7 +154,7 @@ fn add_told(
     match told {
         AreaFaults::Told(faults) => {
             add_first(text, drawing, scale, faults)?;
-            add_faces(text, drawing, scale, &faults.faces)
+            add_faces(text, drawing, scale, faults)
         }
         AreaFaults::Unsettled(faults, answer) => {
             add_first(text, drawing, scale, faults)?;

@@ -56,8 +56,8 @@ fn add_ends(text: &mut HeldText, scale: u8, curve: &Curve) -> Result<(), Memory>
     text.add(b"\n")
 }
 
-// The word, the curve's line, the side and the curve's two ends.
-fn add_one_side(
+/// Adds the word, the curve's line, the side and the curve's two ends.
+pub fn add_one_side(
     text: &mut HeldText,
     drawing: &Drawing,
     scale: u8,
@@ -72,24 +72,6 @@ fn add_one_side(
     add_numbered(text, words, curve.line)?;
     add_side(text, side.left)?;
     add_ends(text, scale, &curve)
-}
-
-/// Adds the lines of sides of curves, each with that word.
-pub fn add_sides(
-    text: &mut HeldText,
-    drawing: &Drawing,
-    scale: u8,
-    words: &[u8],
-    sides: &[SideAt],
-) -> Result<(), Memory>
-    requires { scale ≤ 9 }
-    ensures { OnOk result (text.new ≡ text.old
-        ++ flat_map (side_line words.now scale (plan drawing.now)) sides.now) }
-{
-    for side in sides {
-        add_one_side(text, drawing, scale, words, side)?;
-    }
-    Ok(())
 }
 
 // CUT line x y x y

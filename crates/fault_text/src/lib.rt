@@ -23,6 +23,7 @@ mod kinds;
 mod naming;
 mod points;
 mod report;
+mod rings;
 mod verdicts;
 mod words;
 

@@ -2,7 +2,7 @@
 ghost use Rattle.std.specs.Prelude.{◌≡◌, ◌≤◌, ◌++◌, codes, decimal, OnOk};
 ghost use Rattle.decimals.specs.Numerals.{point_bytes, sign_bytes};
 ghost use Rattle.decimals.specs.Written.{padded, spelling_of, written_point, written_sign};
-ghost use Rattle.fault_text.specs.Text.{pair_text, place_text, side_text};
+ghost use Rattle.fault_text.specs.Text.{corner_text, pair_text, place_text, side_text};
 
 use file_pages::HeldText;
 use itoa::Buffer;
@@ -100,13 +100,21 @@ fn add_scaled(text: &mut HeldText, value: i64, scale: u8) -> Result<(), Memory>
     add_decimals(text, scale, magnitude % unit)
 }
 
+/// Adds the two numbers of a place in so many decimals, with a blank between them.
+pub fn add_corner(text: &mut HeldText, scale: u8, place: Point) -> Result<(), Memory>
+    requires { scale ≤ 9 }
+    ensures { OnOk result (text.new ≡ text.old ++ corner_text scale place) }
+{
+    add_scaled(text, place.x, scale)?;
+    text.add(b" ")?;
+    add_scaled(text, place.y, scale)
+}
+
 /// Adds a place in so many decimals, with a blank before each of its numbers.
 pub fn add_place(text: &mut HeldText, scale: u8, place: Point) -> Result<(), Memory>
     requires { scale ≤ 9 }
     ensures { OnOk result (text.new ≡ text.old ++ place_text scale place) }
 {
     text.add(b" ")?;
-    add_scaled(text, place.x, scale)?;
-    text.add(b" ")?;
-    add_scaled(text, place.y, scale)
+    add_corner(text, scale, place)
 }

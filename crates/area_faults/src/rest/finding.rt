@@ -16,6 +16,7 @@ use super::half_units::edges_in_halves;
 use super::labelling::labelled_run;
 use super::numbering::{curve_faces, open_faces, point_places};
 use super::placing::places_of;
+use super::walking::next_sides;
 use area_search::numbers_with;
 use fault_lists::DrawingFaces;
 use line_sweep::{SweepRefusal, Swept, sweep};
@@ -25,7 +26,7 @@ use std::alloc::Global;
 
 /// The faces of a drawing of at most 16,000,000 straights without those that are marked, by
 /// numbers. No two of the others meet badly. The only error is out of memory. It takes a sweep of
-/// the curves that stay, a replay and the search of the faces; 12 bytes a curve, 8 a point and one
+/// the curves that stay, a replay and the search of the faces; 20 bytes a curve, 8 a point and one
 /// a face stay.
 pub fn rest_faces(alloc: Global, drawing: &Drawing, out: &[bool]) -> Result<DrawingFaces, Memory>
     requires straights { AreStraights (plan drawing.now) }
@@ -75,5 +76,6 @@ fn faces_of_run(
         open: open_faces(alloc, &labelled, &places, first)?,
         points: point_places(alloc, &labelled.mesh, kept, &places, first)?,
         curves: curve_faces(alloc, &drawing.curves, &labelled.mesh, kept)?,
+        next: next_sides(alloc, &drawing.curves, &labelled.mesh, kept)?,
     })
 }

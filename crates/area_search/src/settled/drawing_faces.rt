@@ -16,6 +16,7 @@ use super::case_sides::{Beside, faces_beside, first_is_left, spot_face};
 use super::face_numbers::numbers_of_faces;
 use super::faced::labelled_run;
 use super::finishing::object_spots;
+use super::next_sides::next_sides;
 use fault_lists::{CurveFaces, DrawingFaces, PointPlace};
 use half_edges::Mesh;
 use line_sweep::Swept;
@@ -48,10 +49,12 @@ pub(crate) fn faces_of_drawing(
     let points = places_of(alloc, settled, mesh, &besides, &numbers.of_face, &spots)?;
     let curves = faces_of(alloc, &settled.drawing.curves, &besides, &numbers.of_face)?;
     let open = vec![in alloc; false; numbers.count as usize]?;
+    let next = next_sides(alloc, settled, &settled.drawing.curves, mesh)?;
     Ok(DrawingFaces {
         open,
         points,
         curves,
+        next,
     })
 }
 

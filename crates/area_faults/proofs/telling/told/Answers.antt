@@ -1,4 +1,4 @@
-use Rattle.std.proofs.Common.{refl}
+use Rattle.std.proofs.Common.{refl, rules}
 use Rattle.plane.specs.Rule.Plans.{plan}
 use Rattle.area_faults.proofs.LeastTold.{least_sides}
 use Rattle.area_faults.proofs.telling.told.Goals as goal
@@ -12,7 +12,9 @@ returns-clause-faults c = λ out left faces pairs. record {
     out_is = left;
     r = faces.0;
     rest = faces.1;
-    over = c.numbers_tell_faults.ensures (plan c.args.drawing.now) faces.0 out faces.1 c.args.faces.now c.in_ok-faces.faces faces.2 c.in_ok-faces.ensures;
+    over = c.numbers_tell_faults.ensures (plan c.args.drawing.now) faces.0 out faces.1 c.args.faces.now c.in_ok-found.found faces.2 c.in_ok-found.ensures;
+    empty = c.numbers_tell_rings.ensures (plan c.args.drawing.now) faces.0 out faces.1 c.args.faces.now c.in_ok-found.found.empty.items c.in_ok-empty.empty.items faces.2 (search rules);
+    broken = c.numbers_tell_rings.ensures (plan c.args.drawing.now) faces.0 out faces.1 c.args.faces.now c.in_ok-found.found.«open».items c.in_ok-open.«open».items faces.2 (search rules);
   };
   least = least_sides (plan c.args.drawing.now) faces.0 out faces.1 c.args.faces.now c.in_ok-faces.faces faces.2 c.in_ok-faces.ensures;
   out = refl;

@@ -107,7 +107,7 @@ returns c =
     let run = subst (λ (es : List Edge). Run (length es) (edge_of es) (steps_from [] vs)) c.requires.edges c.requires.run in
     let a = subst (λ (es : List Edge). ArePlaces es vs (half_points d left) places) c.requires.edges c.in_ok-places.ensures in
     let n : c.len-first.result ≡ length d.points = c.len-first.ensures ∙ w.points.ok.0 in
-    let f : DrawingFaces = record { «open» = c.in_ok-open_faces.field-0; points = c.in_ok-point_places.field-0; curves = c.in_ok-curve_faces.field-0 } in
+    let f : DrawingFaces = record { «open» = c.in_ok-open_faces.field-0; points = c.in_ok-point_places.field-0; curves = c.in_ok-curve_faces.field-0; next = c.in_ok-next_sides.field-0 } in
     let opened = subst (λ (m : ℕ). AreOpenTo l.mesh.face l.count places m (length places) c.in_ok-open_faces.field-0.items) n
     (subst (λ (ps : List Place). AreOpenTo l.mesh.face l.count ps c.len-first.result (length ps) c.in_ok-open_faces.field-0.items) c.deref.ensures.value c.in_ok-open_faces.ensures) in
     let points : c.in_ok-point_places.field-0.items ≡ map (point_place l.mesh.face kept) (take (length d.points) places) = c.in_ok-point_places.ensures

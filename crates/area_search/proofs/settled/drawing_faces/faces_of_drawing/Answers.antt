@@ -114,6 +114,11 @@ faces_of-requires-clause-close c =
     let w = c.args.settled.now.drawing.now in
     curves_turn (plan w) w.window refl w.curves_drawn c.deref-5.result.now c.deref-5.ensures.value
 
+pub next_sides-requires : goal.next_sides-requires
+next_sides-requires c =
+    let w = c.args.settled.now.drawing.now in
+    curves_turn (plan w) w.window refl w.curves_drawn c.deref-8.result.now c.deref-8.ensures.value
+
 pub returns-clause-faces : goal.returns-clause-faces
 returns-clause-faces c =
     let s = c.args.settled.now in
