@@ -22,9 +22,11 @@ abbrev pub end_on : Bool → Curve → Point
 end_on true c = c.to
 end_on false c = c.from
 
+-- where the way of a side begins, in a drawing
 abbrev pub start_of : Plan → SideAt → Point
 start_of d s = start_on s.left (curve d s.curve)
 
+-- where it ends
 abbrev pub end_of : Plan → SideAt → Point
 end_of d s = end_on s.left (curve d s.curve)
 

@@ -115,6 +115,7 @@ abbrev pub third_of : CurveKind → ℕ → Curve → List ℕ
 third_of kind.Straight s c = []
 third_of kind.HalfArc s c = place_text s c.third
 
+-- the third point of a half arc, and nothing of a straight
 abbrev pub third_text : ℕ → Curve → List ℕ
 third_text s c = third_of c.kind s c
 
