@@ -1,5 +1,6 @@
 -- The sides that one face has by the numbers are those of one face of the drawing.
-use Rattle.std.proofs.Common.{◌≡◌, ◌↔◌, ◌⊎◌, inl, inr, ℕ, ◌<◌, Bool, true, Option, Some, None, List, length, refl, sym, subst, arith, ◌∙◌}
+use Rattle.std.proofs.Common.{◌≡◌, ◌↔◌, ◌⊎◌, inl, inr, ℕ, ◌<◌, Bool, true, Option, Some, None, List}
+use Rattle.std.proofs.Common.{length, refl, sym, subst, arith, ◌∙◌}
 use Rattle.plane.specs.Rule.LeftOut.{IsRestOf}
 use Rattle.plane.specs.Rule.Places.{Vector, Place}
 use Rattle.plane.specs.Rule.Plans.{Plan, curve}

@@ -1,4 +1,5 @@
-use Rattle.std.proofs.Common.{rules, ◌+◌, ◌<◌, ◌++◌, ◌∷◌, [], sym, subst, ◌≡◌, ◌∙◌, arith, ap, length}
+use Rattle.std.proofs.Common.{rules, ◌+◌, ◌<◌, ◌++◌, ◌∷◌, [], sym, subst, ◌≡◌, ◌∙◌, arith, ap}
+use Rattle.std.proofs.Common.{length}
 use Rattle.std.proofs.lemmas.List.{get_or_read, length-map}
 use Rattle.plane.specs.Rule.Plans.{plan}
 use Rattle.fault_lists.specs.declared.kinds.Region.{Region}
@@ -7,6 +8,7 @@ use Rattle.fault_lists.specs.FaceLists.{side_number}
 use Rattle.fault_lists.specs.Tracing.{AreTracedTo, IsWay, rings_of, sides_of, slot_of}
 use Rattle.fault_lists.proofs.Traces.{not_told, passed_over, ring_added, rings_set, sides_set}
 use Rattle.fault_lists.proofs.rings.trace_from.Goals.{then-slot-regions-via-then-slot-regions}
+use Rattle.fault_lists.proofs.rings.trace_from.Goals.{}
 use Rattle.fault_lists.proofs.rings.trace_from.Goals.{then-slot-regions-via-else-slot-regions+then-marks-side_number}
 use Rattle.fault_lists.proofs.rings.trace_from.Goals as goal
 
