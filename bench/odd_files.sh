@@ -227,6 +227,7 @@ put("long", None)
 
 FAULTS = b"AREA Cover Parcel Form 0 0 0 0 0 0 0 0\nVERDICT CLEAN 2\n"
 REWRITTEN = b"VERDICT ACCEPTED 2\n"
+LINE_FAULT = b"ITFFAULTS 1\nSTRUCTURE 1 word\nEND\n"
 for words, report, how in [
     (["polygons", "M", "T"], PROVED, {}),
     (["canonical", "M", "T"], REWRITTEN, {}),
@@ -240,10 +241,27 @@ for words, report, how in [
     check("%s: its file in a folder that is not there" % what, [*words, "none/C"], 6, b"", **how)
     check("%s: a device that is full for its file" % what, [*words, "/dev/full"], 6, b"", **how)
     check("%s: a folder as the transfer" % what, [*words[:-1], "folder", "C"], 5, fault(b"transfer"), **how)
-    check("%s: the model as the transfer" % what, [*words[:-1], "M", "C"], 1, b"STRUCTURE 1 word\nVERDICT REJECTED\n", **how)
+    left = KEPT if what != "itffaults" else LINE_FAULT
+    check("%s: the model as the transfer" % what, [*words[:-1], "M", "C"], 1, b"STRUCTURE 1 word\nVERDICT REJECTED\n", after=left, **how)
     check("%s: no file" % what, words, 4, run([], **how)[1], **how)
     with open("/dev/full", "wb") as full:
         check("%s: an output that is full" % what, [*words, "C"], 6, None, after=text, stdout=full, **how)
+
+# ---- itffaults of a transfer that is rejected before its areas are drawn
+
+TWICE = b"OBJE 1 77 150.000 150.000\n"
+put("found", TRANSFER.replace(TWICE, TWICE.replace(b"150", b"1x0", 1) + TWICE))
+number = TRANSFER[: TRANSFER.index(TWICE)].count(b"\n") + 1
+FOUND = b"FINDING %d number 2\nFINDING %d tid 0 %d\nFINDING %d ident 1 %d\n" % (
+    number, number + 1, number, number + 1, number)
+TOLD = FOUND + b"VERDICT REJECTED\n"
+faults = {"program": "./itffaults"}
+check("itffaults: three findings", ["M", "found", "C"], 1, TOLD, after=b"ITFFAULTS 1\nFINDINGS 3\n" + FOUND + b"END\n", **faults)
+for what, name in (("a line at fault", "M"), ("findings", "found")):
+    check("itffaults: %s, a device that is full for its file" % what, ["M", name, "/dev/full"], 6, b"", **faults)
+    check("itffaults: %s, its file in a folder that is not there" % what, ["M", name, "none/C"], 6, b"", **faults)
+with open("/dev/full", "wb") as full:
+    check("itffaults: a line at fault, an output that is full", ["M", "M", "C"], 6, None, after=LINE_FAULT, stdout=full, **faults)
 
 # ---- permission, and a disk that is full
 

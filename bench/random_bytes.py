@@ -134,8 +134,10 @@ def judge_faults(program, folder, status, report):
     got = run(program, folder, "M", "T", "F")
     told = held(folder, "F")
     if report.startswith((b"STRUCTURE", b"FINDING")):
-        if got != (status, report) or told != b"as before":
-            fail(folder, "itffaults", got, (status, report))
+        lines = report.removesuffix(b"VERDICT REJECTED\n")
+        count = b"FINDINGS %d\n" % lines.count(b"\n") if lines.startswith(b"FINDING") else b""
+        if got != (status, report) or told != b"ITFFAULTS 1\n" + count + lines + b"END\n":
+            fail(folder, "itffaults", (got, told), (status, report))
         return
     if got[0] != status and (status, got[0]) != (2, 1):
         fail(folder, "itffaults", got, (status, report))

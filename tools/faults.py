@@ -11,7 +11,9 @@ rings of it. A half arc is a polyline with steps of at most 5 degrees. Each has 
 table and attribute of its area, the line of the transfer that it names first, the other line and
 the side; in the table the shape is text as GIS programs read it (WKT). Coordinates are those of the
 file. The reference system is named where all places lie within that of Switzerland: LV95, or LV03; a program
-that takes GeoJSON for WGS84 whatever it names has to be told. It proves nothing.
+that takes GeoJSON for WGS84 whatever it names has to be told. A line at fault and findings, of
+which a file tells where no area was drawn, have no place: they are in neither, and standard error says
+how many there are. It proves nothing.
 """
 import cmath
 import csv
@@ -58,6 +60,9 @@ def faults(lines):
         sys.exit("faults.py: this is no file of faults: its first line is not ITFFAULTS 1")
     if lines[-1] != "END":
         sys.exit("faults.py: this file of faults was not written to its end")
+    without = sum(line.startswith(("STRUCTURE ", "FINDING ")) for line in lines)
+    if without:
+        print("%d lines of faults without a place, and no area" % without, file=sys.stderr)
     found, names, rest = [], (), iter(lines[1:])
     for line in rest:
         words = line.split(" ")

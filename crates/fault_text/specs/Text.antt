@@ -1,6 +1,6 @@
 -- The text of the faults of areas.
 use Rattle.std.specs.Prelude.{ℕ, Bool, true, false, List, [], ◌++◌, codes, decimal, get_or, pos}
-use Rattle.std.specs.Prelude.{length, map}
+use Rattle.std.specs.Prelude.{if◌then◌else◌, length, map, nat_lt}
 use Rattle.std.specs.List.{flat_map}
 use Rattle.decimals.specs.Written.{spelling_of}
 use Rattle.plane.specs.Rule.Plans.{Plan, curve, plan}
@@ -211,3 +211,12 @@ head_text n = codes "ITFFAULTS 1\nAREAS " ++ decimal n ++ codes "\n"
 abbrev pub fault_text : List Telling → List ℕ → List ℕ
 fault_text ts surfaces =
     head_text (length ts) ++ flat_map area_text ts ++ surfaces ++ codes "END\n"
+
+-- ---- a transfer that is rejected before its areas are drawn
+-- how many findings there are, where there are some
+abbrev pub findings_text : ℕ → List ℕ
+findings_text n = if nat_lt 0 n then codes "FINDINGS " ++ decimal n ++ codes "\n" else []
+
+-- the text of such a transfer with so many findings, and with these lines of the report
+abbrev pub rejected_text : ℕ → List ℕ → List ℕ
+rejected_text n lines = codes "ITFFAULTS 1\n" ++ findings_text n ++ lines ++ codes "END\n"

@@ -3,6 +3,8 @@
 //! - **The text.** `fault_text` has one area after another: its names, a line for each fault, and
 //!   eight counts. Curves and objects are named by their lines of the transfer, and places have the
 //!   decimals of the model. `specs/Text` spells each line; docs/faults.md says what they mean.
+//! - **A transfer that is rejected** before its areas are drawn has a text too: `rejected_text` has
+//!   the lines of the report on it, which come as a text, and before them how many findings it has.
 //! - **The report.** `fault_report` has a line for each area: its names, the eight counts, and a
 //!   word where no level settles it or the pairs that are told are not all. Its last line is the
 //!   verdict, which `all_verdict` fixes.
@@ -22,6 +24,7 @@ mod curves;
 mod kinds;
 mod naming;
 mod points;
+mod rejections;
 mod report;
 mod rings;
 mod verdicts;
@@ -29,5 +32,6 @@ mod words;
 
 pub use areas::fault_text;
 pub use kinds::AreaTelling;
+pub use rejections::rejected_text;
 pub use report::fault_report;
 pub use verdicts::{Verdict, all_verdict};

@@ -1,17 +1,12 @@
 -- What a call leaves, by its parts.
-use Rattle.std.proofs.Common.{◌≡◌, ◌≢◌, ℕ, List, ◌∷◌, Option, sym, ap, ◌∙◌, subst, length}
-use Rattle.std.specs.Prelude.{codes}
+use Rattle.std.proofs.Common.{◌≡◌, ◌≢◌, ℕ, List, Option, sym, ◌∙◌, subst, length}
 use Rattle.std.specs.List.{All, AllZip}
 use Rattle.area_drawings.specs.AreaLimits.{IsSmallPlan}
 use Rattle.area_drawings.specs.KeptViews.{HasTolerance}
 use Rattle.area_drawings.proofs.FewCurves.{few_curves}
 use Rattle.area_drawings.proofs.Zips.{drawn_count}
-use Rattle.commands.specs.Commands.{FileNames, on_files}
-use Rattle.commands.specs.declared.command.Verb.TheVariants.{Check}
-use Rattle.delivery.specs.Deciding.{with_command}
-use Rattle.delivery.specs.Drawn.{IsCleanDelivery, IsEarly, IsEarlyStatus, names}
+use Rattle.delivery.specs.Drawn.{IsCleanDelivery, IsEarlyStatus}
 use Rattle.delivery.specs.Effects.{HoldsFront}
-use Rattle.delivery.specs.Ending.{CommandOutcome}
 use Rattle.delivery.specs.declared.drawn.CleanDelivery.{CleanDelivery}
 use Rattle.fault_text.specs.Report.{all_verdict}
 use Rattle.fault_text.specs.declared.verdicts.Verdict.{Verdict}
@@ -19,14 +14,12 @@ use Rattle.fault_text.specs.declared.verdicts.Verdict.TheVariants as verdict
 use Rattle.plane.specs.Rule.Plans.{Plan}
 use Rattle.ports.specs.Files.{Files, Puts}
 use Rattle.reports.specs.AreaKinds.{plans}
-use Rattle.reports.specs.Outcomes.{Outcome, report_of}
 use Rattle.reports.specs.declared.lines.SurfaceAnswer.{SurfaceAnswer}
 use Rattle.reports.specs.declared.status.Status.{Status}
 use Rattle.reports.specs.declared.status.Status.TheVariants as status
 use Rattle.table_layout.specs.Layouts.{Layout}
 use Rattle.table_layout.specs.Values.{areas_view, layout_view}
-use Rattle.itffaults.specs.Faults.{AreNames, EndsEarly, IsTold, Reports, TellsAll}
-use Rattle.itffaults.specs.Faults.{has_surface_fault, names_by, status_of}
+use Rattle.itffaults.specs.Faults.{IsTold, Reports, TellsAll, has_surface_fault, names_by, status_of}
 
 -- ---- the status
 -- what is said of areas is no failed write, and not out of memory
@@ -95,18 +88,3 @@ module _ (held : Option Files) (model transfer : List ℕ) (c : CleanDelivery) (
         begun = begun;
         reports = reports;
       }
-
--- ---- a check that ends early
-pub ends : (held : Option Files) (counted : List ℕ → Type 0) (words : List (List ℕ)) (c : FileNames) (o : Outcome) (answer : Status) (new : Option Files) (before after : Option (List ℕ))
-    → AreNames words c → ((third : List ℕ) → CommandOutcome held counted (on_files Check (names c.model c.transfer third)) o) → IsEarly o → new ≡ held
-    → Reports (report_of o) o.status answer before after → EndsEarly held counted words answer new before after
-ends held counted words c o answer new before after n h early same reports =
-    let e = h c.third in
-    record {
-      outcome = o;
-      decided = with_command (on_files Check (names c.model c.transfer c.third)) e.gathered
-          (record { spelled = ap (λ (ws : List (List ℕ)). codes "check" ∷ ws) n.spelled; model = n.model; transfer = n.transfer; third = n.third }) e.gathers e.amounts;
-      early = early;
-      same = same;
-      reports = reports;
-    }

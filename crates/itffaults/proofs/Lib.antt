@@ -1,3 +1,5 @@
 pub mod Calls
+pub mod Ended
+pub mod Rejections
 pub mod Tellings
 pub mod Words

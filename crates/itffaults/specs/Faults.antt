@@ -1,7 +1,7 @@
 -- What the words, the files and the answer of a call have to do with each other.
 use Rattle.std.specs.Prelude.{◌≡◌, ◌≢◌, ℕ, Bool, true, false, List, [], ◌∷◌, ⊤, Option, codes}
 use Rattle.std.specs.Prelude.{slice_get}
-use Rattle.std.specs.List.{flat_map}
+use Rattle.std.specs.List.{count_by, flat_map}
 use Rattle.area_drawings.specs.AreaLimits.{has_too_large}
 use Rattle.area_drawings.specs.Drawings.{AreDrawings, area_tolerance, lines_in}
 use Rattle.area_faults.specs.Answers.{IsToldOf}
@@ -15,7 +15,7 @@ use Rattle.delivery.specs.Effects.{HoldsFront}
 use Rattle.delivery.specs.Judging.{IsClean, IsTextOf, objects}
 use Rattle.delivery.specs.Surfaces.{AreSurfaceAnswers}
 use Rattle.fault_text.specs.Report.{all_verdict, fault_report}
-use Rattle.fault_text.specs.Text.{Telling, fault_text}
+use Rattle.fault_text.specs.Text.{Telling, fault_text, rejected_text}
 use Rattle.fault_text.specs.declared.verdicts.Verdict.{Verdict}
 use Rattle.fault_text.specs.declared.verdicts.Verdict.TheVariants as verdict
 use Rattle.itf_reader.specs.Forms.{Row}
@@ -24,10 +24,11 @@ use Rattle.ports.specs.Files.{Files, Puts}
 use Rattle.ports.specs.Output.{Adds, AddsPrefix}
 use Rattle.reports.specs.AreaNames.{table_name, topic_name}
 use Rattle.reports.specs.Kinds.{has_fault}
-use Rattle.reports.specs.Lines.{line_text}
-use Rattle.reports.specs.Outcomes.{Outcome, report_of, surface_lines}
+use Rattle.reports.specs.Lines.{Line, finding, line_text}
+use Rattle.reports.specs.Outcomes.{Outcome, report_of, reported, surface_lines, with_verdict}
 use Rattle.reports.specs.Surfaces.{surfaces}
 use Rattle.reports.specs.declared.lines.SurfaceAnswer.{SurfaceAnswer}
+use Rattle.reports.specs.declared.lines.Verdict.TheVariants as report_verdict
 use Rattle.reports.specs.declared.status.Status.{Status}
 use Rattle.reports.specs.declared.status.Status.TheVariants as status
 use Rattle.resolver.specs.Resolved.{LineForm}
@@ -113,6 +114,26 @@ pub record IsTold (l : Layout) (ds : List Plan) (xs : List SurfaceAnswer) (n : �
       (all_verdict tellings (has_surface_fault l xs))
   pub status : s ≡ status_of (all_verdict tellings (has_surface_fault l xs))
 
+-- ---- a transfer that a check rejects before any area is searched
+-- the outcome of such a check: these lines, and behind them the verdict
+abbrev pub rejection : List Line → Outcome
+rejection ls = reported status.Rejected (with_verdict ls report_verdict.Rejected)
+
+-- the line tells a finding
+abbrev pub is_finding : Line → Bool
+is_finding (finding f) = true
+is_finding other = false
+
+-- the text of such lines, with the number of findings among them
+abbrev pub rejection_text : List Line → List ℕ
+rejection_text ls = rejected_text (count_by is_finding ls) (flat_map line_text ls)
+
+-- such lines are told by a text, a report and a status
+pub record IsRejection (ls : List Line) (t r : List ℕ) (s : Status) : Type 0 where
+  pub text : t ≡ rejection_text ls
+  pub report : r ≡ report_of (rejection ls)
+  pub status : s ≡ status.Rejected
+
 -- ---- the call
 -- What a call leaves that has that report, and answers with that status unless a write failed.
 pub record Reports (report : List ℕ) (s : Status) (answer : Status)
@@ -121,15 +142,36 @@ pub record Reports (report : List ℕ) (s : Status) (answer : Status)
   pub reported : answer ≢ status.WriteFault → Adds before report after
   pub begun : AddsPrefix before report after
 
--- A check of the files ends before any area is searched: no file has changed, and the report and
--- the status are its own, wherever its certificates would go.
+-- A check of the files ends before any area is searched, and does not reject the transfer: a file
+-- is not read or is too long, the model is refused, or an area is over its limit. No file has
+-- changed, and the report and the status are those of the check, wherever its certificates would
+-- go.
 pub record EndsEarly (held : Option Files) (counted : List ℕ → Type 0) (words : List (List ℕ))
     (answer : Status) (new : Option Files) (before after : Option (List ℕ)) : Type 0 where
   pub outcome : Outcome
   pub decided : CallOutcome held counted (codes "check" ∷ words) outcome
   pub early : IsEarly outcome
+  pub unrejected : outcome.status ≢ status.Rejected
   pub same : new ≡ held
   pub reports : Reports (report_of outcome) outcome.status answer before after
+
+-- What a call leaves that tells of a transfer that a check rejects with these lines: the file of
+-- that name holds their text, or after a failed write what it held or a front of that, and no other
+-- file has changed; the report and the status are those of the check.
+pub record LeavesRejection (ls : List Line) (held : Option Files) (name : List ℕ) (answer : Status)
+    (new : Option Files) (before after : Option (List ℕ)) : Type 0 where
+  pub filed : answer ≢ status.WriteFault → Puts held name (λ file. rejection_text ls) new
+  pub begun : HoldsFront held name (rejection_text ls) new
+  pub reports : Reports (report_of (rejection ls)) status.Rejected answer before after
+
+-- A check of the files, wherever its certificates would go, rejects the transfer with these lines
+-- before any area is searched, and they are told.
+pub record TellsRejection (held : Option Files) (counted : List ℕ → Type 0)
+    (words : List (List ℕ)) (name : List ℕ) (answer : Status) (new : Option Files)
+    (before after : Option (List ℕ)) : Type 0 where
+  pub lines : List Line
+  pub decided : CallOutcome held counted (codes "check" ∷ words) (rejection lines)
+  pub leaves : LeavesRejection lines held name answer new before after
 
 -- All faults are told: the transfer has rows that meet the declarations, no area is over its limit,
 -- the third file holds the text of all faults of the drawings of these rows, or after a failed
@@ -165,6 +207,9 @@ pub data HasCause (held : Option Files) (counted : List ℕ → Type 0) (words :
   usage : IsUsage words → new ≡ held → Reports usage_text status.Usage answer before after
       → HasCause held counted words answer new before after
   early : EndsEarly held counted words answer new before after
+      → HasCause held counted words answer new before after
+  rejected : (names : FileNames) → AreNames words names
+      → TellsRejection held counted words names.third answer new before after
       → HasCause held counted words answer new before after
   told : (names : FileNames) → AreNames words names
       → TellsAll held names answer new before after

@@ -1,9 +1,10 @@
 //! The program `itffaults M T F`: all faults of the areas of a transfer, with coordinates.
 //!
-//! It reads a model and a transfer as `itfcheck check` does. Of a transfer that a check rejects
-//! before it searches any area, or that cannot be read, it gives the report and the status of the
-//! check, and writes nothing. Else it tells all faults of each area in the file F (docs/faults.md),
-//! and reports how many there are.
+//! It reads a model and a transfer as `itfcheck check` does. Where a check ends before it searches
+//! any area, it gives the report and the status of the check; the file F has the lines of the
+//! report where a line of the transfer is at fault or objects have findings, and is not written
+//! where a file cannot be read, the model is refused or a limit is passed. Else it tells all faults
+//! of each area in F (docs/faults.md), and reports how many there are.
 //!
 //! - **Status.** 0: no fault is told of any area, and no SURFACE is at fault. 1: one is. 2: no
 //!   fault is told, and an area is undecided. The others are those of a check.
@@ -15,6 +16,7 @@
 #![tactic(auto)]
 
 mod naming;
+mod rejecting;
 mod running;
 mod telling;
 

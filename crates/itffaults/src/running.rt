@@ -5,11 +5,14 @@ ghost use Rattle.delivery.specs.Drawn.{IsCleanDelivery, IsEarly};
 ghost use Rattle.delivery.specs.Effects.{HoldsFront};
 ghost use Rattle.ports.specs.Faults.{NoReadFell, ReadRose, Rose};
 ghost use Rattle.ports.specs.Files.{Puts};
+ghost use Rattle.reports.specs.Lines.{Line};
 ghost use Rattle.reports.specs.Outcomes.{report_of};
 ghost use Rattle.reports.specs.OutcomeViews.{outcome_of};
-ghost use Rattle.itffaults.specs.Faults.{HasCause, Reports, TellsAll, names_by};
+ghost use Rattle.itffaults.specs.Faults.{HasCause, LeavesRejection, Reports, TellsAll, names_by};
+ghost use Rattle.itffaults.specs.Faults.{rejection};
 
 use crate::naming::file_names;
+use crate::rejecting::tell_rejection;
 use crate::telling::{Telling, tell};
 use commands::Word;
 use delivery::{CleanDelivery, Delivered, deliver};
@@ -97,6 +100,33 @@ fn tell_clean<S: Shelf, K: Sink>(
     }
 }
 
+// Tells of a transfer that a check rejects before any area is searched.
+fn tell_rejected<S: Shelf, K: Sink>(
+    alloc: Global,
+    outcome: &Outcome<'_>,
+    name: &str,
+    shelf: &mut S,
+    out: &mut K,
+) -> Status
+    requires rejected { (ls : List Line) × (outcome_of outcome.now ≡ rejection ls) }
+    ensures told { result ≢ Status.Memory → (ls : List Line)
+        → outcome_of outcome.now ≡ rejection ls → LeavesRejection ls (S.held shelf.old) name.now
+        result (S.held shelf.new) (K.written out.old) (K.written out.new) }
+    ensures reads { NoReadFell (S.read_faults shelf.old) (S.read_faults shelf.new) }
+    ensures writes { S.write_faults shelf.old ≤ S.write_faults shelf.new }
+    ensures faults { K.faults out.old ≤ K.faults out.new }
+    ensures cause { result ≡ Status.WriteFault
+        → Rose (S.write_faults shelf.old) (S.write_faults shelf.new)
+        ⊎ Rose (K.faults out.old) (K.faults out.new) }
+    ensures memory { result ≡ Status.Memory → (S.held shelf.new ≡ S.held shelf.old)
+        × (K.written out.new ≡ K.written out.old) }
+{
+    match tell_rejection(alloc, outcome) {
+        Ok(telling) => publish(&telling, name, shelf, out),
+        Err(Memory) => Status::Memory,
+    }
+}
+
 // Reports the outcome of a check that ended before any area was searched.
 fn report_ended<K: Sink>(alloc: Global, outcome: &Outcome<'_>, out: &mut K) -> Status
     requires early { IsEarly (outcome_of outcome.now) }
@@ -112,12 +142,48 @@ fn report_ended<K: Sink>(alloc: Global, outcome: &Outcome<'_>, out: &mut K) -> S
     }
 }
 
+// Ends as a check that ended before any area was searched; of a transfer that it rejects, the lines
+// of the report go to the file too.
+fn end_check<S: Shelf, K: Sink>(
+    alloc: Global,
+    outcome: &Outcome<'_>,
+    name: &str,
+    shelf: &mut S,
+    out: &mut K,
+) -> Status
+    requires early { IsEarly (outcome_of outcome.now) }
+    requires rejected { outcome.now.status ≡ Status.Rejected
+        → (ls : List Line) × (outcome_of outcome.now ≡ rejection ls) }
+    ensures same { outcome.now.status ≢ Status.Rejected → S.held shelf.new ≡ S.held shelf.old }
+    ensures reports { outcome.now.status ≢ Status.Rejected → result ≢ Status.Memory
+        → Reports (report_of (outcome_of outcome.now)) outcome.now.status result
+        (K.written out.old) (K.written out.new) }
+    ensures told { result ≢ Status.Memory → (ls : List Line)
+        → outcome_of outcome.now ≡ rejection ls → LeavesRejection ls (S.held shelf.old) name.now
+        result (S.held shelf.new) (K.written out.old) (K.written out.new) }
+    ensures reads { NoReadFell (S.read_faults shelf.old) (S.read_faults shelf.new) }
+    ensures writes { S.write_faults shelf.old ≤ S.write_faults shelf.new }
+    ensures faults { K.faults out.old ≤ K.faults out.new }
+    ensures cause { result ≡ Status.WriteFault
+        → Rose (S.write_faults shelf.old) (S.write_faults shelf.new)
+        ⊎ Rose (K.faults out.old) (K.faults out.new) }
+    ensures memory { result ≡ Status.Memory → (S.held shelf.new ≡ S.held shelf.old)
+        × (K.written out.new ≡ K.written out.old) }
+{
+    match outcome.status {
+        Status::Rejected => tell_rejected(alloc, outcome, name, shelf, out),
+        _ => report_ended(alloc, outcome, out),
+    }
+}
+
 /// Tells all faults of the areas of a transfer, over files by name and an output, and answers with
 /// a status whose number is the exit status of the program.
 ///
 /// `words` are those after the program's name: a model, a transfer, and the file that the text of
-/// the faults goes to. The files are read as by a check. The verdict is fixed before anything is
-/// written. Out of memory is the one answer without a cause. It never comes after the first write.
+/// the faults goes to. The files are read as by a check. Of a transfer that a check rejects before
+/// it searches any area, the lines of its report go to that file. The verdict is fixed before
+/// anything is written. Out of memory is the one answer without a cause. It never comes after the
+/// first write.
 pub fn run<S: Shelf, K: Sink>(alloc: Global, words: &[Word], shelf: &mut S, out: &mut K) -> Status
     // The cause of the answer, the report and the files.
     ensures cause { result ≢ Status.Memory → HasCause (S.held shelf.old)
@@ -143,7 +209,7 @@ pub fn run<S: Shelf, K: Sink>(alloc: Global, words: &[Word], shelf: &mut S, out:
     };
     match deliver(alloc, names.model, names.transfer, shelf) {
         Ok(Delivered::Clean(clean)) => tell_clean(alloc, &clean, names.third, shelf, out),
-        Ok(Delivered::Ended(outcome)) => report_ended(alloc, &outcome, out),
+        Ok(Delivered::Ended(outcome)) => end_check(alloc, &outcome, names.third, shelf, out),
         Err(Memory) => Status::Memory,
     }
 }

@@ -1,12 +1,14 @@
-use Rattle.std.proofs.Common.{ℕ, List, Option, refl, subst, sym}
+use Rattle.std.proofs.Common.{ℕ, List, Option, refl, subst, sym, ◌∙◌}
 use Rattle.commands.specs.CommandViews.{names_of}
 use Rattle.delivery.specs.Drawn.{IsCleanDelivery, IsDelivered}
 use Rattle.delivery.specs.declared.drawn.Delivered.{Delivered}
+use Rattle.delivery.proofs.Steps.{rose_before}
 use Rattle.ports.specs.Faults.{ReadRose}
 use Rattle.ports.specs.Files.{Files}
 use Rattle.reports.specs.OutcomeViews.{outcome_of}
-use Rattle.itffaults.specs.Faults.{TellsAll, early, names_by, told, usage}
-use Rattle.itffaults.proofs.Calls.{ends}
+use Rattle.itffaults.specs.Faults.{LeavesRejection, TellsAll, names_by, told, usage}
+use Rattle.itffaults.proofs.Ended.{ended}
+use Rattle.itffaults.proofs.Rejections.{rejects}
 use Rattle.itffaults.proofs.running.run.Goals as goal
 
 pub returns-in_default-clause-cause : goal.returns-in_default-clause-cause
@@ -24,12 +26,31 @@ returns-in-Ok-Clean-clause-cause g c = λ n.
     (subst (λ (h : Option Files). TellsAll h (names_by m t c.in-Some.names.third.now) c.tell_clean.result (g.S.Shelf.held c.tell_clean.new.shelf) (g.K.Sink.written c.args.out.now) (g.K.Sink.written c.tell_clean.new.out)) same
     (c.tell_clean.ensures.told n m t (subst (λ (h : Option Files). IsCleanDelivery h m t c.in-Ok-Clean.clean) (sym same) d)))
 
-pub returns-in-Ok-Ended-clause-cause : goal.returns-in-Ok-Ended-clause-cause
-returns-in-Ok-Ended-clause-cause g c = λ n.
+pub end_check-requires-clause-rejected : goal.end_check-requires-clause-rejected
+end_check-requires-clause-rejected g c =
     let held = g.S.Shelf.held c.args.shelf.now in
     let counted : List ℕ → Type 0 = ReadRose (g.S.Shelf.read_faults c.args.shelf.now) (g.S.Shelf.read_faults c.deliver.new.shelf) in
     let m = c.in-Some.names.model.now in
     let t = c.in-Some.names.transfer.now in
     let d = subst (λ (x : Delivered). IsDelivered held counted m t x) c.in-Ok-Ended.field-0-is c.in-Ok-Ended.ensures.delivered in
-    early (ends held counted c.args.words.now (names_of c.in-Some.names) (outcome_of c.in-Ok-Ended.outcome) c.report_ended.result (g.S.Shelf.held c.deliver.new.shelf) (g.K.Sink.written c.args.out.now) (g.K.Sink.written c.report_ended.new.out)
-    c.in-Some.ensures.some d.0 d.1 c.in-Ok-Ended.ensures.reads.held (c.report_ended.ensures.reports n))
+    rejects held counted m t (outcome_of c.in-Ok-Ended.outcome) d.0
+
+pub returns-in-Ok-Ended-clause-cause : goal.returns-in-Ok-Ended-clause-cause
+returns-in-Ok-Ended-clause-cause g c = λ n.
+    let held = g.S.Shelf.held c.args.shelf.now in
+    let new = g.S.Shelf.held c.end_check.new.shelf in
+    let before = g.K.Sink.written c.args.out.now in
+    let after = g.K.Sink.written c.end_check.new.out in
+    let fell = g.S.Shelf.read_faults in
+    let near : List ℕ → Type 0 = ReadRose (fell c.args.shelf.now) (fell c.deliver.new.shelf) in
+    let far : List ℕ → Type 0 = ReadRose (fell c.args.shelf.now) (fell c.end_check.new.shelf) in
+    let m = c.in-Some.names.model.now in
+    let t = c.in-Some.names.transfer.now in
+    let same = c.in-Ok-Ended.ensures.reads.held in
+    let d = subst (λ (x : Delivered). IsDelivered held near m t x) c.in-Ok-Ended.field-0-is c.in-Ok-Ended.ensures.delivered in
+    ended held near far c.args.words.now (names_of c.in-Some.names) (outcome_of c.in-Ok-Ended.outcome) c.end_check.result new before after
+    (λ name k. rose_before (fell c.args.shelf.now name) (fell c.deliver.new.shelf name) (fell c.end_check.new.shelf name) (c.end_check.ensures.reads name) k)
+    c.in-Some.ensures.some d.0 d.1
+    (λ r. c.end_check.ensures.same r ∙ same)
+    (λ r. c.end_check.ensures.reports r n)
+    (λ ls e. subst (λ (h : Option Files). LeavesRejection ls h c.in-Some.names.third.now c.end_check.result new before after) same (c.end_check.ensures.told n ls e))
