@@ -4,7 +4,7 @@ use Rattle.std.proofs.Common.{length, Option, Some, refl, sym, ap, ◌∙◌, su
 use Rattle.std.specs.Prelude.{get_or, slice_get, slice_index_or}
 use Rattle.std.specs.Char.{is_ascii_alphabetic}
 use Rattle.std.specs.List.{All, AllPass, AllByRecursion}
-use Rattle.std.proofs.lemmas.Bool.CallOutcome.{eqb_tells}
+use Rattle.std.proofs.lemmas.Bool.Decides.{eqb_tells}
 use Rattle.std.proofs.lemmas.List.Elements.{All-head, All-tail}
 use Rattle.std.proofs.lemmas.Option.{slice_get_within, slice_get-get_or}
 use Rattle.ili_lexer.specs.Bytes.{is_name_byte as is_word_byte}

@@ -4,7 +4,7 @@ use Rattle.std.proofs.Common.{◌++◌, length, map, Option, Some, None, refl, s
 use Rattle.std.proofs.Common.{append_assoc, append-nil, if◌then◌else◌, cond}
 use Rattle.std.specs.Prelude.{slice_get}
 use Rattle.std.specs.List.{filter}
-use Rattle.std.proofs.lemmas.Bool.CallOutcome.{nat_tests}
+use Rattle.std.proofs.lemmas.Bool.Decides.{nat_tests}
 use Rattle.resolver.specs.Resolved.{LineForm}
 use Rattle.itf_reader.specs.Forms.{Row}
 use Rattle.itf_reader.specs.StrokeFindings.{Seen}
