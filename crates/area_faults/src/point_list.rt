@@ -5,7 +5,8 @@ ghost use Rattle.fault_lists.specs.DrawingFaces.{HasFaces};
 ghost use Rattle.fault_lists.specs.FaceLists.{HasExactly};
 ghost use Rattle.fault_lists.specs.FaultLists.{ArePointsOn};
 ghost use Rattle.plane.specs.Rule.Plans.{Plan};
-ghost use Rattle.area_faults.specs.PointLists.{AreLeast, ArePairsFor, HasPointBelow, IsChosen, IsNoted, chosen, least_at, lesser};
+ghost use Rattle.area_faults.specs.PointLists.{AreLeast, ArePairsFor, HasPointBelow, IsChosen};
+ghost use Rattle.area_faults.specs.PointLists.{IsNoted, chosen, least_at, lesser};
 
 use fault_lists::{DrawingFaces, OnAt, PointPlace};
 use ports::Memory;

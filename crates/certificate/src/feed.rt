@@ -1,10 +1,11 @@
 // The text of a list that comes in pieces.
-ghost use Rattle.std.specs.Prelude.{◌≡◌, ◌<◌, ◌≤◌, ◌^◌, ◌+◌, ◌++◌, ℕ, List, length, take, OnOk, IfOk};
-ghost use Rattle.std.specs.Prelude.{IfErr, Ok, []};
+ghost use Rattle.std.specs.Prelude.{◌≡◌, ◌<◌, ◌≤◌, ◌^◌, ◌+◌, ◌++◌, [], ℕ, List};
+ghost use Rattle.std.specs.Prelude.{length, take, Ok, OnOk, IfOk, IfErr};
 ghost use Rattle.certificate.specs.Spelling.{Plain, AreSpelt, Spells, views};
 ghost use Rattle.certificate.specs.Reading.{Gives, list_of};
 ghost use Rattle.certificate.specs.FirstBad.{IsFault};
-ghost use Rattle.certificate.specs.Feeding.{EndsLine, MayFollow, ArePairedIn, IsPairedStage, stage_on};
+ghost use Rattle.certificate.specs.Feeding.{EndsLine, MayFollow, ArePairedIn, IsPairedStage};
+ghost use Rattle.certificate.specs.Feeding.{stage_on};
 ghost use Rattle.certificate.specs.Feeds.{gives, lines, IsOfText};
 
 use crate::fault::CertFault;

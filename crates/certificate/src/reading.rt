@@ -232,7 +232,7 @@ fn list_before(list: Listed, line: u32) -> Result<Vec<Certificate>, CertFault>
 /// The list of a text that ends, after what was read of it.
 pub fn read_end(alloc: Global, stage: Stage, text: Text<'_>) -> Result<Vec<Certificate>, CertFault>
     requires paired { IsPairedStage stage }
-    ensures value { Gives (λ list. views list.items) result (stage_on stage (text_view text.entry)) }
+    ensures value { Gives (λ it. views it.items) result (stage_on stage (text_view text.entry)) }
     ensures paired { IfOk result (λ list. ArePairedIn list.items) }
 {
     let (stage, line) = read_lines(alloc, stage, text)?;

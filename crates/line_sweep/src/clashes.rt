@@ -209,42 +209,65 @@ impl<'a> ClashSweep<'a> {
 
     // Marks the groups of neighbours that are bad, from the edge before the fresh ones, which are
     // in the live list from the place `first` on, to the one after them. Whether there are some.
+    // The live list is asked for the edges beside the fresh ones alone, however many these are.
     fn mark_bad_neighbours(&mut self, edges: &[Edge], first: usize) -> bool
         requires sorted { AreSorted edges.now }
         requires close { AreAllClose edges.now }
-        requires known { AreBelow (length edges.now) self.old.live }
         ensures live { self.new.live ≡ self.old.live }
         ensures fresh { self.new.fresh ≡ self.old.fresh }
         ensures marks { length self.new.marks.marked.items ≡ length self.old.marks.marked.items }
     {
         let mut any = false;
-        for below in first.saturating_sub(1)..first.saturating_add(self.fresh.len()) {
-            if let Some(bad) = self.bad_neighbours(edges, below) {
-                self.marks.mark_clash(bad);
-                any = true;
-            }
+        let mut below = self.edge_under(first);
+        for place in 0..self.fresh.len() {
+            let edge = self.fresh[place];
+            any |= self.mark_bad(edges, below, Some(edge));
+            below = Some(edge);
         }
-        any
+        let above = self.edge_on(first.saturating_add(self.fresh.len()));
+        any | self.mark_bad(edges, below, above)
     }
 
-    // The edge at the place and the next one, if they are bad.
-    fn bad_neighbours(&self, edges: &[Edge], below: usize) -> Option<BadEdges>
-        requires sorted { AreSorted edges.now }
-        requires close { AreAllClose edges.now }
-        requires known { AreBelow (length edges.now) self.now.live }
-    {
-        let above = below.checked_add(1)?;
-        if self.live.len() <= above {
-            return None;
-        }
-        let first = self.live.get(below);
-        let second = self.live.get(above);
-        if meet(&edges[first as usize], &edges[second as usize]) == Meet::Bad {
-            Some(BadEdges { first, second })
+    // The live edge before the place, if there is one.
+    fn edge_under(&self, place: usize) -> Option<u32> {
+        self.edge_on(place.checked_sub(1)?)
+    }
+
+    // The live edge at the place, if there is one.
+    fn edge_on(&self, place: usize) -> Option<u32> {
+        if place < self.live.len() {
+            Some(self.live.get(place))
         } else {
             None
         }
     }
+
+    // Marks the groups of two edges that are bad. Whether they are.
+    fn mark_bad(&mut self, edges: &[Edge], first: Option<u32>, second: Option<u32>) -> bool
+        requires sorted { AreSorted edges.now }
+        requires close { AreAllClose edges.now }
+        ensures live { self.new.live ≡ self.old.live }
+        ensures fresh { self.new.fresh ≡ self.old.fresh }
+        ensures marks { length self.new.marks.marked.items ≡ length self.old.marks.marked.items }
+    {
+        let (Some(first), Some(second)) = (first, second) else {
+            return false;
+        };
+        let bad = are_bad(edges, first, second);
+        if bad {
+            self.marks.mark_clash(BadEdges { first, second });
+        }
+        bad
+    }
+}
+
+// Whether both numbers are those of edges, and these are bad.
+fn are_bad(edges: &[Edge], first: u32, second: u32) -> bool
+    requires sorted { AreSorted edges.now }
+    requires close { AreAllClose edges.now }
+{
+    let (first, second) = (first as usize, second as usize);
+    first < edges.len() && second < edges.len() && meet(&edges[first], &edges[second]) == Meet::Bad
 }
 
 // The groups of edges by the numbers of the edges, which groups are firm, which are marked, and

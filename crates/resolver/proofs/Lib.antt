@@ -4,3 +4,4 @@ pub mod BuildLemmas
 pub mod SoundLemmas
 pub mod RuleLemmas
 pub mod TextLemmas
+pub mod Hints

@@ -1,5 +1,6 @@
 // Numbers for the faces beside curves.
-ghost use Rattle.std.specs.Prelude.{◌≡◌, ℕ, ◌+◌, ◌*◌, ◌^◌, ◌<◌, ◌≤◌, List, [], ◌∷◌, ◌++◌, IfOk, length};
+ghost use Rattle.std.specs.Prelude.{◌≡◌, ℕ, ◌+◌, ◌*◌, ◌^◌, ◌<◌, ◌≤◌, List, []};
+ghost use Rattle.std.specs.Prelude.{◌∷◌, ◌++◌, IfOk, length};
 ghost use Rattle.area_search.specs.Settled.CaseSides.{IsBesideIn, beside_at};
 ghost use Rattle.area_search.specs.Settled.FaceNumbers.{AreFaceNumbers, faces_met};
 

@@ -25,7 +25,7 @@ use ports::{Memory, Name};
 use std::alloc::Global;
 
 /// The numbers of the attributes in IDENT lists.
-#[tactic(auto, using(crate::proofs::BuildLemmas::Bounded::few_named, crate::proofs::ListLemmas::Named::attributes_read))]
+#[tactic(auto, using(crate::proofs::Hints::few_named, crate::proofs::Hints::attributes_read))]
 pub fn ident_places(
     alloc: Global,
     attributes: &[AttributeSyntax],
@@ -40,7 +40,7 @@ pub fn ident_places(
 }
 
 // What an attribute of a boundary's lines stands for.
-#[tactic(auto, using(crate::proofs::BuildLemmas::Bounded::bounded_content, crate::proofs::BuildLemmas::Types::attribute_out))]
+#[tactic(auto, using(crate::proofs::Hints::bounded_content, crate::proofs::Hints::attribute_out))]
 fn line_attribute<'a>(
     alloc: Global,
     scope: &Scope<'_, 'a>,
@@ -146,7 +146,7 @@ fn type_form(
 }
 
 // What the content of an attribute of that name stands for.
-#[tactic(auto, using(crate::proofs::BuildLemmas::Bounded::scope_bounded))]
+#[tactic(auto, using(crate::proofs::Hints::scope_bounded))]
 fn content_form<'a>(
     alloc: Global,
     scope: &Scope<'_, 'a>,
@@ -172,7 +172,7 @@ fn content_form<'a>(
 }
 
 // What an attribute of a table stands for.
-#[tactic(auto, using(crate::proofs::BuildLemmas::Bounded::bounded_content, crate::proofs::BuildLemmas::Types::attribute_out))]
+#[tactic(auto, using(crate::proofs::Hints::bounded_content, crate::proofs::Hints::attribute_out))]
 fn attribute<'a>(
     alloc: Global,
     scope: &Scope<'_, 'a>,

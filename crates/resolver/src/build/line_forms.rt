@@ -85,7 +85,7 @@ fn vertices_nowhere() -> Vertices
 }
 
 // Vertices of the type for which a name stands.
-#[tactic(auto, using(crate::proofs::BuildLemmas::Bounded::name_small))]
+#[tactic(auto, using(crate::proofs::Hints::name_small))]
 fn vertices_of(scope: &Scope<'_, '_>, vertex: &Ident) -> Vertices
     requires { IsBoundedScope (scope_of scope.now) }
     ensures window { window_of result.window

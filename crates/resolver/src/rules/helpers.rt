@@ -28,7 +28,7 @@ pub fn helper_name(alloc: Global, table: &[u8], attribute: &[u8]) -> Result<Name
 }
 
 // Reports a table name that an earlier table or helper table has.
-#[tactic(auto, using(crate::proofs::ListLemmas::Keys::key_told))]
+#[tactic(auto, using(crate::proofs::Hints::key_told))]
 fn check_key<'a>(
     names: &mut IndexSet<Name, AllNames>,
     key: Name,
@@ -44,7 +44,7 @@ fn check_key<'a>(
 }
 
 // Reports the helper table of an attribute, if it gives its table one.
-#[tactic(auto, using(crate::proofs::BuildLemmas::Types::attribute_out))]
+#[tactic(auto, using(crate::proofs::Hints::attribute_out))]
 fn check_helper<'a>(
     alloc: Global,
     scope: &Scope<'_, 'a>,
@@ -82,7 +82,7 @@ fn check_helpers<'a>(
 }
 
 // Reports a table and its helper tables.
-#[tactic(auto, using(crate::proofs::ListLemmas::Keys::entries_told))]
+#[tactic(auto, using(crate::proofs::Hints::entries_told))]
 fn check_table_name<'a>(
     alloc: Global,
     scope: &Scope<'_, 'a>,

@@ -60,7 +60,7 @@ pub fn check_unique<'a, T: Named>(
 }
 
 /// Reports each element of a list that has the name of an earlier one.
-#[tactic(auto, using(crate::proofs::ListLemmas::Named::elements_read))]
+#[tactic(auto, using(crate::proofs::Hints::elements_read))]
 pub fn check_elements<'a>(
     alloc: Global,
     elements: &'a [Element],
@@ -97,7 +97,7 @@ fn check_listed_names<'a>(
 }
 
 // Checks an IDENT list.
-#[tactic(auto, using(crate::proofs::ListLemmas::Folds::first_append))]
+#[tactic(auto, using(crate::proofs::Hints::first_append))]
 fn check_list<'a>(
     alloc: Global,
     attributes: &NameIndex<'a>,
@@ -130,7 +130,7 @@ fn check_lists<'a>(
 
 /// Reports each attribute that has the name of an earlier one, and what is wrong in the IDENT
 /// lists.
-#[tactic(auto, using(crate::proofs::ListLemmas::Folds::first_append, crate::proofs::ListLemmas::Named::attributes_read))]
+#[tactic(auto, using(crate::proofs::Hints::first_append, crate::proofs::Hints::attributes_read))]
 pub fn check_names<'a>(
     alloc: Global,
     attributes: &'a [AttributeSyntax],

@@ -13,7 +13,7 @@ use crate::numbers::{has_long_bound, is_reversed, scale2, scale3, span_scale};
 use ili_grammar::{Corners2, Corners3, Ident, Span, TypeSyntax};
 
 // Reports the rules on numbers that one span breaks.
-#[tactic(auto, using(crate::proofs::ListLemmas::Folds::first_append))]
+#[tactic(auto, using(crate::proofs::Hints::first_append))]
 fn check_span<'a>(owner: &'a Ident, span: Span, earliest: &mut Earliest<'a>)
     requires { IsSmallSpan (span_of span) }
     ensures { Reports earliest.old earliest.new
@@ -26,7 +26,7 @@ fn check_span<'a>(owner: &'a Ident, span: Span, earliest: &mut Earliest<'a>)
 }
 
 // Reports the rules on numbers that coordinates of two axes break.
-#[tactic(auto, using(crate::proofs::ListLemmas::Folds::first_append))]
+#[tactic(auto, using(crate::proofs::Hints::first_append))]
 fn check_corners2<'a>(owner: &'a Ident, corners: Corners2, earliest: &mut Earliest<'a>)
     requires { IsSmallSpan (corners2_of corners).x × IsSmallSpan (corners2_of corners).y }
     ensures { Reports earliest.old earliest.new
@@ -40,7 +40,7 @@ fn check_corners2<'a>(owner: &'a Ident, corners: Corners2, earliest: &mut Earlie
 }
 
 // Reports the rules on numbers that coordinates of three axes break.
-#[tactic(auto, using(crate::proofs::ListLemmas::Folds::first_append))]
+#[tactic(auto, using(crate::proofs::Hints::first_append))]
 fn check_corners3<'a>(owner: &'a Ident, corners: Corners3, earliest: &mut Earliest<'a>)
     requires { IsSmallSpan (corners3_of corners).x × IsSmallSpan (corners3_of corners).y
         × IsSmallSpan (corners3_of corners).z }

@@ -17,7 +17,7 @@ use ports::Memory;
 use std::alloc::Global;
 
 // Checks the types of some attributes.
-#[tactic(auto, using(crate::proofs::BuildLemmas::Types::short_first))]
+#[tactic(auto, using(crate::proofs::Hints::short_first))]
 fn check_attributes<'a>(
     alloc: Global,
     scope: &Scope<'_, 'a>,
@@ -36,7 +36,7 @@ fn check_attributes<'a>(
 }
 
 // Checks a table.
-#[tactic(auto, using(crate::proofs::ListLemmas::Folds::first_append))]
+#[tactic(auto, using(crate::proofs::Hints::first_append))]
 fn check_table<'a>(
     alloc: Global,
     scope: &Scope<'_, 'a>,
@@ -53,7 +53,7 @@ fn check_table<'a>(
 }
 
 /// Checks the tables of a topic.
-#[tactic(auto, using(crate::proofs::ListLemmas::Folds::first_append))]
+#[tactic(auto, using(crate::proofs::Hints::first_append))]
 pub fn check_tables<'a>(
     alloc: Global,
     scope: &Scope<'_, 'a>,

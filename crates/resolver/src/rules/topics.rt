@@ -20,7 +20,7 @@ use ports::Memory;
 use std::alloc::Global;
 
 // Checks the domains of a scope, and then its tables.
-#[tactic(auto, using(crate::proofs::ListLemmas::Folds::first_append))]
+#[tactic(auto, using(crate::proofs::Hints::first_append))]
 fn check_parts<'a>(
     alloc: Global,
     scope: &Scope<'_, 'a>,
@@ -75,7 +75,7 @@ fn check_each<'a>(
 
 /// Checks the topics of a model, where the domains of `above` are declared
 /// outside.
-#[tactic(auto, using(crate::proofs::ListLemmas::Folds::first_append, crate::proofs::ListLemmas::Named::topics_read))]
+#[tactic(auto, using(crate::proofs::Hints::first_append, crate::proofs::Hints::topics_read))]
 pub fn check_topics<'a>(
     alloc: Global,
     above: &DomainScope<'a>,

@@ -26,7 +26,7 @@ use ports::Memory;
 use std::alloc::Global;
 
 // Checks vertices of a type.
-#[tactic(auto, using(crate::proofs::ListLemmas::Folds::first_append))]
+#[tactic(auto, using(crate::proofs::Hints::first_append))]
 fn check_vertex_type<'a>(
     kind: &'a TypeSyntax,
     owner: &'a Ident,
@@ -48,7 +48,7 @@ fn check_vertex_type<'a>(
 }
 
 // Checks the vertices of a line.
-#[tactic(auto, using(crate::proofs::ListLemmas::Folds::first_append, crate::proofs::BuildLemmas::Bounded::name_small))]
+#[tactic(auto, using(crate::proofs::Hints::first_append, crate::proofs::Hints::name_small))]
 fn check_vertex<'a>(
     scope: &Scope<'_, 'a>,
     owner: &'a Ident,
@@ -77,7 +77,7 @@ fn check_vertex<'a>(
 }
 
 // Reports an attribute of LINEATTR whose type is a line.
-#[tactic(auto, using(crate::proofs::BuildLemmas::Types::attribute_out))]
+#[tactic(auto, using(crate::proofs::Hints::attribute_out))]
 fn check_line_attribute<'a>(
     scope: &Scope<'_, 'a>,
     attribute: &'a AttributeSyntax,
@@ -121,7 +121,7 @@ fn check_parts<'a>(
 }
 
 // Checks an enumeration.
-#[tactic(auto, using(crate::proofs::ListLemmas::Folds::first_append))]
+#[tactic(auto, using(crate::proofs::Hints::first_append))]
 fn check_enumeration<'a>(
     elements: &'a [Element],
     alloc: Global,
@@ -188,7 +188,7 @@ pub fn check_type<'a>(
 }
 
 // Checks a line that is written at `owner`.
-#[tactic(auto, using(crate::proofs::BuildLemmas::Types::short_first))]
+#[tactic(auto, using(crate::proofs::Hints::short_first))]
 #[cycle(rules)]
 fn check_line<'a>(
     line: &'a LineSyntax,

@@ -77,7 +77,7 @@ impl<'a> NameIndex<'a> {
     }
 
     /// Whether a name has these bytes.
-    #[tactic(auto, using(crate::proofs::ListLemmas::Indexes::among_place))]
+    #[tactic(auto, using(crate::proofs::Hints::among_place))]
     pub fn has(&self, name: &[u8]) -> bool
         ensures { result ≡ is_among name.now (texts (names_in self.now)) }
     {
@@ -85,7 +85,7 @@ impl<'a> NameIndex<'a> {
     }
 
     // Whether one of the first names has these bytes.
-    #[tactic(auto, using(crate::proofs::ListLemmas::Indexes::among_first))]
+    #[tactic(auto, using(crate::proofs::Hints::among_first))]
     fn has_before(&self, name: &[u8], end: usize) -> bool
         ensures { result ≡ is_among name.now (take end (texts (names_in self.now))) }
     {
@@ -93,7 +93,7 @@ impl<'a> NameIndex<'a> {
     }
 
     // Whether a name of `above` or one of the first names here has these bytes.
-    #[tactic(auto, using(crate::proofs::ListLemmas::Indexes::any_append))]
+    #[tactic(auto, using(crate::proofs::Hints::any_append))]
     fn stands_before(&self, above: Option<&NameIndex<'a>>, name: &[u8], end: usize) -> bool
         ensures { result ≡ is_among name.now
             (texts (names_if above.entry) ++ take end (texts (names_in self.now))) }
