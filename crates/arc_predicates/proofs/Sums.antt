@@ -22,7 +22,8 @@ back m p l h = to_z-of_z (within_fits m p l h)
 pub product_within : (m n : ℕ) (p q : ℤ) → m < 2 ^ 127 + 1 → n < 2 ^ 127 + 1 → m * n < 2 ^ 124 + 1
     → IsWithin m p → IsWithin n q
     → IsWithin (2 ^ 124) (to_z w128 (of_z w128 p) *ℤ to_z w128 (of_z w128 q))
-product_within m n p q l k f h g = rw (back m p l h, back n q k g) (within_more (m * n) (2 ^ 124) _ f (within_product m n p q h g))
+product_within m n p q l k f h g =
+    rw (back m p l h, back n q k g) (within_more (m * n) (2 ^ 124) _ f (within_product m n p q h g))
 
 pub within_by : (m : ℕ) (p q : ℤ) → p ≡ q → IsWithin m q → IsWithin m p
 within_by m p q e h = subst (IsWithin m) (sym e) h

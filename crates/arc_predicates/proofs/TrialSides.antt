@@ -24,13 +24,29 @@ side_with (Some r) h z s a = (s.0, a, s.1)
 pub trial_of : (p q : Option Side) (h : HalfArc) (u v : Vector) → IsSideAway p h u
     → IsSideAway q h v → AreEitherSide p q → IsTrialCrossing h u v
 trial_of p q h u v a b (inl e) =
-    let x : IsSideAway (Some side.Inside) h u = subst (λ (s : Option Side). IsSideAway s h u) e.0 a in
-    let y : IsSideAway (Some side.Outside) h v = subst (λ (s : Option Side). IsSideAway s h v) e.1 b in
-    record { first_side = x.0; second_side = y.0; first_away = x.1; second_away = y.1; changes = inl (x.2, y.2) }
+    let x : IsSideAway (Some side.Inside) h u = subst
+    (λ (s : Option Side). IsSideAway s h u) e.0 a in
+    let y : IsSideAway (Some side.Outside) h v = subst
+    (λ (s : Option Side). IsSideAway s h v) e.1 b in
+    record {
+      first_side = x.0;
+      second_side = y.0;
+      first_away = x.1;
+      second_away = y.1;
+      changes = inl (x.2, y.2);
+    }
 trial_of p q h u v a b (inr e) =
-    let x : IsSideAway (Some side.Outside) h u = subst (λ (s : Option Side). IsSideAway s h u) e.0 a in
-    let y : IsSideAway (Some side.Inside) h v = subst (λ (s : Option Side). IsSideAway s h v) e.1 b in
-    record { first_side = x.0; second_side = y.0; first_away = x.1; second_away = y.1; changes = inr (x.2, y.2) }
+    let x : IsSideAway (Some side.Outside) h u = subst
+    (λ (s : Option Side). IsSideAway s h u) e.0 a in
+    let y : IsSideAway (Some side.Inside) h v = subst
+    (λ (s : Option Side). IsSideAway s h v) e.1 b in
+    record {
+      first_side = x.0;
+      second_side = y.0;
+      first_away = x.1;
+      second_away = y.1;
+      changes = inr (x.2, y.2);
+    }
 
 inside : (s : Option Side) (h : HalfArc) (z : Vector) → IsSideAway s h z → HasSide h z
     → pos 0 ≤ℤ bow h z → power h z <ℤ pos 0 → s ≡ Some side.Inside
@@ -49,10 +65,18 @@ outside (Some side.Outside) h z a k b l = refl
 pub sides_of : (p q : Option Side) (h : HalfArc) (u v : Vector) → IsSideAway p h u
     → IsSideAway q h v → IsTrialCrossing h u v → AreEitherSide p q
 sides_of p q h u v a b t = elim t.changes [
-  | inl c ↦ inl (inside p h u a t.first_side t.first_away c.0, outside q h v b t.second_side t.second_away c.1)
-  | inr c ↦ inr (outside p h u a t.first_side t.first_away c.0, inside q h v b t.second_side t.second_away c.1)
+  | inl c ↦ inl (
+    inside p h u a t.first_side t.first_away c.0,
+    outside q h v b t.second_side t.second_away c.1,
+  )
+  | inr c ↦ inr (
+    outside p h u a t.first_side t.first_away c.0,
+    inside q h v b t.second_side t.second_away c.1,
+  )
 ]
 
 pub none_more : (c : Curve) (h : HalfArc) (n : ℕ) → ((k : ℕ) → k < n → IsTrial c h k → ⊥)
     → (IsTrial c h n → ⊥) → (k : ℕ) → k < n + 1 → IsTrial c h k → ⊥
-none_more c h n f g k l = by_last k n (omega (arith, l)) (λ m. f k m) (λ e. subst (λ (j : ℕ). IsTrial c h j → ⊥) (sym e) g)
+none_more c h n f g k l =
+    by_last k n (omega (arith, l)) (λ m. f k m)
+    (λ e. subst (λ (j : ℕ). IsTrial c h j → ⊥) (sym e) g)

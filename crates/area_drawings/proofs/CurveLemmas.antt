@@ -30,29 +30,37 @@ zero_difference a b h = omega (arith, ints, h)
 
 pub collinear_from : (s m e : Place) → cross (point_at s) (point_at m) (point_at e) ≡ pos 0
     → are_collinear s m e ≡ true
-collinear_from s m e h = same_as _ _ (difference_zero ((m.x -ℤ s.x) *ℤ (e.y -ℤ s.y)) ((m.y -ℤ s.y) *ℤ (e.x -ℤ s.x)) h)
+collinear_from s m e h =
+    same_as _ _ (difference_zero ((m.x -ℤ s.x) *ℤ (e.y -ℤ s.y)) ((m.y -ℤ s.y) *ℤ (e.x -ℤ s.x)) h)
 
 pub not_collinear : (s m e : Place) → (cross (point_at s) (point_at m) (point_at e) ≡ pos 0 → ⊥)
     → are_collinear s m e ≡ false
-not_collinear s m e h = by (are_collinear s m e) (λ t. h (zero_difference ((m.x -ℤ s.x) *ℤ (e.y -ℤ s.y)) ((m.y -ℤ s.y) *ℤ (e.x -ℤ s.x)) (same_from _ _ t)))
+not_collinear s m e h =
+    by (are_collinear s m e)
+    (λ t. h (zero_difference ((m.x -ℤ s.x) *ℤ (e.y -ℤ s.y)) ((m.y -ℤ s.y) *ℤ (e.x -ℤ s.x))
+    (same_from _ _ t)))
   where
     by : (b : Bool) → (b ≡ true → ⊥) → b ≡ false
     by true n = absurd (n refl)
     by false n = refl
 
 -- the same, for the points of the three places
-module _ (s m e : Place) (p q r : Point) (f : p ≡ point_at s) (g : q ≡ point_at m) (h : r ≡ point_at e) where
+module _ (s m e : Place) (p q r : Point) (f : p ≡ point_at s) (g : q ≡ point_at m)
+    (h : r ≡ point_at e) where
   same_cross : cross p q r ≡ cross (point_at s) (point_at m) (point_at e)
-  same_cross = ap (λ (x : Point). cross x q r) f ∙ ap (λ (x : Point). cross (point_at s) x r) g ∙ ap (λ (x : Point). cross (point_at s) (point_at m) x) h
+  same_cross = ap (λ (x : Point). cross x q r) f ∙ ap (λ (x : Point). cross (point_at s) x r) g
+      ∙ ap (λ (x : Point). cross (point_at s) (point_at m) x) h
 
   pub on_one_straight : cross p q r ≡ pos 0 → true ≡ are_collinear s m e
   on_one_straight z = sym (collinear_from s m e (sym same_cross ∙ z))
 
   pub left_of_straight : pos 0 <ℤ cross p q r → false ≡ are_collinear s m e
-  left_of_straight z = sym (not_collinear s m e (λ n. let k = same_cross ∙ n in omega (arith, ints, z, k)))
+  left_of_straight z =
+      sym (not_collinear s m e (λ n. let k = same_cross ∙ n in omega (arith, ints, z, k)))
 
   pub right_of_straight : cross p q r <ℤ pos 0 → false ≡ are_collinear s m e
-  right_of_straight z = sym (not_collinear s m e (λ n. let k = same_cross ∙ n in omega (arith, ints, z, k)))
+  right_of_straight z =
+      sym (not_collinear s m e (λ n. let k = same_cross ∙ n in omega (arith, ints, z, k)))
 
   pub bent_places : are_collinear s m e ≡ false → cross p q r ≡ pos 0 → ⊥
   bent_places c z = let t = sym (collinear_from s m e (sym same_cross ∙ z)) ∙ c in cc
@@ -60,11 +68,14 @@ module _ (s m e : Place) (p q r : Point) (f : p ≡ point_at s) (g : q ≡ point
 -- places of one window are close
 pub close_points : (w : Window2) (s t : Place) (p q : Point) → p ≡ point_at s → q ≡ point_at t
     → IsIn w s → IsIn w t → AreClose p q
-close_points w s t p q e f h k = inside_close w.low w.high p q w.narrow (subst (IsInside w.low w.high) (sym e) h) (subst (IsInside w.low w.high) (sym f) k)
+close_points w s t p q e f h k =
+    inside_close w.low w.high p q w.narrow (subst (IsInside w.low w.high) (sym e) h)
+    (subst (IsInside w.low w.high) (sym f) k)
 
 -- ---- what stands at a place of a list
 pub mapped_at : {X Y : Type 0} (f : X → Y) (P : Y → Type 0) (xs : List X) (i : ℕ) (x : X)
     → All P (map f xs) → i < length xs → x ≡ get_or xs i x → P (f x)
 mapped_at f P [] i x h l e = absurd (omega (arith, l))
 mapped_at f P (y ∷ xs) zero x h l e = subst (λ z. P (f z)) (sym e) (All-head P (f y) (map f xs) h)
-mapped_at f P (y ∷ xs) (suc i) x h l e = mapped_at f P xs i x (All-tail P (f y) (map f xs) h) (omega (arith, l)) e
+mapped_at f P (y ∷ xs) (suc i) x h l e =
+    mapped_at f P xs i x (All-tail P (f y) (map f xs) h) (omega (arith, l)) e

@@ -38,9 +38,16 @@ arc_few : (s : Place) (m e : Seen) → length (arc_over s m e) ≤ 2
 arc_few s m e = by (are_collinear s m.at e.at)
   where
     by : (b : Bool)
-        → length (if b then straight_between s m.at m.line ++ straight_between m.at e.at e.line else half_arcs s m e) ≤ 2
+        → length (if b then straight_between s m.at m.line
+        ++ straight_between m.at e.at e.line else half_arcs s m e) ≤ 2
     by true =
-        omega (arith, length-append (straight_between s m.at m.line) (straight_between m.at e.at e.line), straight_few s m.at m.line, straight_few m.at e.at e.line)
+        omega (
+          arith,
+          length-append (straight_between s m.at m.line)
+              (straight_between m.at e.at e.line),
+          straight_few s m.at m.line,
+          straight_few m.at e.at e.line,
+        )
     by false = omega arith
 
 -- a vertex that an arc leads over has no curve yet
@@ -51,18 +58,33 @@ waiting (Some m) = 1
 curves_few : (s : Place) (over : Option Seen) (vs : List Seen)
     → length (curves_after s over vs) ≤ waiting over + length vs
 curves_few s over [] = omega arith
-curves_few s (Some m) (e ∷ vs) = omega (arith, length-append (arc_over s m e) (curves_after e.at None vs), arc_few s m e, curves_few e.at None vs)
-curves_few s None (v ∷ vs) = by (is_on_arc v.kind) (curves_few s (Some v) vs) (curves_few v.at None vs)
+curves_few s (Some m) (e ∷ vs) =
+    omega (
+      arith,
+      length-append (arc_over s m e) (curves_after e.at None vs),
+      arc_few s m e,
+      curves_few e.at None vs,
+    )
+curves_few s None (v ∷ vs) =
+    by (is_on_arc v.kind) (curves_few s (Some v) vs) (curves_few v.at None vs)
   where
     by : (b : Bool) → length (curves_after s (Some v) vs) ≤ waiting (Some v) + length vs
         → length (curves_after v.at None vs) ≤ waiting None + length vs
-        → length (if b then curves_after s (Some v) vs else straight_between s v.at v.line ++ curves_after v.at None vs) ≤ waiting None + length (v ∷ vs)
+        → length (if b then curves_after s (Some v) vs else straight_between s v.at v.line
+        ++ curves_after v.at None vs) ≤ waiting None + length (v ∷ vs)
     by true h k = omega (arith, h)
-    by false h k = omega (arith, length-append (straight_between s v.at v.line) (curves_after v.at None vs), straight_few s v.at v.line, k)
+    by false h k =
+        omega (
+          arith,
+          length-append (straight_between s v.at v.line) (curves_after v.at None vs),
+          straight_few s v.at v.line,
+          k,
+        )
 
 line_few : (l : LineForm) (vs : List Vertex) → length (line_curves l vs) ≤ length vs
 line_few l [] = omega arith
-line_few l (v ∷ vs) = omega (arith, curves_few (place_of l v) None (all_seen l vs), length-map vs (seen l))
+line_few l (v ∷ vs) =
+    omega (arith, curves_few (place_of l v) None (all_seen l vs), length-map vs (seen l))
 
 -- ---- the lines of an area
 strokes_few : (l : LineForm) (ss : List (List Vertex))
@@ -73,7 +95,13 @@ strokes_few l (s ∷ ss) = omega (arith, line_few l s)
 rows_few : (l : LineForm) (rows : List Row)
     → length (flat_map (row_curves l) rows) ≤ vertex_count rows
 rows_few l [] = omega arith
-rows_few l (r ∷ rows) = omega (arith, length-append (row_curves l r) (flat_map (row_curves l) rows), strokes_few l r.strokes, rows_few l rows)
+rows_few l (r ∷ rows) =
+    omega (
+      arith,
+      length-append (row_curves l r) (flat_map (row_curves l) rows),
+      strokes_few l r.strokes,
+      rows_few l rows,
+    )
 
 forms_few : (ls : List LineForm) (rows : List Row) → length (curves_by ls rows) ≤ vertex_count rows
 forms_few [] rows = omega arith
@@ -98,7 +126,13 @@ objects_few : (codes : Codes) (first : ℕ) (c : Column) (rows : List Row)
     → length (flat_map (points_at codes first c) rows) ≤ length rows
 objects_few codes first c [] = omega arith
 objects_few codes first c (r ∷ rows) =
-    omega (arith, length-append (points_at codes first c r) (flat_map (points_at codes first c) rows), point_few codes first c r, objects_few codes first c rows)
+    omega (
+      arith,
+      length-append (points_at codes first c r)
+          (flat_map (points_at codes first c) rows),
+      point_few codes first c r,
+      objects_few codes first c rows,
+    )
 
 points_few : (codes : Codes) (first : ℕ) (c : Option Column) (rows : List Row)
     → length (points_by codes first c rows) ≤ length rows
@@ -109,7 +143,13 @@ points_few codes first (Some c) rows = objects_few codes first c rows
 module _ (l : Layout) (rows : List (List Row)) where
   area_few : (a : AreaOf) → is_too_large rows a ≡ false → length (area_curves l rows a) ≤ area_limit
   area_few a h =
-      omega (arith, forms_few (lines_in (slice_get l.tables a.lines)) (slice_index_or rows a.lines []), within (vertex_count (slice_index_or rows a.lines [])) (length (slice_index_or rows a.main [])) h)
+      omega (
+        arith,
+        forms_few (lines_in (slice_get l.tables a.lines))
+            (slice_index_or rows a.lines []),
+        within (vertex_count (slice_index_or rows a.lines []))
+            (length (slice_index_or rows a.main [])) h,
+      )
     where
       within : (n m : ℕ) → (nat_lt area_limit n || nat_lt area_limit m) ≡ false → n ≤ area_limit
       within n m e = grind (arith, nat_tests)
@@ -118,7 +158,13 @@ module _ (l : Layout) (rows : List (List Row)) where
       → length (area_points l rows a) ≤ area_limit
   placed_few a h =
       let cs = columns_in (slice_get l.tables a.main) in
-      omega (arith, points_few l.codes (first_word cs a.column) (slice_get cs a.column) (slice_index_or rows a.main []), within (vertex_count (slice_index_or rows a.lines [])) (length (slice_index_or rows a.main [])) h)
+      omega (
+        arith,
+        points_few l.codes (first_word cs a.column) (slice_get cs a.column)
+            (slice_index_or rows a.main []),
+        within (vertex_count (slice_index_or rows a.lines []))
+            (length (slice_index_or rows a.main [])) h,
+      )
     where
       within : (n m : ℕ) → (nat_lt area_limit n || nat_lt area_limit m) ≡ false → m ≤ area_limit
       within n m e = grind (arith, nat_tests)

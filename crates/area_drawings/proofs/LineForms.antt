@@ -7,7 +7,8 @@ use Rattle.resolver.specs.declared.models.LineForm as code
 use Rattle.table_layout.specs.Values.{lines_view}
 
 -- the one form of lines
-module _ (forms : List code.LineForm) (form : code.LineForm) (ls : List LineForm) (l : LineForm) (e : lines_view forms ≡ ls) (o : ls ≡ l ∷ []) (f : form ≡ get_or forms 0 form) where
+module _ (forms : List code.LineForm) (form : code.LineForm) (ls : List LineForm) (l : LineForm)
+    (e : lines_view forms ≡ ls) (o : ls ≡ l ∷ []) (f : form ≡ get_or forms 0 form) where
   same_form : l ≡ line_of form
   same_form = by forms f (e ∙ o)
     where

@@ -198,7 +198,10 @@ module _ (l : Layout) (rows : List (List Row)) (a : AreaOf) (d : Plan) (i j : �
     (h : LinesRise rows) (w : IsDrawing l rows a d) (lt : i < j) where
   pub curves_rise : j < length d.curves → curve_line d i < curve_line d j
   curves_rise le =
-      let none_there = straight (record { x = pos 0; y = pos 0 }) (record { x = pos 0; y = pos 0 }) 0 in
+      let none_there = straight (record { x = pos 0; y = pos 0 }) (record {
+        x = pos 0;
+        y = pos 0;
+      }) 0 in
       let rs = slice_index_or rows a.lines [] in
       climbs_at (λ c. c.line) none_there d.curves i j
       (subst (λ (cs : List Curve). Climbs (curves cs)) (sym w.curves)

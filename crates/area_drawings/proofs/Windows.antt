@@ -18,7 +18,10 @@ same_order : (a b : ℤ) (x y : a <ℤ b) → x ≡ y
 same_order a b x y = λ i. record { lt = T_prop _ x.lt y.lt i }
 
 same_within : (m : ℕ) (z : ℤ) (x y : IsWithin m z) → x ≡ y
-same_within m z x y = λ i. record { low = same_order _ _ x.low y.low i; high = same_order _ _ x.high y.high i }
+same_within m z x y = λ i. record {
+  low = same_order _ _ x.low y.low i;
+  high = same_order _ _ x.high y.high i;
+}
 
 same_short : (p : Point) (x y : IsShort p) → x ≡ y
 same_short p x y = λ i. record { x = same_within _ _ x.x y.x i; y = same_within _ _ x.y y.y i }
@@ -31,7 +34,13 @@ window l h n s t = record { low = l; high = h; narrow = n; low_digits = s; high_
 
 same_inner : (l h : Point) (n m : IsNarrow l h) (s t : IsShort l) (u v : IsShort h)
     → window l h n s u ≡ window l h m t v
-same_inner l h n m s t u v = λ i. record { low = l; high = h; narrow = same_narrow l h n m i; low_digits = same_short l s t i; high_digits = same_short h u v i }
+same_inner l h n m s t u v = λ i. record {
+  low = l;
+  high = h;
+  narrow = same_narrow l h n m i;
+  low_digits = same_short l s t i;
+  high_digits = same_short h u v i;
+}
 
 -- with its own corners replaced by equal ones a window is as it was
 abbrev IsAt : Window2 → Point → Point → Type 0
@@ -53,7 +62,8 @@ one_window (l ∷ ls) v w h k = same_window v w (h.low ∙ sym k.low) (h.high �
 pub one_drawing : (l : Layout) (rows : List (List Row)) (a : AreaOf) (d e : Plan)
     → IsDrawing l rows a d → IsDrawing l rows a e → d ≡ e
 one_drawing l rows a d e h k =
-    let w : d.window ≡ e.window = one_window (lines_in (slice_get l.tables a.lines)) d.window e.window h.window k.window in
+    let w : d.window ≡ e.window = one_window
+    (lines_in (slice_get l.tables a.lines)) d.window e.window h.window k.window in
     let c : d.curves ≡ e.curves = h.curves ∙ sym k.curves in
     let p : d.points ≡ e.points = h.points ∙ sym k.points in
     λ i. record { window = w i; curves = c i; points = p i }

@@ -1,4 +1,5 @@
--- What the calls ask for: numbers by marks, edges that are not bad, and places whose edges are known.
+-- What the calls ask for: numbers by marks, edges that are not bad, and places whose edges are
+-- known.
 use Rattle.std.proofs.Common.{◌≡◌, Bool, true, false, ℕ, ◌<◌, ◌≤◌, Some, None, List, [], length}
 use Rattle.std.proofs.Common.{slice_index_or, arith, ◌∙◌, subst, ap}
 use Rattle.std.proofs.lemmas.List.{length-map}
@@ -27,7 +28,8 @@ use Rattle.area_faults.proofs.RestDrawings.{is_doubled, none_bad, rest_straights
 
 -- the numbers by the marks
 pub parted_by : (d : Plan) (marks : List Bool) (kept left : List ℕ) → length marks ≡ length d.curves
-    → AreMarkedTo marks false (length marks) kept → AreMarkedTo marks true (length marks) left → AreParted d marks kept left
+    → AreMarkedTo marks false (length marks) kept → AreMarkedTo marks true (length marks) left
+    → AreParted d marks kept left
 parted_by d marks kept left s a b = record {
   size = s;
   kept_are = subst (λ (n : ℕ). AreMarkedTo marks false n kept) s a;
@@ -37,16 +39,21 @@ parted_by d marks kept left s a b = record {
 pub edges_size : (d : Plan) (kept : List ℕ) → length (half_edges d kept) ≡ length kept
 edges_size d kept = length-map kept (λ (i : ℕ). straight_edge (twice_curve (curve d i)))
 
-module _ (d : Plan) (marks : List Bool) (kept left : List ℕ) (parted : AreParted d marks kept left) (mend : AreMendable d (mark_of marks)) where
+module _ (d : Plan) (marks : List Bool) (kept left : List ℕ) (parted : AreParted d marks kept left)
+    (mend : AreMendable d (mark_of marks)) where
   abbrev out : ℕ → Bool
   out i = mark_of marks i
 
   pub few_edges : length (half_edges d kept) ≤ 16000000
-  few_edges = let a = edges_size d kept in let b = parted.kept_are.few in let c = mend.few in omega (arith, a, b, c)
+  few_edges =
+      let a = edges_size d kept in
+      let b = parted.kept_are.few in let c = mend.few in omega (arith, a, b, c)
 
   pub straights_stay : (k : ℕ) → k < length (rest_plan d kept).curves
       → (curve (rest_plan d kept) k).kind ≡ kind.Straight
-  straights_stay = rest_straights d out kept parted.kept_are.known parted.kept_are.mark_is parted.kept_are.rising parted.kept_are.whole mend.straights
+  straights_stay =
+      rest_straights d out kept parted.kept_are.known parted.kept_are.mark_is parted.kept_are.rising
+      parted.kept_are.whole mend.straights
 
   half_kinds : (k : ℕ) → k < length (half_plan (rest_plan d kept)).curves
       → (curve (half_plan (rest_plan d kept)) k).kind ≡ kind.Straight
@@ -57,7 +64,8 @@ module _ (d : Plan) (marks : List Bool) (kept left : List ℕ) (parted : ArePart
 
   -- no two edges of the curves that stay are bad
   pub never_bad : (edges : List Edge) → edges ≡ half_edges d kept → (a b : ℕ) → AreBad edges a b → ⊥
-  never_bad edges same a b h = by (subst (λ (es : List Edge). AreBad es a b) (same ∙ edges_are d kept) h)
+  never_bad edges same a b h =
+      by (subst (λ (es : List Edge). AreBad es a b) (same ∙ edges_are d kept) h)
     where
       by : AreBad (edges_of (half_plan (rest_plan d kept))) a b → ⊥
       by k =
@@ -65,18 +73,29 @@ module _ (d : Plan) (marks : List Bool) (kept left : List ℕ) (parted : ArePart
           let s = ap length (edges_are d kept) in
           let x = k.first in
           let y = k.second in
-          none_bad d out kept parted.kept_are.known parted.kept_are.mark_is parted.kept_are.rising parted.kept_are.whole mend.straights mend.pairs
-          (edge_of (edges_of (half_plan (rest_plan d kept)))) (drawn_edges (half_plan (rest_plan d kept)) half_kinds) a b (omega (arith, x, n, s)) (omega (arith, y, n, s)) k.differ k.bad
+          none_bad d out kept parted.kept_are.known parted.kept_are.mark_is parted.kept_are.rising
+          parted.kept_are.whole mend.straights mend.pairs
+          (edge_of (edges_of (half_plan (rest_plan d kept))))
+          (drawn_edges (half_plan (rest_plan d kept)) half_kinds) a b (omega (arith, x, n, s))
+          (omega (arith, y, n, s)) k.differ k.bad
 
   -- ---- places
-  module _ (vs : List Move) (run : Run (length (half_edges d kept)) (edge_of (half_edges d kept)) (steps_from [] vs)) (l : Labelled) (faces : AreRunFaces (length kept) vs l) where
+  module _ (vs : List Move)
+      (run : Run (length (half_edges d kept)) (edge_of (half_edges d kept)) (steps_from [] vs))
+      (l : Labelled) (faces : AreRunFaces (length kept) vs l) where
     known_place : (v : Point) (s : Place) → IsPlaceOf (half_edges d kept) vs v s
         → IsKnownPlace (size l.mesh) s
     known_place v (place.Cell p None upper) c = tt
-    known_place v (place.Cell p (Some i) upper) c = let k = cell_edge d kept straights_stay vs run v p i upper c in let s = faces.size_is in omega (arith, k, s)
-    known_place v (place.OnEdge i) c = let k = c.known in let n = edges_size d kept in let s = faces.size_is in omega (arith, k, n, s)
+    known_place v (place.Cell p (Some i) upper) c =
+        let k = cell_edge d kept straights_stay vs run v p i upper c in
+        let s = faces.size_is in omega (arith, k, s)
+    known_place v (place.OnEdge i) c =
+        let k = c.known in
+        let n = edges_size d kept in let s = faces.size_is in omega (arith, k, n, s)
 
     pub known_places : (points : List Point) (places : List Place)
         → ArePlaces (half_edges d kept) vs points places → (j : ℕ) → j < length places
         → IsKnownPlace (size l.mesh) (slice_index_or places j no_place)
-    known_places points places a j k = known_place (slice_index_or points j no_point) (slice_index_or places j no_place) (a.each j (let s = a.size in omega (arith, k, s)))
+    known_places points places a j k =
+        known_place (slice_index_or points j no_point) (slice_index_or places j no_place)
+        (a.each j (let s = a.size in omega (arith, k, s)))

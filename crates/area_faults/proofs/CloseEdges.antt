@@ -1,4 +1,5 @@
--- The edges of the rest in half units rise, and are close to each other and to the points that are located.
+-- The edges of the rest in half units rise, and are close to each other and to the points that are
+-- located.
 use Rattle.std.proofs.Common.{◌≡◌, ℕ, ◌+◌, ◌-◌, ◌<◌, List, length, slice_index, slice_index_or}
 use Rattle.std.proofs.Common.{arith, inl, inr, sym, subst, All}
 use Rattle.std.proofs.lemmas.Bool.{cases_lt}
@@ -43,10 +44,19 @@ held low high p q n a b = let r = edge_ends p q n in by_ends r.0 r.1
   where
     by_ends : Before (edge_from p q).low (edge_from p q).high → HasEnds (edge_from p q) p q
         → IsHeld low high (edge_from p q)
-    by_ends s (inl h) = record { sorted = s; first = subst (IsInHalves low high) (sym h.0) a; second = subst (IsInHalves low high) (sym h.1) b }
-    by_ends s (inr h) = record { sorted = s; first = subst (IsInHalves low high) (sym h.0) b; second = subst (IsInHalves low high) (sym h.1) a }
+    by_ends s (inl h) = record {
+      sorted = s;
+      first = subst (IsInHalves low high) (sym h.0) a;
+      second = subst (IsInHalves low high) (sym h.1) b;
+    }
+    by_ends s (inr h) = record {
+      sorted = s;
+      first = subst (IsInHalves low high) (sym h.0) b;
+      second = subst (IsInHalves low high) (sym h.1) a;
+    }
 
-module _ (d : Plan) (low high : Point) (narrow : IsNarrow low high) (drawn : All (λ (c : Curve). IsDrawn low high c) d.curves) (kept : List ℕ)
+module _ (d : Plan) (low high : Point) (narrow : IsNarrow low high)
+    (drawn : All (λ (c : Curve). IsDrawn low high c) d.curves) (kept : List ℕ)
     (known : (m : ℕ) → m < length kept → slice_index kept m < length d.curves) where
   each_held : (m : ℕ) → m < length (half_edges d kept)
       → IsHeld low high (edge_of (half_edges d kept) m)
@@ -55,8 +65,10 @@ module _ (d : Plan) (low high : Point) (narrow : IsNarrow low high) (drawn : All
       let k : m < length kept = omega (arith, l, n) in
       let c = curve d (slice_index kept m) in
       let h : IsDrawn low high c = drawn (slice_index kept m) _ (known m k) in
-      subst (IsHeld low high) (sym (get_or-map (λ (i : ℕ). straight_edge (twice_curve (curve d i))) kept m 0 no_edge k))
-      (held low high (twice c.from) (twice c.to) (λ e. h.distinct (twice_once c.from c.to e)) (twice_inside low high c.from h.from) (twice_inside low high c.to h.to))
+      subst (IsHeld low high)
+      (sym (get_or-map (λ (i : ℕ). straight_edge (twice_curve (curve d i))) kept m 0 no_edge k))
+      (held low high (twice c.from) (twice c.to) (λ e. h.distinct (twice_once c.from c.to e))
+      (twice_inside low high c.from h.from) (twice_inside low high c.to h.to))
 
   near : (p q : Point) → IsInHalves low high p → IsInHalves low high q → AreClose p q
   near p q a b = halves_near low high p q narrow a b
@@ -85,9 +97,11 @@ module _ (d : Plan) (low high : Point) (narrow : IsNarrow low high) (drawn : All
 
   pub points_close : All (λ (p : Placed). IsInside low high p.at) d.points → (left : List ℕ)
       → ((m : ℕ) → m < length left → slice_index left m < length d.curves)
-      → (j : ℕ) → j < length (half_points d left) → IsCloseToAll (half_edges d kept) (slice_index_or (half_points d left) j no_point)
+      → (j : ℕ) → j < length (half_points d left)
+      → IsCloseToAll (half_edges d kept) (slice_index_or (half_points d left) j no_point)
   points_close inside left there j l = elim (cases_lt j (length d.points)) [
-    | inl k ↦ subst (IsCloseToAll (half_edges d kept)) (sym (object_point d left j k)) (close_to (twice (object d j)) (twice_inside low high (object d j) (inside j _ k)))
+    | inl k ↦ subst (IsCloseToAll (half_edges d kept)) (sym (object_point d left j k))
+        (close_to (twice (object d j)) (twice_inside low high (object d j) (inside j _ k)))
     | inr k ↦ (
         let n = points_count d left in
         let m = j - length d.points in
@@ -95,6 +109,8 @@ module _ (d : Plan) (low high : Point) (narrow : IsNarrow low high) (drawn : All
         let s : length d.points + m ≡ j = omega (arith, k) in
         let c = curve d (slice_index left m) in
         let h : IsDrawn low high c = drawn (slice_index left m) _ (there m lm) in
-        subst (λ (i : ℕ). IsCloseToAll (half_edges d kept) (slice_index_or (half_points d left) i no_point)) s
-        (subst (IsCloseToAll (half_edges d kept)) (sym (middle_point d left m lm)) (close_to (sum c) (sum_inside low high c h.from h.to))))
+        subst (λ (i : ℕ). IsCloseToAll (half_edges d kept)
+        (slice_index_or (half_points d left) i no_point)) s
+        (subst (IsCloseToAll (half_edges d kept)) (sym (middle_point d left m lm))
+        (close_to (sum c) (sum_inside low high c h.from h.to))))
   ]

@@ -26,22 +26,34 @@ turn-there : (a b z : Vector) → turn a b (halved (doubled z)) ≡ pos 2 *ℤ t
 turn-there a b z =
     let D : Expr → Expr = λ n. times (num (pos 2)) n in
     let T : Expr → Expr → Expr → Expr = λ x y n.
-    minus (times (minus (times (at 3) (at 2)) (times (at 0) (at 5))) (minus (times y (at 2)) (times (at 1) n)))
-    (times (minus (times (at 4) (at 2)) (times (at 1) (at 5))) (minus (times x (at 2)) (times (at 0) n))) in
-    ring (T (D (at 6)) (D (at 7)) (D (at 8))) (D (T (at 6) (at 7) (at 8))) (vars (a.x ∷ a.y ∷ a.n ∷ b.x ∷ b.y ∷ b.n ∷ z.x ∷ z.y ∷ z.n ∷ [])) refl
+    minus (times (minus (times (at 3) (at 2)) (times (at 0) (at 5)))
+    (minus (times y (at 2)) (times (at 1) n)))
+    (times (minus (times (at 4) (at 2)) (times (at 1) (at 5)))
+    (minus (times x (at 2)) (times (at 0) n))) in
+    ring (T (D (at 6)) (D (at 7)) (D (at 8))) (D (T (at 6) (at 7) (at 8)))
+    (vars (a.x ∷ a.y ∷ a.n ∷ b.x ∷ b.y ∷ b.n ∷ z.x ∷ z.y ∷ z.n ∷ [])) refl
 
 -- a place of a segment, in half units
 on_twice : (a b z : Vector) → Place a → Place b → Place z → IsOnStraight a b z
     → IsOnStraight (doubled a) (doubled b) (doubled z)
-on_twice a b z A B Z on = halved_on a b (doubled z) (on_straight_same a b z (halved (doubled z)) A B Z (halved_place (doubled z) Z) (there_and_back z) on)
+on_twice a b z A B Z on =
+    halved_on a b (doubled z)
+    (on_straight_same a b z (halved (doubled z)) A B Z (halved_place (doubled z) Z)
+    (there_and_back z) on)
 
-module _ (d e : Plan) (double : IsDoubled d e) (straights : (k : ℕ) → k < length d.curves → (curve d k).kind ≡ kind.Straight) where
-  module _ (k : ℕ) (l : k < length d.curves) (g E : Edge) (half : IsHalfEdge g E (curve d k)) (p q : Vector) (x : CrossesCurve d g k p q) where
+module _ (d e : Plan) (double : IsDoubled d e) (straights : (k : ℕ) → k < length d.curves
+    → (curve d k).kind ≡ kind.Straight) where
+  module _ (k : ℕ) (l : k < length d.curves) (g E : Edge) (half : IsHalfEdge g E (curve d k))
+      (p q : Vector) (x : CrossesCurve d g k p q) where
     turned : (z : Vector)
-        → turn (point E.low) (point E.high) z ≡ pos 2 *ℤ turn (point g.low) (point g.high) (halved z)
+        → turn (point E.low) (point E.high) z
+        ≡ pos 2 *ℤ turn (point g.low) (point g.high) (halved z)
     turned z =
-        subst (λ (a : Point). turn (point a) (point E.high) z ≡ pos 2 *ℤ turn (point g.low) (point g.high) (halved z)) (sym half.low)
-        (subst (λ (b : Point). turn (point (twice g.low)) (point b) z ≡ pos 2 *ℤ turn (point g.low) (point g.high) (halved z)) (sym half.high) (turn-halved (point g.low) (point g.high) z))
+        subst (λ (a : Point). turn (point a) (point E.high) z
+        ≡ pos 2 *ℤ turn (point g.low) (point g.high) (halved z)) (sym half.low)
+        (subst (λ (b : Point). turn (point (twice g.low)) (point b) z
+        ≡ pos 2 *ℤ turn (point g.low) (point g.high) (halved z)) (sym half.high)
+        (turn-halved (point g.low) (point g.high) z))
 
     is : curve e k ≡ twice_curve (curve d k)
     is = double.curves k l
@@ -54,9 +66,11 @@ module _ (d e : Plan) (double : IsDoubled d e) (straights : (k : ℕ) → k < le
           z = doubled h.z;
           place = h.place;
           of_segment = on_twice p q h.z x.p_place x.q_place h.place h.of_segment;
-          of_curve = on_twice (point c.from) (point c.to) h.z (place_point c.from) (place_point c.to) h.place h.of_curve;
+          of_curve = on_twice (point c.from) (point c.to) h.z (place_point c.from)
+              (place_point c.to) h.place h.of_curve;
         } in
-        subst (λ (v : Curve). Hits v (doubled p) (doubled q)) (sym is) (straight_hits (twice_curve c) (doubled p) (doubled q) (straights k l) t)
+        subst (λ (v : Curve). Hits v (doubled p) (doubled q)) (sym is)
+        (straight_hits (twice_curve c) (doubled p) (doubled q) (straights k l) t)
 
     pub doubled_crossing : CrossesCurve e E k (doubled p) (doubled q)
     doubled_crossing =
@@ -76,5 +90,7 @@ module _ (d e : Plan) (double : IsDoubled d e) (straights : (k : ℕ) → k < le
           hits = hit_twice;
           clear = λ j m differ hit.
               let n : j < length d.curves = subst (λ (c : ℕ). j < c) double.count m in
-              x.clear j n differ (hits_halved (curve d j) p q x.p_place x.q_place (subst (λ (c : Curve). Hits c (doubled p) (doubled q)) (double.curves j n) hit));
+              x.clear j n differ
+              (hits_halved (curve d j) p q x.p_place x.q_place
+              (subst (λ (c : Curve). Hits c (doubled p) (doubled q)) (double.curves j n) hit));
         }

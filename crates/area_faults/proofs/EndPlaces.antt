@@ -28,8 +28,10 @@ end_on_itself : (c : Curve) (p : Point) → IsEndOf c p → IsOn c (point p)
 end_on_itself c p h = control_on c (point p) (a_place p) (control h)
   where
     control : IsEndOf c p → IsControl c (point p)
-    control (inl e) = inl (subst (λ (q : Point). Same (point q) (point c.from)) e (same_refl (point c.from)))
-    control (inr e) = inr (subst (λ (q : Point). Same (point q) (point c.to)) e (same_refl (point c.to)))
+    control (inl e) =
+        inl (subst (λ (q : Point). Same (point q) (point c.from)) e (same_refl (point c.from)))
+    control (inr e) =
+        inr (subst (λ (q : Point). Same (point q) (point c.to)) e (same_refl (point c.to)))
 
 pub end_is_place : (c e : Curve) (p : Point) → IsEndOnOther c e p → IsMeetingPlace c e p
 end_is_place c e p (inl h) = exact (end_on_itself c p h.end) h.on.on
@@ -52,7 +54,11 @@ module _ (c e : Curve) (straights : AreBothStraight c e) (bad : AreBad c e) wher
   m = straights_only c e straights bad
 
   both : IsOnBoth c.from c.to e.from e.to m.z
-  both = record { place = m.place; first = on_straight c m.z m.first m.on_first; second = on_straight e m.z m.second m.on_second }
+  both = record {
+    place = m.place;
+    first = on_straight c m.z m.first m.on_first;
+    second = on_straight e m.z m.second m.on_second;
+  }
 
   pub share_place : SharePlace c.from c.to e.from e.to
   share_place = (m.z, both)
@@ -62,13 +68,19 @@ module _ (c e : Curve) (straights : AreBothStraight c e) (bad : AreBad c e) wher
 
   judged : (d : Curve) (p : Point) → d.kind ≡ kind.Straight
       → IsOnStraight (point d.from) (point d.to) (point p) → IsJudgedOn d p
-  judged d p s h = record { on = straight_on d (point p) s h; side = λ k. absurd (not_half_arc d s k) }
+  judged d p s h = record {
+    on = straight_on d (point p) s h;
+    side = λ k. absurd (not_half_arc d s k);
+  }
 
   pub not_parallel : ArePlaced c e → ((p : Point) → IsEndOnOther c e p → ⊥)
       → turning c.from c.to e.from e.to ≡ pos 0 → ⊥
   not_parallel a none parallel =
-      elim (an_end_meets c.from c.to e.from e.to m.z a.first.distinct a.second.distinct m.place both.first both.second parallel) [
+      elim (an_end_meets c.from c.to e.from e.to m.z a.first.distinct a.second.distinct m.place
+      both.first both.second parallel) [
         | inl h ↦ none e.from (inr (record { end = inl refl; on = judged c e.from straights.0 h }))
-        | inr (inl h) ↦ none e.to (inr (record { end = inr refl; on = judged c e.to straights.0 h }))
-        | inr (inr h) ↦ none c.from (inl (record { end = inl refl; on = judged e c.from straights.1 h }))
+        | inr (inl h) ↦ none e.to
+            (inr (record { end = inr refl; on = judged c e.to straights.0 h }))
+        | inr (inr h) ↦ none c.from
+            (inl (record { end = inl refl; on = judged e c.from straights.1 h }))
       ]

@@ -7,7 +7,8 @@ use Rattle.plane.specs.Rule.Plans.{Plan, curve}
 use Rattle.near_pairs.specs.Boxes.{IsOneMarked}
 use Rattle.area_faults.specs.MeetingMarks.{AreArcPairMarks, AreBothTo, AreMeetingMarks}
 
-module _ (d : Plan) (marks few : List Bool) (n : ℕ) (both : List Bool) (e : n ≡ length d.curves) (h : AreBothTo d marks few n both) where
+module _ (d : Plan) (marks few : List Bool) (n : ℕ) (both : List Bool) (e : n ≡ length d.curves)
+    (h : AreBothTo d marks few n both) where
   module _ (i j : ℕ) (bad : IsBadPair d i j) where
     first : i < n
     first = let o = bad.order in let t = bad.there in omega (arith, o, t, e)
@@ -26,10 +27,15 @@ module _ (d : Plan) (marks few : List Bool) (n : ℕ) (both : List Bool) (e : n 
 
   -- Of a pair with a half arc one of the few is marked, and of two straights one that was marked.
   pub all_both : AreMeetingMarks d marks → AreArcPairMarks d few → AreMeetingMarks d both
-  all_both a f = record { size = h.size ∙ e; pairs = λ i j bad. by i j bad (curve d i).kind (curve d j).kind refl refl }
+  all_both a f = record {
+    size = h.size ∙ e;
+    pairs = λ i j bad. by i j bad (curve d i).kind (curve d j).kind refl refl;
+  }
     where
       by : (i j : ℕ) → IsBadPair d i j → (s t : CurveKind) → (curve d i).kind ≡ s
           → (curve d j).kind ≡ t → IsOneMarked both i j
-      by i j bad kind.HalfArc t p q = of_few i j bad (f.pairs i j (record { pair = bad; half_arc = inl p }))
-      by i j bad kind.Straight kind.HalfArc p q = of_few i j bad (f.pairs i j (record { pair = bad; half_arc = inr q }))
+      by i j bad kind.HalfArc t p q =
+          of_few i j bad (f.pairs i j (record { pair = bad; half_arc = inl p }))
+      by i j bad kind.Straight kind.HalfArc p q =
+          of_few i j bad (f.pairs i j (record { pair = bad; half_arc = inr q }))
       by i j bad kind.Straight kind.Straight p q = of_straights i j bad p q (a.pairs i j bad)

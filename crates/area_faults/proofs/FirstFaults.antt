@@ -74,7 +74,8 @@ curve_at_most c i a b l = let m = part_below b in omega (arith, l, m)
 
 module _ (d : Plan) (f : Faults) (all : AreAllFaults d f) where
   pub no_meetings : HasNoBadPair d → f.meetings.items ≡ []
-  no_meetings clear = no_entry f.meetings.items (λ m c. clear m.first m.second (all.told.meetings.bad m c))
+  no_meetings clear =
+      no_entry f.meetings.items (λ m c. clear m.first m.second (all.told.meetings.bad m c))
 
   pub settled : HasNoBadPair d → IsSettled d
   settled clear = all.settled (no_meetings clear)
@@ -103,9 +104,15 @@ module _ (d : Plan) (f : Faults) (all : AreAllFaults d f) where
     -- so nothing is open
     pub none_open : TellsNoneOpen f
     none_open = record {
-      outer = elim (cases_Bool f.faces.outer_open) [ inl e ↦ (let (z, Z, o, h) = all.told.over.outer_is_open e in absurd (kept h.i h.there h.left_out)) | inr e ↦ e ];
-      broken = no_entry f.faces.open.items (λ s c. let (z, Z, b, h) = all.told.over.open_is_open s c in kept h.i h.there h.left_out);
-      unjudged = no_entry f.faces.unjudged.items (λ j c. let h = all.told.over.unjudged_is j c in kept h.i h.there h.left_out);
+      outer = elim (cases_Bool f.faces.outer_open) [
+        | inl e ↦ (let (z, Z, o, h) = all.told.over.outer_is_open e in
+            absurd (kept h.i h.there h.left_out))
+        | inr e ↦ e
+      ];
+      broken = no_entry f.faces.open.items
+          (λ s c. let (z, Z, b, h) = all.told.over.open_is_open s c in kept h.i h.there h.left_out);
+      unjudged = no_entry f.faces.unjudged.items (λ j c. let h = all.told.over.unjudged_is j c in
+          kept h.i h.there h.left_out);
     }
 
     -- ---- points on curves
@@ -113,7 +120,8 @@ module _ (d : Plan) (f : Faults) (all : AreAllFaults d f) where
     first_on j i least =
         let (o, c, e) = all.told.on.all j i least.on in
         let is : o ≡ on_at j i = same o c (let l = e in omega (arith, l)) in
-        begins (λ (o : OnAt). o.point) f.on.items (on_at j i) all.told.on.rise (subst (λ (x : OnAt). Contains f.on.items x) is c) same
+        begins (λ (o : OnAt). o.point) f.on.items (on_at j i) all.told.on.rise
+        (subst (λ (x : OnAt). Contains f.on.items x) is c) same
       where
         same : (o : OnAt) → Contains f.on.items o → o.point ≤ j → o ≡ on_at j i
         same o c l = elim (cases_lt o.point j) [
@@ -121,9 +129,12 @@ module _ (d : Plan) (f : Faults) (all : AreAllFaults d f) where
           | inr m ↦
               let p : o.point ≡ j = omega (arith, l, m) in
               elim (cases_lt o.curve i) [
-                | inl k ↦ absurd (least.no_curve o.curve k (subst (λ n. LiesOn d n o.curve) p (all.told.on.on o c)))
+                | inl k ↦ absurd
+                    (least.no_curve o.curve k
+                    (subst (λ n. LiesOn d n o.curve) p (all.told.on.on o c)))
                 | inr k ↦ elim (cases_lt i o.curve) [
-                  | inl g ↦ absurd (all.told.on.least o i c g (subst (λ n. LiesOn d n i) (sym p) least.on))
+                  | inl g ↦ absurd
+                      (all.told.on.least o i c g (subst (λ n. LiesOn d n i) (sym p) least.on))
                   | inr g ↦ same_on o j i p (omega (arith, k, g))
                 ]
               ]
@@ -145,7 +156,8 @@ module _ (d : Plan) (f : Faults) (all : AreAllFaults d f) where
   pub tells_alone : AreAlone d → TellsAlone f
   tells_alone h = record {
     inside = tells_inside h.inside;
-    shared = no_entry f.faces.shared.items (λ p c. h.none p.first p.second (all.told.over.shared_are p c));
+    shared = no_entry f.faces.shared.items
+        (λ p c. h.none p.first p.second (all.told.over.shared_are p c));
   }
 
   -- a side in the list is empty
@@ -153,41 +165,56 @@ module _ (d : Plan) (f : Faults) (all : AreAllFaults d f) where
       → IsEmptySide d s.curve s.left
   side_is_empty clear s c =
       let (z, Z, b, lost) = all.told.over.empty_is s c in
-      lost_is_empty d s.curve s.left (beside_lost d all.told.r all.told.out all.told.rest (kept clear) s z Z b lost)
+      lost_is_empty d s.curve s.left
+      (beside_lost d all.told.r all.told.out all.told.rest (kept clear) s z Z b lost)
 
   pub tells_filled : AreFilled d → TellsFilled f
   tells_filled h = record {
     alone = tells_alone h.alone;
-    empty = no_entry f.faces.empty.items (λ s c. h.none s.curve s.left (side_is_empty h.alone.inside.clear.pairs s c));
+    empty = no_entry f.faces.empty.items
+        (λ s c. h.none s.curve s.left (side_is_empty h.alone.inside.clear.pairs s c));
   }
 
   -- ---- the first ones
   pub first_outside : HasNoBadPair d → (j : ℕ) → IsLeastOutside d j
       → BeginsWith f.faces.outside.items j
   first_outside clear j least =
-      begins (λ (n : ℕ). n) f.faces.outside.items j (by_itself f.faces.outside.items all.told.over.order.outside)
+      begins (λ (n : ℕ). n) f.faces.outside.items j
+      (by_itself f.faces.outside.items all.told.over.order.outside)
       (all.told.over.outside j least.outside (none_open clear).outer) same
     where
       same : (k : ℕ) → Contains f.faces.outside.items k → k ≤ j → k ≡ j
-      same k c l = elim (cases_lt k j) [ inl m ↦ absurd (least.none k m (all.told.over.outside_is k c)) | inr m ↦ omega (arith, l, m) ]
+      same k c l =
+          elim (cases_lt k j) [
+            | inl m ↦ absurd (least.none k m (all.told.over.outside_is k c))
+            | inr m ↦ omega (arith, l, m)
+          ]
 
   pub first_cut : HasNoBadPair d → (i : ℕ) → IsLeastCut d i → BeginsWith f.faces.cuts.items i
   first_cut clear i least =
       let closed = all_closed d all.told.r all.told.out all.told.rest (kept clear) in
-      begins (λ (n : ℕ). n) f.faces.cuts.items i (by_itself f.faces.cuts.items all.told.over.order.cuts)
-      (all.told.over.cuts i least.cut least.there (kept clear i least.there) (closed least.cut.p) (closed least.cut.q)) same
+      begins (λ (n : ℕ). n) f.faces.cuts.items i
+      (by_itself f.faces.cuts.items all.told.over.order.cuts)
+      (all.told.over.cuts i least.cut least.there (kept clear i least.there) (closed least.cut.p)
+      (closed least.cut.q)) same
     where
       same : (k : ℕ) → Contains f.faces.cuts.items k → k ≤ i → k ≡ i
-      same k c l = elim (cases_lt k i) [ inl m ↦ absurd (least.none k m (all.told.over.cut_is k c)) | inr m ↦ omega (arith, l, m) ]
+      same k c l =
+          elim (cases_lt k i) [
+            | inl m ↦ absurd (least.none k m (all.told.over.cut_is k c))
+            | inr m ↦ omega (arith, l, m)
+          ]
 
   pub first_empty : HasNoBadPair d → (i : ℕ) (left : Bool) → IsLeastEmpty d i left
       → BeginsWith f.faces.empty.items (side_at i left)
   first_empty clear i left least =
-      let (s, c, b) = all.told.over.empty z end.0 end.1 lost.lost (all_closed d r out rest (kept clear) z) in
+      let (s, c, b) = all.told.over.empty z end.0 end.1 lost.lost
+      (all_closed d r out rest (kept clear) z) in
       let mine = lost_beside d r out rest (kept clear) (side_at i left) lost in
       let le = all.least s (side_at i left) z c (kept clear i lost.there) end.0 b mine in
       let is : s ≡ side_at i left = same s c le in
-      begins side_number f.faces.empty.items (side_at i left) all.told.over.order.empty (subst (λ (o : SideAt). Contains f.faces.empty.items o) is c) same
+      begins side_number f.faces.empty.items (side_at i left) all.told.over.order.empty
+      (subst (λ (o : SideAt). Contains f.faces.empty.items o) is c) same
     where
       r : Plan
       r = all.told.r
@@ -214,16 +241,22 @@ module _ (d : Plan) (f : Faults) (all : AreAllFaults d f) where
           elim (cases_lt s.curve i) [
             | inl m ↦ absurd (least.no_curve s.curve s.left m e)
             | inr m ↦
-                let q : s.curve ≡ i = let k = curve_at_most s.curve i s.left left l in omega (arith, k, m) in
-                let le : side_number (side_at i s.left) ≤ side_number (side_at i left) = subst (λ n. side_number (side_at n s.left) ≤ side_number (side_at i left)) q l in
-                let b : s.left ≡ left = left_first i s.left left le (λ a t. least.no_left a (subst (λ (x : Bool). IsEmptySide d i x) t (subst (λ n. IsEmptySide d n s.left) q e))) in
+                let q : s.curve ≡ i = let k = curve_at_most s.curve i s.left left l in
+                omega (arith, k, m) in
+                let le : side_number (side_at i s.left) ≤ side_number (side_at i left) = subst
+                (λ n. side_number (side_at n s.left) ≤ side_number (side_at i left)) q l in
+                let b : s.left ≡ left = left_first i s.left left le
+                (λ a t. least.no_left a
+                (subst (λ (x : Bool). IsEmptySide d i x) t
+                (subst (λ n. IsEmptySide d n s.left) q e))) in
                 ap (λ n. side_at n s.left) q ∙ ap (λ x. side_at i x) b
           ]
 
   -- ---- two points in one face
   least_pair : AreInside d → (i j : ℕ) → AreLeastTwo d i j
       → IsLeastPair f.faces.shared.items (pair_at i j)
-  least_pair inside i j least = record { told = told (all.told.over.shared i j least.two closed inner); least = lesser }
+  least_pair inside i j least =
+      record { told = told (all.told.over.shared i j least.two closed inner); least = lesser }
     where
       z : Vector
       z = point (object d i)
@@ -235,12 +268,20 @@ module _ (d : Plan) (f : Faults) (all : AreAllFaults d f) where
       there = let o = least.two.order in let l = least.two.there in omega (arith, o, l)
 
       inner : IsOuter all.told.r z → ⊥
-      inner o = inside.none i (record { there = there; outer = (stays_outer d all.told.r all.told.out all.told.rest z (place_point (object d i)) closed).1 o })
+      inner o = inside.none i (record {
+        there = there;
+        outer = (stays_outer d all.told.r all.told.out all.told.rest z
+            (place_point (object d i)) closed).1 o;
+      })
 
       told : AreToldTwo f.faces i j → Contains f.faces.shared.items (pair_at i j)
-      told (inl p) = subst (λ (q : PointPair). Contains f.faces.shared.items q) (same_pair p.pair i j p.is_first p.is_second) p.told
+      told (inl p) =
+          subst (λ (q : PointPair). Contains f.faces.shared.items q)
+          (same_pair p.pair i j p.is_first p.is_second) p.told
       told (inr (k, a, b)) =
-          let two : AreTwo d k i = subst (λ n. AreTwo d k n) a.is_second (subst (λ n. AreTwo d n a.pair.second) a.is_first (all.told.over.shared_are a.pair a.told)) in
+          let two : AreTwo d k i = subst (λ n. AreTwo d k n) a.is_second
+          (subst (λ n. AreTwo d n a.pair.second) a.is_first
+          (all.told.over.shared_are a.pair a.told)) in
           absurd (least.no_first k i two.order two)
 
       lesser : (q : PointPair) → Contains f.faces.shared.items q
@@ -252,7 +293,9 @@ module _ (d : Plan) (f : Faults) (all : AreAllFaults d f) where
           | inr m ↦
               let e : i ≡ q.first = omega (arith, l, m) in
               elim (cases_lt q.second j) [
-                | inl k ↦ absurd (least.no_second q.second k (subst (λ n. AreTwo d n q.second) (sym e) (all.told.over.shared_are q c)))
+                | inl k ↦ absurd
+                    (least.no_second q.second k
+                    (subst (λ n. AreTwo d n q.second) (sym e) (all.told.over.shared_are q c)))
                 | inr k ↦ inr (e, k)
               ]
         ]
@@ -262,13 +305,19 @@ module _ (d : Plan) (f : Faults) (all : AreAllFaults d f) where
   own_first : (x : AreaFinding) → IsAnswer d (Fault x) → IsFirstOf f x
   own_first _ (answer.meeting i j bad) =
       let (m, c, e) = all.told.meetings.all i j bad in
-      subst (λ k. IsFirstOf f (Meeting i k)) e.1 (subst (λ k. IsFirstOf f (Meeting k m.second)) e.0 (first.meeting m c))
-  own_first _ (answer.on j i clear least) = first.on (on_at j i) (no_meetings clear) (first_on clear j i least)
-  own_first _ (answer.outside j clear s least) = first.outside j (tells_clear clear) (first_outside clear.pairs j least)
-  own_first _ (answer.two i j inside s least) = first.two (pair_at i j) (tells_inside inside) (least_pair inside i j least)
+      subst (λ k. IsFirstOf f (Meeting i k)) e.1
+      (subst (λ k. IsFirstOf f (Meeting k m.second)) e.0 (first.meeting m c))
+  own_first _ (answer.on j i clear least) =
+      first.on (on_at j i) (no_meetings clear) (first_on clear j i least)
+  own_first _ (answer.outside j clear s least) =
+      first.outside j (tells_clear clear) (first_outside clear.pairs j least)
+  own_first _ (answer.two i j inside s least) =
+      first.two (pair_at i j) (tells_inside inside) (least_pair inside i j least)
   own_first _ (answer.empty i left alone s least) =
-      first.empty (side_at i left) (tells_alone alone) (first_empty alone.inside.clear.pairs i left least)
-  own_first _ (answer.cut i filled s least) = first.cut i (tells_filled filled) (first_cut filled.alone.inside.clear.pairs i least)
+      first.empty (side_at i left) (tells_alone alone)
+      (first_empty alone.inside.clear.pairs i left least)
+  own_first _ (answer.cut i filled s least) =
+      first.cut i (tells_filled filled) (first_cut filled.alone.inside.clear.pairs i least)
 
   pub is_first : (t : ℤ) (x : AreaFinding) → IsAnswerBy t d (Fault x) → IsFirstOf f x
   is_first t x (by.own h n) = own_first x h

@@ -45,7 +45,8 @@ module _ {A : Type 0} where
     head_least y ys x h (k, l, e) =
         let m : k < length (map number (y ∷ ys)) = omega (arith, l, length-map (y ∷ ys) number) in
         let a = first_least (map number (y ∷ ys)) k h m in
-        let b : get_or (map number (y ∷ ys)) k 0 ≡ number x = get_or-map number (y ∷ ys) k x 0 l ∙ ap number e in
+        let b : get_or (map number (y ∷ ys)) k 0 ≡ number x = get_or-map number (y ∷ ys) k x 0 l
+        ∙ ap number e in
         omega (arith, a, b)
 
     -- An entry with which no other one has as low a number is the first one.

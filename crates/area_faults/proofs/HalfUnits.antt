@@ -53,7 +53,10 @@ halves_near low high p q n h k = record {
   where
     near : (l h a b : ℤ) → (h -ℤ l) <ℤ pos (2 ^ 40) → (pos 2 *ℤ l) ≤ℤ a → a ≤ℤ (pos 2 *ℤ h)
         → (pos 2 *ℤ l) ≤ℤ b → b ≤ℤ (pos 2 *ℤ h) → IsNear (2 ^ 41) a b
-    near l h a b n c d e f = record { above = omega (arith, ints, n, c, d, e, f); below = omega (arith, ints, n, c, d, e, f) }
+    near l h a b n c d e f = record {
+      above = omega (arith, ints, n, c, d, e, f);
+      below = omega (arith, ints, n, c, d, e, f);
+    }
 
 -- points of a window have few digits
 pub inside_short : (low high p : Point) → IsShort low → IsShort high → IsInside low high p
@@ -65,7 +68,10 @@ inside_short low high p s t h = record {
   where
     between : (l h z : ℤ) → IsWithin (10 ^ 18) l → IsWithin (10 ^ 18) h → l ≤ℤ z → z ≤ℤ h
         → IsWithin (10 ^ 18) z
-    between l h z s t a b = let u = s.low in let v = t.high in record { low = omega (arith, ints, u, a); high = omega (arith, ints, v, b) }
+    between l h z s t a b =
+        let u = s.low in
+        let v = t.high in
+        record { low = omega (arith, ints, u, a); high = omega (arith, ints, v, b) }
 
 -- points in half units are in order, and differ, as in whole units
 pub twice_before : (p q : Point) → Before p q → Before (twice p) (twice q)

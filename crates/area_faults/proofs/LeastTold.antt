@@ -16,7 +16,8 @@ use Rattle.fault_lists.specs.FaultLists.{IsBeside}
 use Rattle.fault_lists.proofs.FacesOfRest as faces
 use Rattle.area_faults.specs.Answers.{AreLeastSides}
 
-module _ (d r : Plan) (out : ℕ → Bool) (rest : IsRestOf d r out) (f : DrawingFaces) (t : FaceFaults) (D : AreDrawingFaces d r out rest f) (T : AreFaceFaults f t) where
+module _ (d r : Plan) (out : ℕ → Bool) (rest : IsRestOf d r out) (f : DrawingFaces) (t : FaceFaults)
+    (D : AreDrawingFaces d r out rest f) (T : AreFaceFaults f t) where
   -- a side beside the same place is one of the same face
   same_face : (s o : SideAt) (z : Vector) → IsLeastSideOf f (IsEmptyFace f) s
       → (out o.curve ≡ true → ⊥) → Place z → IsBeside d r out rest s z → IsBeside d r out rest o z
@@ -31,18 +32,26 @@ module _ (d r : Plan) (out : ℕ → Bool) (rest : IsRestOf d r out) (f : Drawin
 
       by : (c : Option CurveFaces) → faces_of f o.curve ≡ c
           → (n : ℕ) × IsSide f n o × ((m : ℕ) → IsSide f m s → m ≡ n)
-      by None q = absurd (kept (subst (λ c. AreCurveFaces d r out rest (face_count f) D.at o.curve c) q (D.curves o.curve known)))
+      by None q = absurd
+          (kept (subst (λ c. AreCurveFaces d r out rest (face_count f) D.at o.curve c) q
+          (D.curves o.curve known)))
       by (Some c) q =
           let n = face_beside o.left c in
           let side : IsSide f n o = record { there = there; faces = c; is = q; on = refl } in
           let j = faces.beside_in d r out rest f D n o z Z side e in (
             n,
             side,
-            λ m k. (let i = faces.beside_in d r out rest f D m s z Z k b in faces.one_number d r out rest f D z z m n Z Z i j (faces.in_one d r out rest f D z z m Z Z i i)),
+            λ m k. (let i = faces.beside_in d r out rest f D m s z Z k b in
+                faces.one_number d r out rest f D z z m n Z Z i j
+                (faces.in_one d r out rest f D z z m Z Z i i)),
           )
 
   pub least_sides : AreLeastSides d r out rest t.empty.items
   least_sides s o z c kept Z b e =
       let h = (T.empty.is s).0 c in
       let (n, side, same) = same_face s o z h kept Z b e in
-      elim (cases_lt (side_number o) (side_number s)) [ inl l ↦ absurd (h.side.least o l (subst (λ m. IsSide f m o) (sym (same h.n h.side.side)) side)) | inr l ↦ l ]
+      elim (cases_lt (side_number o) (side_number s)) [
+        | inl l ↦ absurd
+            (h.side.least o l (subst (λ m. IsSide f m o) (sym (same h.n h.side.side)) side))
+        | inr l ↦ l
+      ]

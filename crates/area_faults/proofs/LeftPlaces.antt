@@ -18,7 +18,9 @@ use Rattle.plane.proofs.Linear.Straights.{straight_between}
 
 -- ---- means
 swap : (a b c : ℤ) → a *ℤ (b *ℤ c) ≡ c *ℤ (b *ℤ a)
-swap a b c = ring (times (at 0) (times (at 1) (at 2))) (times (at 2) (times (at 1) (at 0))) (vars (a ∷ b ∷ c ∷ [])) refl
+swap a b c =
+    ring (times (at 0) (times (at 1) (at 2))) (times (at 2) (times (at 1) (at 0)))
+    (vars (a ∷ b ∷ c ∷ [])) refl
 
 turned : (a b : ℤ) → a *ℤ b ≡ b *ℤ a
 turned a b = ring (times (at 0) (at 1)) (times (at 1) (at 0)) (vars (a ∷ b ∷ [])) refl
@@ -53,7 +55,8 @@ mean_high l z p q Z P Q b h k =
 -- not on both sides of a line and one that is one unit before it
 apart : (l x n : ℤ) → pos 0 <ℤ n → (l *ℤ n) ≤ℤ x → x ≤ℤ ((l -ℤ pos 1) *ℤ n) → ⊥
 apart l x n N h k =
-    let e = ring (times (minus (at 0) (num (pos 1))) (at 1)) (minus (times (at 0) (at 1)) (at 1)) (vars (l ∷ n ∷ [])) refl in
+    let e = ring (times (minus (at 0) (num (pos 1))) (at 1)) (minus (times (at 0) (at 1)) (at 1))
+    (vars (l ∷ n ∷ [])) refl in
     absurd (omega (arith, ints, N, h, k, e))
 
 pub record IsRightOf (l : ℤ) (r : Plan) : Type 0 where
@@ -72,8 +75,11 @@ module _ (l : ℤ) (r : Plan) (right : IsRightOf l r) where
       → ⊥
   never_on z Z h k m on =
       let c = curve r k in
-      let b = straight_between (point c.from) (point c.to) z (place_point c.from) (place_point c.to) Z (on_straight c z (right.straight k m) on) in
-      apart l z.x z.n Z (mean_low l z (point c.from) (point c.to) Z (place_point c.from) (place_point c.to) b (one c.from.x (right.from k m)) (one c.to.x (right.to k m))) h
+      let b = straight_between (point c.from) (point c.to) z (place_point c.from)
+      (place_point c.to) Z (on_straight c z (right.straight k m) on) in
+      apart l z.x z.n Z
+      (mean_low l z (point c.from) (point c.to) Z (place_point c.from) (place_point c.to) b
+      (one c.from.x (right.from k m)) (one c.to.x (right.to k m))) h
 
   pub left_off : (z : Vector) → Place z → IsLeft z → IsOff r z
   left_off z Z h k m on = never_on z Z h k m on
@@ -83,14 +89,17 @@ module _ (l : ℤ) (r : Plan) (right : IsRightOf l r) where
       let c = curve r i in
       let s = hits_straight c p q (right.straight i m) hit in
       let b = straight_between p q s.z P Q s.place s.of_segment in
-      let d = straight_between (point c.from) (point c.to) s.z (place_point c.from) (place_point c.to) s.place s.of_curve in
+      let d = straight_between (point c.from) (point c.to) s.z (place_point c.from)
+      (place_point c.to) s.place s.of_curve in
       apart l s.z.x s.z.n s.place
-      (mean_low l s.z (point c.from) (point c.to) s.place (place_point c.from) (place_point c.to) d (one c.from.x (right.from i m)) (one c.to.x (right.to i m)))
+      (mean_low l s.z (point c.from) (point c.to) s.place (place_point c.from) (place_point c.to) d
+      (one c.from.x (right.from i m)) (one c.to.x (right.to i m)))
       (mean_high (l -ℤ pos 1) s.z p q s.place P Q b h k)
 
   pub left_joined : (p q : Vector) → Place p → Place q → IsLeft p → IsLeft q → Joined r p q
   left_joined p q P Q h k =
-      joined_step r p p q P P Q (joined_self r p P (left_off p P h)) (left_clear p q P Q h k) (left_off q Q k)
+      joined_step r p p q P P Q (joined_self r p P (left_off p P h)) (left_clear p q P Q h k)
+      (left_off q Q k)
 
   -- ---- a place on the left of all straights
   abbrev pub left_place : Vector
@@ -112,18 +121,24 @@ module _ (l : ℤ) (r : Plan) (right : IsRightOf l r) where
       let Q : Place q = omega (arith, ints) in
       let k : IsLeft q = omega (arith, ints, h) in
       (q, Q, left_joined left_place q left_there Q left_is k, omega (arith, ints)))
-      (λ (h : l ≤ℤ b).
-      (left_place, left_there, left_joined left_place left_place left_there left_there left_is left_is, omega (arith, ints, h)))
+      (λ (h : l ≤ℤ b). (
+        left_place,
+        left_there,
+        left_joined left_place left_place left_there left_there left_is left_is,
+        omega (arith, ints, h),
+      ))
 
   -- ---- outer places are joined
   to_left : (z : Vector) → Place z → IsOuter r z → Joined r z left_place
   to_left z Z o =
       let (q, Q, j, h) = o (l -ℤ pos 1) in
-      joined_through r z q left_place Z Q j (left_joined q left_place Q left_there (omega (arith, ints, h)) left_is)
+      joined_through r z q left_place Z Q j
+      (left_joined q left_place Q left_there (omega (arith, ints, h)) left_is)
 
   pub outer_joined : (p q : Vector) → Place p → Place q → IsOuter r p → IsOuter r q → Joined r p q
   outer_joined p q P Q h k =
-      joined_through r p left_place q P left_there (to_left p P h) (joined_back r q left_place Q left_there (to_left q Q k))
+      joined_through r p left_place q P left_there (to_left p P h)
+      (joined_back r q left_place Q left_there (to_left q Q k))
 
 -- what is joined to an outer place is outer
 pub outer_along : (r : Plan) (p q : Vector) → Place p → Place q → Joined r p q → IsOuter r q

@@ -37,8 +37,11 @@ use Rattle.area_faults.proofs.WholeRest.{empty_is_lost, lost_end}
 -- ---- a cut is a curve of the drawing
 no_turn : (a z : Vector) → turn a a z ≡ pos 0
 no_turn a z =
-    let AX = at 0 in let AY = at 1 in let AN = at 2 in let ZX = at 3 in let ZY = at 4 in let ZN = at 5 in
-    ring (minus (times (minus (times AX AN) (times AX AN)) (minus (times ZY AN) (times AY ZN))) (times (minus (times AY AN) (times AY AN)) (minus (times ZX AN) (times AX ZN)))) (num (pos 0))
+    let AX = at 0 in
+    let AY = at 1 in let AN = at 2 in let ZX = at 3 in let ZY = at 4 in let ZN = at 5 in
+    ring (minus (times (minus (times AX AN) (times AX AN)) (minus (times ZY AN) (times AY ZN)))
+    (times (minus (times AY AN) (times AY AN)) (minus (times ZX AN) (times AX ZN))))
+    (num (pos 0))
     (vars (a.x ∷ a.y ∷ a.n ∷ z.x ∷ z.y ∷ z.n ∷ [])) refl
 
 not_positive : (z : ℤ) → z ≡ pos 0 → pos 0 <ℤ z → ⊥
@@ -47,10 +50,13 @@ not_positive z e l = omega (arith, ints, e, l)
 no_such_cut : (d : Plan) (i : ℕ) → length d.curves ≤ i → IsCut d i → ⊥
 no_such_cut d i l c =
     let e = get_or_past d.curves i _ l in
-    let x : CrossesKind kind.Straight d i c.p c.q = subst (λ (k : CurveKind). CrossesKind k d i c.p c.q) (ap (λ (s : Curve). s.kind) e) c.crossing in
-    let ends : (curve d i).to ≡ (curve d i).from = ap (λ (s : Curve). s.to) e ∙ sym (ap (λ (s : Curve). s.from) e) in
+    let x : CrossesKind kind.Straight d i c.p c.q = subst
+    (λ (k : CurveKind). CrossesKind k d i c.p c.q) (ap (λ (s : Curve). s.kind) e) c.crossing in
+    let ends : (curve d i).to ≡ (curve d i).from = ap (λ (s : Curve). s.to) e
+    ∙ sym (ap (λ (s : Curve). s.from) e) in
     let a = point (curve d i).from in
-    let above : pos 0 <ℤ turn a a c.p = subst (λ (b : Point). pos 0 <ℤ turn a (point b) c.p) ends x.above in
+    let above : pos 0 <ℤ turn a a c.p = subst
+    (λ (b : Point). pos 0 <ℤ turn a (point b) c.p) ends x.above in
     not_positive (turn a a c.p) (no_turn a c.p) above
 
 module _ (d : Plan) (f : Faults) (all : AreAllFaults d f) where
@@ -62,7 +68,8 @@ module _ (d : Plan) (f : Faults) (all : AreAllFaults d f) where
     are_alone : AreAlone d
     are_alone = record {
       inside = are_inside;
-      none = λ i j h. (let o = h.order in let l = h.there in area.parts.alone i j (omega (arith, o, l)) h.there (λ e. omega (arith, o, e)) h.joined);
+      none = λ i j h. (let o = h.order in let l = h.there in
+          area.parts.alone i j (omega (arith, o, l)) h.there (λ e. omega (arith, o, e)) h.joined);
     }
 
     are_filled : AreFilled d
@@ -72,13 +79,21 @@ module _ (d : Plan) (f : Faults) (all : AreAllFaults d f) where
         none i left h =
             let x = empty_is_lost d i left h in
             let (Z, off) = lost_end d i left x in
-            elim (area.parts.filled (side_end (curve d i) left x.p x.q) Z off) [ inl o ↦ x.lost.inner o | inr k ↦ x.lost.alone k.0 k.1 k.2 ]
+            elim (area.parts.filled (side_end (curve d i) left x.p x.q) Z off)
+            [ inl o ↦ x.lost.inner o | inr k ↦ x.lost.alone k.0 k.1 k.2 ]
 
     no_cut : (i : ℕ) → Contains f.faces.cuts.items i → ⊥
-    no_cut i c = elim (cases_lt i (length d.curves)) [ inl l ↦ area.uncut i l (all.told.over.cut_is i c) | inr l ↦ no_such_cut d i l (all.told.over.cut_is i c) ]
+    no_cut i c =
+        elim (cases_lt i (length d.curves)) [
+          | inl l ↦ area.uncut i l (all.told.over.cut_is i c)
+          | inr l ↦ no_such_cut d i l (all.told.over.cut_is i c)
+        ]
 
     area_has_none : TellsNoFault f
-    area_has_none = record { filled = tells_filled d f all are_filled; cuts = no_entry f.faces.cuts.items no_cut }
+    area_has_none = record {
+      filled = tells_filled d f all are_filled;
+      cuts = no_entry f.faces.cuts.items no_cut;
+    }
 
   abbrev ProvedAreRight : Type 0
   ProvedAreRight =
@@ -102,9 +117,11 @@ module _ (d : Plan) (f : Faults) (all : AreAllFaults d f) where
 
   -- ---- where there is no fault the answer is a certificate
   no_first : (x : AreaFinding) → IsFirstOf f x → TellsNoFault f → ⊥
-  no_first _ (first.meeting m c) n = none_in f.meetings.items m n.filled.alone.inside.clear.meetings c
+  no_first _ (first.meeting m c) n =
+      none_in f.meetings.items m n.filled.alone.inside.clear.meetings c
   no_first _ (first.on o h b) n = no_begin f.on.items o n.filled.alone.inside.clear.on b
-  no_first _ (first.outside j h b) n = no_begin f.faces.outside.items j n.filled.alone.inside.outside b
+  no_first _ (first.outside j h b) n =
+      no_begin f.faces.outside.items j n.filled.alone.inside.outside b
   no_first _ (first.two p h b) n = none_in f.faces.shared.items p n.filled.alone.shared b.told
   no_first _ (first.empty s h b) n = no_begin f.faces.empty.items s n.filled.empty b
   no_first _ (first.cut i h b) n = no_begin f.faces.cuts.items i n.cuts b
@@ -112,7 +129,8 @@ module _ (d : Plan) (f : Faults) (all : AreAllFaults d f) where
   not_undecided : (t : ℤ) (i j : ℕ) → IsAnswerBy t d (Undecided i j) → ⊥
   not_undecided t i j (by.own h n) = absurd n
   not_undecided t i j (by.bent g os b clear u bo cg s h e) = not_unsettled d f all clear.pairs u
-  not_undecided t i j (by.undecided g os k l clear u bo ug br e) = not_unsettled d f all clear.pairs u
+  not_undecided t i j (by.undecided g os k l clear u bo ug br e) =
+      not_unsettled d f all clear.pairs u
 
   pub none_are_proved : (t : ℤ) (a : AreaAnswer) → IsAnswerBy t d a → TellsNoFault f → IsProved a
   none_are_proved t (Proved c) h n = tt

@@ -66,7 +66,8 @@ module _ (d : Plan) where
   there = place_point (curve d 0).from
 
   entered : Hits (curve d 0) here here
-  entered = (hits_alone (curve d 0) here there).1 (control_on (curve d 0) here there (inl (record { x = refl; y = refl })))
+  entered = (hits_alone (curve d 0) here there).1
+      (control_on (curve d 0) here there (inl (record { x = refl; y = refl })))
 
   opened : 0 < length d.curves → IsOpen d (bare d) out here
   opened some = record {
@@ -101,7 +102,8 @@ module _ (d : Plan) where
 
   pub one_face : (f : DrawingFaces) (any : Bool) → (any ≡ true → 0 < length d.curves)
       → (any ≡ false → length d.curves ≡ 0) → f.open.items ≡ any ∷ []
-      → f.points.items ≡ replicate (length d.points) (InFace 0) → f.curves.items ≡ replicate (length d.curves) None → HasFaces d (λ i. true) f
+      → f.points.items ≡ replicate (length d.points) (InFace 0)
+      → f.curves.items ≡ replicate (length d.curves) None → HasFaces d (λ i. true) f
   one_face f any some nothing opens points curves = (
     bare d,
     rest,
@@ -110,11 +112,17 @@ module _ (d : Plan) where
       places = subst (λ (k : ℕ). AreFacePlaces (bare d) k (λ n. here)) (sym count) places;
       closed = λ n l e i m. absurd (let k = nothing (sym (open_at n l) ∙ e) in omega (arith, m, k));
       broken = λ n l e. opened (some (sym (open_at n l) ∙ e));
-      point_count = ap (λ (xs : List PointPlace). length xs) points ∙ length-replicate (length d.points) (InFace 0);
-      points = λ j l. subst (λ (p : PointPlace). IsPointPlace d (bare d) out (face_count f) (λ n. here) j p) (sym (placed j)) (in_face j);
-      curve_count = ap (λ (xs : List (Option CurveFaces)). length xs) curves ∙ length-replicate (length d.curves) None;
+      point_count = ap (λ (xs : List PointPlace). length xs) points
+          ∙ length-replicate (length d.points) (InFace 0);
+      points = λ j l. subst
+          (λ (p : PointPlace). IsPointPlace d (bare d) out (face_count f) (λ n. here) j p)
+          (sym (placed j)) (in_face j);
+      curve_count = ap (λ (xs : List (Option CurveFaces)). length xs) curves
+          ∙ length-replicate (length d.curves) None;
       sides = λ n l k. absurd (k (let a = count in omega (arith, l, a)));
-      curves = λ i l. subst (λ (c : Option CurveFaces). AreCurveFaces d (bare d) out rest (face_count f) (λ n. here) i c) (sym (beside i)) refl;
+      curves = λ i l. subst
+          (λ (c : Option CurveFaces). AreCurveFaces d (bare d) out rest (face_count f)
+          (λ n. here) i c) (sym (beside i)) refl;
     },
   )
     where
@@ -129,13 +137,18 @@ module _ (d : Plan) where
           first (suc n) l = absurd (omega (arith, l))
 
       placed : (j : ℕ) → place_of f j ≡ InFace 0
-      placed j = ap (λ (xs : List PointPlace). slice_index_or xs j (InFace 0)) points ∙ replicated (length d.points) (InFace 0) j
+      placed j = ap (λ (xs : List PointPlace). slice_index_or xs j (InFace 0)) points
+          ∙ replicated (length d.points) (InFace 0) j
 
       in_face : (j : ℕ) → IsPointInFace d (bare d) (face_count f) (λ n. here) j 0
       in_face j = record {
         off = off (point (object d j));
-        in_face = record { there = omega (arith, count); joined = joined (point (object d j)) here (place_point (object d j)) there };
+        in_face = record {
+          there = omega (arith, count);
+          joined = joined (point (object d j)) here (place_point (object d j)) there;
+        };
       }
 
       beside : (i : ℕ) → faces_of f i ≡ None
-      beside i = ap (λ (xs : List (Option CurveFaces)). slice_index_or xs i None) curves ∙ replicated (length d.curves) None i
+      beside i = ap (λ (xs : List (Option CurveFaces)). slice_index_or xs i None) curves
+          ∙ replicated (length d.curves) None i

@@ -1,5 +1,7 @@
--- The face numbers of places in a run over a drawing of straights: of points with a position and of the ends of crossing segments.
--- A place has a number where it is that of its cell in the replay with each weight of the events and of some points and more.
+-- The face numbers of places in a run over a drawing of straights: of points with a position and of
+-- the ends of crossing segments.
+-- A place has a number where it is that of its cell in the replay with each weight of the events
+-- and of some points and more.
 use Rattle.std.proofs.Common.{◌≡◌, ◌↔◌, ℕ, ◌<◌, List, [], ◌∷◌, ◌++◌, length, pos, refl, inl, sym}
 use Rattle.std.proofs.Common.{◌∙◌, subst}
 use Rattle.plane.specs.declared.kinds.Point.{Point}
@@ -26,16 +28,20 @@ use Rattle.plane.proofs.ListLemmas.Lists.{has_back, has_front}
 use Rattle.plane.proofs.Turning.AnyWeight.{faces_to}
 
 -- the number of the cell of a place, with a weight of the events and of these points
-abbrev pub number_by : (e : Plan) (E : ℕ → Edge) (steps : List Step) → IsRunOf e E steps → (Half → ℕ) → List Point → Vector → ℕ
+abbrev pub number_by : (e : Plan) (E : ℕ → Edge) (steps : List Step) → IsRunOf e E steps
+    → (Half → ℕ) → List Point → Vector → ℕ
 number_by e E steps on face more z =
-    face_of (by.swept (pos 0) e E steps on more) face (sector (by.swept (pos 0) e E steps on more) z)
+    face_of (by.swept (pos 0) e E steps on more) face
+    (sector (by.swept (pos 0) e E steps on more) z)
 
-pub record HasNumber (e : Plan) (E : ℕ → Edge) (steps : List Step) (on : IsRunOf e E steps) (face : Half → ℕ) (z : Vector) (n : ℕ) : Type 0 where
+pub record HasNumber (e : Plan) (E : ℕ → Edge) (steps : List Step) (on : IsRunOf e E steps)
+    (face : Half → ℕ) (z : Vector) (n : ℕ) : Type 0 where
   pub base : List Point
   pub is : (more : List Point) → ((a : Point) → Has a base → Has a more)
       → number_by e E steps on face more z ≡ n
 
-module _ (e : Plan) (E : ℕ → Edge) (steps : List Step) (on : IsRunOf e E steps) (face : Half → ℕ) (faces : IsFaces (drawn (pos 0) e E steps) face) where
+module _ (e : Plan) (E : ℕ → Edge) (steps : List Step) (on : IsRunOf e E steps) (face : Half → ℕ)
+    (faces : IsFaces (drawn (pos 0) e E steps) face) where
   abbrev Numbered : Vector → ℕ → Type 0
   Numbered z n = HasNumber e E steps on face z n
 
@@ -44,35 +50,51 @@ module _ (e : Plan) (E : ℕ → Edge) (steps : List Step) (on : IsRunOf e E ste
     s = by.swept (pos 0) e E steps on more
 
     faces_there : IsFaces s face
-    faces_there = faces_to (pos 0) (by.chosen (pos 0) e E steps on more).weight (length e.curves) E steps face faces
+    faces_there =
+        faces_to (pos 0) (by.chosen (pos 0) e E steps on more).weight
+        (length e.curves) E steps face faces
 
     abbrev of_place : Vector → ℕ
     of_place z = face_of s face (sector s z)
 
     place_joined : (p q : Vector) → Place p → Place q → IsOff e p → IsOff e q
         → Joined e p q ↔ (of_place p ≡ of_place q)
-    place_joined = drawn_face e s (by.chosen_run (pos 0) e E steps on more) (by.chosen_law (pos 0) e E steps on more) (by.chosen_draws (pos 0) e E steps on more) face faces_there
+    place_joined =
+        drawn_face e s (by.chosen_run (pos 0) e E steps on more)
+        (by.chosen_law (pos 0) e E steps on more)
+        (by.chosen_draws (pos 0) e E steps on more) face faces_there
 
     place_outer : (p : Vector) → Place p → IsOff e p → IsOuter e p ↔ (of_place p ≡ 0)
-    place_outer = outer_face e s (by.chosen_run (pos 0) e E steps on more) (by.chosen_law (pos 0) e E steps on more) (by.chosen_draws (pos 0) e E steps on more) face faces_there (by.chosen (pos 0) e E steps on more).positive
+    place_outer =
+        outer_face e s (by.chosen_run (pos 0) e E steps on more)
+        (by.chosen_law (pos 0) e E steps on more)
+        (by.chosen_draws (pos 0) e E steps on more) face faces_there
+        (by.chosen (pos 0) e E steps on more).positive
 
     spot_face : (a : Point) (k i : ℕ) → Has a more → IsLocated (drawn (pos 0) e E steps) a k i
         → of_place (point a) ≡ face_of (drawn (pos 0) e E steps) face (position k i)
-    spot_face a k i h l = let q = (by.chosen_spot (pos 0) e E steps on more a k i h l).1 in subst (λ (c : Sector). of_place (point a) ≡ face_of s face c) q refl
+    spot_face a k i h l =
+        let q = (by.chosen_spot (pos 0) e E steps on more a k i h l).1 in
+        subst (λ (c : Sector). of_place (point a) ≡ face_of s face c) q refl
 
     told : (h : Half) (z : Vector) (c : Sector) → IsSector s c → Linked s (sector s z) c
         → Beside s h c → of_place z ≡ face h
     told h z c C l b =
         let run = by.chosen_run (pos 0) e E steps on more in
         let law = by.chosen_law (pos 0) e E steps on more in
-        linked_label s run law (numbers face) (faces_matched s run law face faces_there) (sector s z) c l ∙ beside_face s run law face faces_there h c C b
+        linked_label s run law (numbers face) (faces_matched s run law face faces_there)
+        (sector s z) c l ∙ beside_face s run law face faces_there h c C b
 
     sides : (i : ℕ) → i < length e.curves → (p q : Vector) → CrossesCurve e (E i) i p q
         → (of_place p ≡ face (over i)) × (of_place q ≡ face (under i))
     sides i l p q x =
-        let t = crossing_tells s (by.chosen_run (pos 0) e E steps on more) (by.chosen_law (pos 0) e E steps on more) i p q l
-        (crossing_edge e s (by.chosen_run (pos 0) e E steps on more) (by.chosen_draws (pos 0) e E steps on more) i l p q x) in
-        (told (over i) p t.above t.above_is t.above_linked t.above_beside, told (under i) q t.below t.below_is t.below_linked t.below_beside)
+        let t = crossing_tells s (by.chosen_run (pos 0) e E steps on more)
+        (by.chosen_law (pos 0) e E steps on more) i p q l
+        (crossing_edge e s (by.chosen_run (pos 0) e E steps on more)
+        (by.chosen_draws (pos 0) e E steps on more) i l p q x) in (
+          told (over i) p t.above t.above_is t.above_linked t.above_beside,
+          told (under i) q t.below t.below_is t.below_linked t.below_beside,
+        )
 
   -- ---- places with numbers
   pub numbers_joined : (p q : Vector) (m n : ℕ) → Place p → Place q → IsOff e p → IsOff e q
@@ -100,5 +122,9 @@ module _ (e : Plan) (E : ℕ → Edge) (steps : List Step) (on : IsRunOf e E ste
   below_number i p q l x = record { base = []; is = λ more h. (sides more i l p q x).1 }
 
   pub point_number : (a : Point) (k i : ℕ) → IsLocated (drawn (pos 0) e E steps) a k i
-      → HasNumber e E steps on face (point a) (face_of (drawn (pos 0) e E steps) face (position k i))
-  point_number a k i at_a = record { base = a ∷ []; is = λ more h. spot_face more a k i (h a (inl refl)) at_a }
+      → HasNumber e E steps on face (point a)
+      (face_of (drawn (pos 0) e E steps) face (position k i))
+  point_number a k i at_a = record {
+    base = a ∷ [];
+    is = λ more h. spot_face more a k i (h a (inl refl)) at_a;
+  }

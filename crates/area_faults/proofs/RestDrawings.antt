@@ -1,4 +1,5 @@
--- The rest of a drawing of straights without some curves, in whole and in half units, by the numbers of those that stay.
+-- The rest of a drawing of straights without some curves, in whole and in half units, by the
+-- numbers of those that stay.
 use Rattle.std.proofs.Common.{◌≡◌, ◌⊎◌, ◌*ℤ◌, [], ◌∷◌, Bool, true, false, ℕ, ◌<◌, List, length}
 use Rattle.std.proofs.Common.{slice_index, ℤ, pos, ◌≤ℤ◌, arith, refl, inl, inr, sym, ◌∙◌, subst, ap}
 use Rattle.std.proofs.Common.{All}
@@ -40,10 +41,14 @@ half_control : (c : Curve) (z : Vector) → IsControl c (halved z) → IsControl
 half_control c z h = elim h [ inl s ↦ inl (there c.from s) | inr s ↦ inr (there c.to s) ]
   where
     there : (p : Point) → Same (halved z) (point p) → Same z (point (twice p))
-    there p s = record { x = (let a = s.x in let b = out p.x z.n in omega (arith, ints, a, b)); y = (let a = s.y in let b = out p.y z.n in omega (arith, ints, a, b)) }
+    there p s = record {
+      x = (let a = s.x in let b = out p.x z.n in omega (arith, ints, a, b));
+      y = (let a = s.y in let b = out p.y z.n in omega (arith, ints, a, b));
+    }
       where
         out : (a n : ℤ) → a *ℤ (pos 2 *ℤ n) ≡ (pos 2 *ℤ a) *ℤ n
-        out a n = ring (times (at 0) (times (num (pos 2)) (at 1))) (times (times (num (pos 2)) (at 0)) (at 1)) (vars (a ∷ n ∷ [])) refl
+        out a n = ring (times (at 0) (times (num (pos 2)) (at 1)))
+            (times (times (num (pos 2)) (at 0)) (at 1)) (vars (a ∷ n ∷ [])) refl
 
 pub whole_meet : (c f : Curve) → StraightsMeet (twice_curve c) (twice_curve f) → StraightsMeet c f
 whole_meet c f m = record {
@@ -67,10 +72,12 @@ meet_back c f m = record {
   no_control = λ both. m.no_control (both.1, both.0);
 }
 
-module _ (d : Plan) (out : ℕ → Bool) (kept : List ℕ) (known : (m : ℕ) → m < length kept → slice_index kept m < length d.curves)
+module _ (d : Plan) (out : ℕ → Bool) (kept : List ℕ) (known : (m : ℕ) → m < length kept
+    → slice_index kept m < length d.curves)
     (stays : (m : ℕ) → m < length kept → out (slice_index kept m) ≡ false)
     (rising : (m n : ℕ) → m < n → n < length kept → slice_index kept m < slice_index kept n)
-    (whole : (i : ℕ) → i < length d.curves → out i ≡ false → (m : ℕ) × (m < length kept) × (slice_index kept m ≡ i)) where
+    (whole : (i : ℕ) → i < length d.curves → out i ≡ false
+    → (m : ℕ) × (m < length kept) × (slice_index kept m ≡ i)) where
   abbrev pub r : Plan
   r = rest_plan d kept
 
@@ -109,7 +116,8 @@ module _ (d : Plan) (out : ℕ → Bool) (kept : List ℕ) (known : (m : ℕ) �
     once = λ k l m n q. once k l (inside k m) (inside l n) q;
     whole = λ i l. elim (by_mark (out i)) [
       | inl q ↦ inl q
-      | inr q ↦ inr (let (m, n, s) = whole i l q in (m, (let z = rest_count in omega (arith, n, z)), s))
+      | inr q ↦ inr (let (m, n, s) = whole i l q in
+          (m, (let z = rest_count in omega (arith, n, z)), s))
     ];
     points = refl;
   }
@@ -117,7 +125,8 @@ module _ (d : Plan) (out : ℕ → Bool) (kept : List ℕ) (known : (m : ℕ) �
   module _ (straights : (i : ℕ) → i < length d.curves → (curve d i).kind ≡ kind.Straight) where
     pub rest_straights : (k : ℕ) → k < length (rest_plan d kept).curves
         → (curve (rest_plan d kept) k).kind ≡ kind.Straight
-    rest_straights k l = ap (λ (c : Curve). c.kind) (rest_curve k l) ∙ straights (slice_index kept k) (known k (inside k l))
+    rest_straights k l = ap (λ (c : Curve). c.kind) (rest_curve k l)
+        ∙ straights (slice_index kept k) (known k (inside k l))
 
     module _ (pairs : (i j : ℕ) → IsBadPair d i j → (out i ≡ true) × (out j ≡ true)) where
       -- a curve that stays meets no other badly
@@ -126,9 +135,16 @@ module _ (d : Plan) (out : ℕ → Bool) (kept : List ℕ) (known : (m : ℕ) �
       never i m l n differ meet =
           let j = slice_index kept m in
           elim (cases_lt i j) [
-            | inl b ↦ true_false (out j) (pairs i j (record { order = b; there = known m n; bad = straights_meet meet })).1 (stays m n)
+            | inl b ↦ true_false (out j)
+                (pairs i j (record { order = b; there = known m n; bad = straights_meet meet })).1
+                (stays m n)
             | inr b ↦ elim (cases_lt j i) [
-              | inl c ↦ true_false (out j) (pairs j i (record { order = c; there = l; bad = straights_meet (meet_back (curve d i) (curve d j) meet) })).0 (stays m n)
+              | inl c ↦ true_false (out j)
+                  (pairs j i (record {
+                    order = c;
+                    there = l;
+                    bad = straights_meet (meet_back (curve d i) (curve d j) meet);
+                  })).0 (stays m n)
               | inr c ↦ differ (omega (arith, b, c))
             ]
           ]
@@ -139,7 +155,8 @@ module _ (d : Plan) (out : ℕ → Bool) (kept : List ℕ) (known : (m : ℕ) �
         λ k m. (
           rest_straights k m,
           λ meet.
-              never i k l (inside k m) (λ q. true_false (out i) left (ap out q ∙ stays k (inside k m)))
+              never i k l (inside k m)
+              (λ q. true_false (out i) left (ap out q ∙ stays k (inside k m)))
               (subst (λ (c : Curve). StraightsMeet (curve d i) c) (rest_curve k m) meet),
         ),
       )
@@ -152,11 +169,16 @@ module _ (d : Plan) (out : ℕ → Bool) (kept : List ℕ) (known : (m : ℕ) �
           let rb : b < length r.curves = (let z = rest_count in omega (arith, m, z)) in
           let ea : a < length e.curves = (let z = (is_doubled r).count in omega (arith, ra, z)) in
           let eb : b < length e.curves = (let z = (is_doubled r).count in omega (arith, rb, z)) in
-          let meet = (bad_edges_is (E a) (E b) (curve e a) (curve e b) (edges.edge a ea) (edges.edge b eb) (edges.straight a ea) (edges.straight b eb)).0 bad in
-          let turned = subst (λ (c : Curve). StraightsMeet c (twice_curve (curve r b))) ((is_doubled r).curves a ra) (subst (λ (c : Curve). StraightsMeet (curve e a) c) ((is_doubled r).curves b rb) meet) in
+          let meet = (bad_edges_is (E a) (E b) (curve e a) (curve e b) (edges.edge a ea)
+          (edges.edge b eb) (edges.straight a ea) (edges.straight b eb)).0 bad in
+          let turned = subst (λ (c : Curve). StraightsMeet c (twice_curve (curve r b)))
+          ((is_doubled r).curves a ra)
+          (subst (λ (c : Curve). StraightsMeet (curve e a) c)
+          ((is_doubled r).curves b rb) meet) in
           let there = whole_meet (curve r a) (curve r b) turned in
           never (slice_index kept a) b (known a l) m (λ q. differ (once a b l m q))
-          (subst (λ (c : Curve). StraightsMeet c (curve d (slice_index kept b))) (rest_curve a ra) (subst (λ (c : Curve). StraightsMeet (curve r a) c) (rest_curve b rb) there))
+          (subst (λ (c : Curve). StraightsMeet c (curve d (slice_index kept b))) (rest_curve a ra)
+          (subst (λ (c : Curve). StraightsMeet (curve r a) c) (rest_curve b rb) there))
 
   -- ---- the window
   module _ (low high : Point) (drawn : All (λ (c : Curve). IsDrawn low high c) d.curves) where
@@ -170,6 +192,8 @@ module _ (d : Plan) (out : ℕ → Bool) (kept : List ℕ) (known : (m : ℕ) �
         → IsRightOf low.x (rest_plan d kept)
     is_right straights = record {
       straight = rest_straights straights;
-      from = λ k l. subst (λ (c : Curve). low.x ≤ℤ c.from.x) (sym (rest_curve k l)) (is_drawn (slice_index kept k) (known k (inside k l))).from.left;
-      to = λ k l. subst (λ (c : Curve). low.x ≤ℤ c.to.x) (sym (rest_curve k l)) (is_drawn (slice_index kept k) (known k (inside k l))).to.left;
+      from = λ k l. subst (λ (c : Curve). low.x ≤ℤ c.from.x) (sym (rest_curve k l))
+          (is_drawn (slice_index kept k) (known k (inside k l))).from.left;
+      to = λ k l. subst (λ (c : Curve). low.x ≤ℤ c.to.x) (sym (rest_curve k l))
+          (is_drawn (slice_index kept k) (known k (inside k l))).to.left;
     }

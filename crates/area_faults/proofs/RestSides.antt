@@ -1,4 +1,5 @@
--- The sides of the straights of the rest, by their face numbers in half units: some segment crosses each straight, and each that crosses it has its ends in the faces of its sides.
+-- The sides of the straights of the rest, by their face numbers in half units: some segment crosses
+-- each straight, and each that crosses it has its ends in the faces of its sides.
 use Rattle.std.proofs.Common.{◌≡◌, ℕ, ◌<◌, length, List, pos, sym, subst}
 use Rattle.plane.specs.declared.kinds.Curve.{Curve}
 use Rattle.plane.specs.declared.kinds.CurveKind.TheVariants as kind
@@ -21,20 +22,26 @@ use Rattle.area_faults.proofs.DoubledCrossings.{doubled_crossing}
 use Rattle.area_faults.proofs.PlaceNumbers.{above_number, below_number}
 use Rattle.area_faults.proofs.RestNumbers.{IsAt, near, halved_at}
 
--- A segment crosses straight k of the rest, as seen along this half of its edge, at none of its ends; its ends have the numbers of the straight's two sides.
-pub record IsCrossedBy (r e : Plan) (E : ℕ → Edge) (steps : List Step) (on : IsRunOf e E steps) (face : Half → ℕ) (k : ℕ) (g : Edge) (p q : Vector) : Type 0 where
+-- A segment crosses straight k of the rest, as seen along this half of its edge, at none of its
+-- ends; its ends have the numbers of the straight's two sides.
+pub record IsCrossedBy (r e : Plan) (E : ℕ → Edge) (steps : List Step) (on : IsRunOf e E steps)
+    (face : Half → ℕ) (k : ℕ) (g : Edge) (p q : Vector) : Type 0 where
   pub crossing : CrossesCurve r g k p q
   pub misses : MissesEnds (curve r k) p q
   pub above : IsAt r e E steps on face p (face (over k))
   pub below : IsAt r e E steps on face q (face (under k))
 
-module _ (r e : Plan) (double : IsDoubled r e) (straights : (k : ℕ) → k < length r.curves → (curve r k).kind ≡ kind.Straight)
-    (E : ℕ → Edge) (steps : List Step) (on : IsRunOf e E steps) (face : Half → ℕ) (faces : IsFaces (drawn (pos 0) e E steps) face) (k : ℕ) (l : k < length r.curves) where
+module _ (r e : Plan) (double : IsDoubled r e) (straights : (k : ℕ) → k < length r.curves
+    → (curve r k).kind ≡ kind.Straight)
+    (E : ℕ → Edge) (steps : List Step) (on : IsRunOf e E steps) (face : Half → ℕ)
+    (faces : IsFaces (drawn (pos 0) e E steps) face) (k : ℕ) (l : k < length r.curves) where
   there : k < length e.curves
   there = subst (λ (m : ℕ). k < m) (sym double.count) l
 
   pub half_of_edge : (g : Edge) × IsHalfEdge g (E k) (curve r k)
-  half_of_edge = half_edge (E k) (curve r k) (subst (λ (c : Curve). IsEdgeOf (E k) c) (double.curves k l) (on.edges.edge k there))
+  half_of_edge =
+      half_edge (E k) (curve r k)
+      (subst (λ (c : Curve). IsEdgeOf (E k) c) (double.curves k l) (on.edges.edge k there))
 
   pub some_crossing : (g : Edge) → IsHalfEdge g (E k) (curve r k)
       → (p : Vector) × (q : Vector) × IsCrossedBy r e E steps on face k g p q
@@ -45,8 +52,10 @@ module _ (r e : Plan) (double : IsDoubled r e) (straights : (k : ℕ) → k < le
         record {
           crossing = halved_crossing r e double straights k l g (E k) half p q x;
           misses = halved_misses r e double straights k l g (E k) half p q x miss;
-          above = halved_at r e double E steps on face faces p (face (over k)) x.p_place x.p_off (above_number e E steps on face faces k p q there x);
-          below = halved_at r e double E steps on face faces q (face (under k)) x.q_place x.q_off (below_number e E steps on face faces k p q there x);
+          above = halved_at r e double E steps on face faces p (face (over k)) x.p_place x.p_off
+              (above_number e E steps on face faces k p q there x);
+          below = halved_at r e double E steps on face faces q (face (under k)) x.q_place x.q_off
+              (below_number e E steps on face faces k p q there x);
         },
       )
 
@@ -55,6 +64,10 @@ module _ (r e : Plan) (double : IsDoubled r e) (straights : (k : ℕ) → k < le
       → IsAt r e E steps on face p (face (over k)) × IsAt r e E steps on face q (face (under k))
   any_crossing g half p q x =
       let y = doubled_crossing r e double straights k l g (E k) half p q x in (
-        near (doubled p) y.p_place y.p_off (above_number e E steps on face faces k (doubled p) (doubled q) there y) (joined_self e (doubled p) y.p_place y.p_off),
-        near (doubled q) y.q_place y.q_off (below_number e E steps on face faces k (doubled p) (doubled q) there y) (joined_self e (doubled q) y.q_place y.q_off),
+        near (doubled p) y.p_place y.p_off
+            (above_number e E steps on face faces k (doubled p) (doubled q) there y)
+            (joined_self e (doubled p) y.p_place y.p_off),
+        near (doubled q) y.q_place y.q_off
+            (below_number e E steps on face faces k (doubled p) (doubled q) there y)
+            (joined_self e (doubled q) y.q_place y.q_off),
       )

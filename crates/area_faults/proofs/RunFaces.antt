@@ -1,4 +1,5 @@
--- The faces of a mesh of a run: half-edges have numbers below their count, each of which is some half-edge's or 0.
+-- The faces of a mesh of a run: half-edges have numbers below their count, each of which is some
+-- half-edge's or 0.
 use Rattle.std.proofs.Common.{◌≡◌, ℕ, zero, suc, ◌*◌, ◌<◌, ◌≤◌, List, [], ◌∷◌, ◌++◌, length, max}
 use Rattle.std.proofs.Common.{take, get_or, slice_index, ℤ, arith, refl, inl, inr, sym, ◌∙◌, subst}
 use Rattle.std.proofs.Common.{ap, add-one}
@@ -45,9 +46,11 @@ module _ (ns : List ℕ) (numbered : (h : ℕ) → h < length ns → IsNumbered 
   given zero n l p q = absurd (omega (arith, p, q))
   given (suc h) n l p q =
       let b : h < length ns = omega (arith, l) in
-      let more = ap (λ (k : ℕ). greatest (take k ns)) (sym (add-one h)) ∙ ap greatest (take_more ns h 0 b) ∙ greatest_more (take h ns) (get_or ns h 0) in
+      let more = ap (λ (k : ℕ). greatest (take k ns)) (sym (add-one h))
+      ∙ ap greatest (take_more ns h 0 b) ∙ greatest_more (take h ns) (get_or ns h 0) in
       elim (numbered h b) [
-        | inl old ↦ given h n (omega (arith, l)) p (let k = at_most old in omega (arith, q, more, k))
+        | inl old ↦ given h n (omega (arith, l)) p (let k = at_most old in
+            omega (arith, q, more, k))
         | inr new ↦ elim (cases_lt (greatest (take h ns)) n) [
           | inl g ↦ (h, b, omega (arith, g, q, more, new))
           | inr g ↦ given h n (omega (arith, l)) p g
@@ -60,11 +63,15 @@ module _ (ns : List ℕ) (numbered : (h : ℕ) → h < length ns → IsNumbered 
 
   pub all_given : (n : ℕ) → 0 < n → n < suc (greatest ns)
       → (i : ℕ) × (i < length ns) × (slice_index ns i ≡ n)
-  all_given n p q = given (length ns) n (omega arith) p (let e = ap greatest (take_all (length ns) ns (omega arith)) in omega (arith, q, e))
+  all_given n p q =
+      given (length ns) n (omega arith) p
+      (let e = ap greatest (take_all (length ns) ns (omega arith)) in omega (arith, q, e))
 
 -- ---- the faces of a run
-module _ (m : ℕ) (vs : List Move) (fit : Fit [] vs) (edges : HasEdges m (steps_from [] vs)) (mesh : HalfEdges)
-    (turned : (E : ℕ → Edge) → Run m E (steps_from [] vs) → IsTurned m E (steps_from [] vs) mesh (length (steps_from [] vs))) where
+module _ (m : ℕ) (vs : List Move) (fit : Fit [] vs) (edges : HasEdges m (steps_from [] vs))
+    (mesh : HalfEdges)
+    (turned : (E : ℕ → Edge) → Run m E (steps_from [] vs)
+    → IsTurned m E (steps_from [] vs) mesh (length (steps_from [] vs))) where
   count : size mesh ≡ 2 * m
   count = (turned edges.0 edges.1).count
 
@@ -75,10 +82,15 @@ module _ (m : ℕ) (vs : List Move) (fit : Fit [] vs) (edges : HasEdges m (steps
       let z = count in
       omega (arith, k, z)
 
-  pub run_faces : ((w : ℤ) (m : ℕ) (E : ℕ → Edge) (vs : List Move) (mesh : HalfEdges) (faces : List ℕ)
-      → Run m E (steps_from [] vs) → Fit [] vs → IsTurned m E (steps_from [] vs) mesh (length (steps_from [] vs))
-      → AreKnown (size mesh) (closed_gaps vs) → AreFaces mesh (closed_gaps vs) faces → IsFaces (replay w m E (steps_from [] vs)) (λ h. slice_index faces (number h)))
-      → (cells : List Gap) → cells ≡ closed_gaps vs → (l : Labelled) → l.mesh ≡ with_faces mesh l.mesh.face → AreFaces mesh cells l.mesh.face → l.count ≡ suc (greatest l.mesh.face) → AreRunFaces m vs l
+  pub run_faces : ((w : ℤ) (m : ℕ) (E : ℕ → Edge) (vs : List Move) (mesh : HalfEdges)
+      (faces : List ℕ)
+      → Run m E (steps_from [] vs) → Fit [] vs
+      → IsTurned m E (steps_from [] vs) mesh (length (steps_from [] vs))
+      → AreKnown (size mesh) (closed_gaps vs) → AreFaces mesh (closed_gaps vs) faces
+      → IsFaces (replay w m E (steps_from [] vs)) (λ h. slice_index faces (number h)))
+      → (cells : List Gap) → cells ≡ closed_gaps vs → (l : Labelled)
+      → l.mesh ≡ with_faces mesh l.mesh.face → AreFaces mesh cells l.mesh.face
+      → l.count ≡ suc (greatest l.mesh.face) → AreRunFaces m vs l
   run_faces law cells same l unchanged faces n =
       let z = count in
       let s : size l.mesh ≡ size mesh = ap size unchanged in
@@ -86,10 +98,14 @@ module _ (m : ℕ) (vs : List Move) (fit : Fit [] vs) (edges : HasEdges m (steps
       record {
         size_is = s ∙ z;
         entries = f ∙ sym s;
-        faces = λ w E run. law w m E vs mesh l.mesh.face run fit (turned E run) (known_cells (closed_gaps vs) refl) (subst (λ (gs : List Gap). AreFaces mesh gs l.mesh.face) same faces);
-        below = λ h k. let g = greatest_at l.mesh.face h (omega (arith, k, s, f)) in omega (arith, g, n);
+        faces = λ w E run. law w m E vs mesh l.mesh.face run fit (turned E run)
+            (known_cells (closed_gaps vs) refl)
+            (subst (λ (gs : List Gap). AreFaces mesh gs l.mesh.face) same faces);
+        below = λ h k. let g = greatest_at l.mesh.face h (omega (arith, k, s, f)) in
+            omega (arith, g, n);
         some = omega (arith, n);
         used = λ i p q.
-            let (h, k, e) = all_given l.mesh.face (λ h k. faces.numbered h (omega (arith, k, f))) i p (omega (arith, q, n)) in
+            let (h, k, e) = all_given l.mesh.face
+            (λ h k. faces.numbered h (omega (arith, k, f))) i p (omega (arith, q, n)) in
             (h, omega (arith, k, s, f), e);
       }

@@ -11,7 +11,8 @@ use Rattle.fault_lists.specs.declared.faces.DrawingFaces.{DrawingFaces}
 use Rattle.fault_lists.specs.declared.faces.PointPlace.{PointPlace}
 use Rattle.fault_lists.specs.declared.faces.PointPlace.TheVariants.{InFace, OnCurve}
 
-module _ (d : Plan) (out other : ℕ → Bool) (same : (i : ℕ) → i < length d.curves → out i ≡ other i) where
+module _ (d : Plan) (out other : ℕ → Bool) (same : (i : ℕ) → i < length d.curves
+    → out i ≡ other i) where
   -- what is left out of the one is left out of the other
   over : (i : ℕ) → i < length d.curves → out i ≡ true → other i ≡ true
   over i l o = sym (same i l) ∙ o
@@ -63,7 +64,8 @@ module _ (d : Plan) (out other : ℕ → Bool) (same : (i : ℕ) → i < length 
       point_over j (OnCurve i) x = record {
         on = x.on;
         kept = λ o. x.kept (back i x.on.curve_there o);
-        least = λ k l kept on. x.least k l (λ o. kept (over k (let a = x.on.curve_there in omega (arith, l, a)) o)) on;
+        least = λ k l kept on. x.least k l
+            (λ o. kept (over k (let a = x.on.curve_there in omega (arith, l, a)) o)) on;
       }
       point_over j (InFace n) x = x
 
@@ -83,7 +85,8 @@ module _ (d : Plan) (out other : ℕ → Bool) (same : (i : ℕ) → i < length 
           → AreCurveFaces d r out rest count at i f → AreCurveFaces d r other rest_over count at i f
       unfolding rest_over
       curve_over i None l o = over i l o
-      curve_over i (Some f) l x = ((λ o. x.0 (back i l o)), (x.1.0, x.1.1, x.1.2, faces_over x.1.0 f x.1.3))
+      curve_over i (Some f) l x =
+          ((λ o. x.0 (back i l o)), (x.1.0, x.1.1, x.1.2, faces_over x.1.0 f x.1.3))
 
     drawing_over : (f : DrawingFaces) → AreDrawingFaces d r out rest f
         → AreDrawingFaces d r other rest_over f

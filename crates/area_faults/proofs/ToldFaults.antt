@@ -26,44 +26,60 @@ pub met_below : (d : Plan) (ms lent : List MeetingAt) (n : ℕ) → lent ≡ ms 
     → AreMeetings d ms
     → (k : ℕ) (x : MeetingAt) → k < length lent → AreBelow n (get_or lent k x)
 met_below d ms lent n e f a k x l =
-    let p = a.bad (get_or lent k x) (subst (λ (xs : List MeetingAt). Contains xs (get_or lent k x)) e (Contains-get_or lent k x l)) in
+    let p = a.bad (get_or lent k x)
+    (subst (λ (xs : List MeetingAt). Contains xs (get_or lent k x)) e
+    (Contains-get_or lent k x l)) in
     let o = p.order in
     let t = p.there in
     record { first = omega (arith, o, t, f); second = omega (arith, t, f) }
 
 pub both_out : (d : Plan) (ms lent : List MeetingAt) (n : ℕ) (marks seen : List Bool) → lent ≡ ms
     → n ≡ length d.curves → seen ≡ marks → AreMeetings d ms
-    → AreLeftOut n lent false (mark_of marks) → (i j : ℕ) → IsBadPair d i j → (mark_of seen i ≡ true) × (mark_of seen j ≡ true)
+    → AreLeftOut n lent false (mark_of marks) → (i j : ℕ) → IsBadPair d i j
+    → (mark_of seen i ≡ true) × (mark_of seen j ≡ true)
 both_out d ms lent n marks seen e f g a out i j p =
     let (m, c, q) = a.all i j p in
     let o = p.order in
     let t = p.there in
     let b = subst (λ (xs : List MeetingAt). Contains xs m) (sym e) c in (
-      ap (λ (bs : List Bool). mark_of bs i) g ∙ (out i (omega (arith, o, t, f))).1 (inl (m, b, inl q.0)),
-      ap (λ (bs : List Bool). mark_of bs j) g ∙ (out j (omega (arith, t, f))).1 (inl (m, b, inr q.1)),
+      ap (λ (bs : List Bool). mark_of bs i) g
+          ∙ (out i (omega (arith, o, t, f))).1 (inl (m, b, inl q.0)),
+      ap (λ (bs : List Bool). mark_of bs j) g
+          ∙ (out j (omega (arith, t, f))).1 (inl (m, b, inr q.1)),
     )
 
 pub out_of_curves : (d : Plan) (ms lent : List MeetingAt) (n : ℕ) (marks : List Bool) → lent ≡ ms
     → n ≡ length d.curves → AreLeftOut n lent false (mark_of marks)
     → AreLeftOut (length d.curves) ms false (mark_of marks)
-out_of_curves d ms lent n marks e f h = subst (λ (k : ℕ). AreLeftOut k ms false (mark_of marks)) f (subst (λ (xs : List MeetingAt). AreLeftOut n xs false (mark_of marks)) e h)
+out_of_curves d ms lent n marks e f h =
+    subst (λ (k : ℕ). AreLeftOut k ms false (mark_of marks)) f
+    (subst (λ (xs : List MeetingAt). AreLeftOut n xs false (mark_of marks)) e h)
 
 pub some_of_all : (d : Plan) (ms : List MeetingAt) → AreMeetings d ms → AreSomeMeetings d ms
-some_of_all d ms a = record { each = λ m c. record { bad = a.bad m c; near = a.near m c }; rise = a.rise }
+some_of_all d ms a = record {
+  each = λ m c. record { bad = a.bad m c; near = a.near m c };
+  rise = a.rise;
+}
 
 -- ---- pairs of a point and a curve
 pub points_below : (d : Plan) (marks : List Bool) (pairs lent : List OnAt) (n : ℕ) → lent ≡ pairs
     → n ≡ length d.points → ArePairsOn d marks pairs
     → (k : ℕ) (x : OnAt) → k < length lent → HasPointBelow n (get_or lent k x)
 points_below d marks pairs lent n e f a k x l =
-    let t = (a.on (get_or lent k x) (subst (λ (xs : List OnAt). Contains xs (get_or lent k x)) e (Contains-get_or lent k x l))).on.point_there in
+    let t = (a.on (get_or lent k x)
+    (subst (λ (xs : List OnAt). Contains xs (get_or lent k x)) e
+    (Contains-get_or lent k x l))).on.point_there in
     omega (arith, t, f)
 
 pub pairs_for : (d : Plan) (marks seen : List Bool) (pairs lent : List OnAt) → seen ≡ marks
     → lent ≡ pairs → ArePairsOn d seen pairs → ArePairsFor d (mark_of marks) lent
 pairs_for d marks seen pairs lent e f a = record {
   lie = λ o c. (a.on o (subst (λ (xs : List OnAt). Contains xs o) f c)).on;
-  all = λ j i on m. subst (λ (xs : List OnAt). Contains xs (record { point = j; curve = i })) (sym f) (a.all j i (record { on = on; mark_is = ap (λ (bs : List Bool). mark_of bs i) e ∙ m }));
+  all = λ j i on m. subst (λ (xs : List OnAt). Contains xs (record { point = j; curve = i }))
+      (sym f) (a.all j i (record {
+        on = on;
+        mark_is = ap (λ (bs : List Bool). mark_of bs i) e ∙ m;
+      }));
 }
 
 pub pairs_for_all : (d : Plan) (marks seen : List Bool) (pairs lent : List OnAt) (n : ℕ)
@@ -71,8 +87,13 @@ pub pairs_for_all : (d : Plan) (marks seen : List Bool) (pairs lent : List OnAt)
     → ArePairsOn d seen pairs → ArePairsFor d (λ i. true) lent
 pairs_for_all d marks seen pairs lent n e f g every a = record {
   lie = λ o c. (a.on o (subst (λ (xs : List OnAt). Contains xs o) f c)).on;
-  all = λ j i on m. subst (λ (xs : List OnAt). Contains xs (record { point = j; curve = i })) (sym f)
-      (a.all j i (record { on = on; mark_is = ap (λ (bs : List Bool). mark_of bs i) e ∙ every i (let t = on.curve_there in omega (arith, t, g)) }));
+  all = λ j i on m. subst (λ (xs : List OnAt). Contains xs (record { point = j; curve = i }))
+      (sym f)
+      (a.all j i (record {
+        on = on;
+        mark_is = ap (λ (bs : List Bool). mark_of bs i) e
+            ∙ every i (let t = on.curve_there in omega (arith, t, g));
+      }));
 }
 
 pub no_pairs : (d : Plan) (pairs : List OnAt) → pairs ≡ [] → ArePairsFor d (λ i. false) pairs
@@ -90,7 +111,13 @@ all_out d ms i l = ((λ e. inr refl), (λ e. refl))
 
 pub none_out : (d : Plan) (ms : List MeetingAt) → ms ≡ []
     → AreLeftOut (length d.curves) ms false (λ i. false)
-none_out d ms e i l = ((λ q. clash q), (λ q. elim q [ inl m ↦ absurd (none m.0 (subst (λ (xs : List MeetingAt). Contains xs m.0) e m.1)) | inr f ↦ clash f ]))
+none_out d ms e i l = (
+  (λ q. clash q),
+  (λ q. elim q [
+    | inl m ↦ absurd (none m.0 (subst (λ (xs : List MeetingAt). Contains xs m.0) e m.1))
+    | inr f ↦ clash f
+  ]),
+)
   where
     none : (m : MeetingAt) → Contains [] m → ⊥
     none m (k, h, q) = omega (arith, h)
@@ -118,7 +145,14 @@ StraightsAreSettled =
 -- straights of which no two meet badly
 pub settled_straights : StraightsAreSettled → (d : Plan) (ms : List MeetingAt) → AreStraights d
     → AreMeetings d ms → ms ≡ [] → IsSettled d
-settled_straights law d ms s a e = (0, record { low = omega arith; settled = law d s none; least = λ l m. absurd (omega (arith, m)) })
+settled_straights law d ms s a e = (
+  0,
+  record {
+    low = omega arith;
+    settled = law d s none;
+    least = λ l m. absurd (omega (arith, m));
+  },
+)
   where
     no_one : (m : MeetingAt) → Contains [] m → ⊥
     no_one m (k, l, q) = omega (arith, l)

@@ -47,7 +47,8 @@ pub record IsLostBeside (d : Plan) (i : ℕ) (left : Bool) : Type 0 where
 pub empty_is_lost : (d : Plan) (i : ℕ) (left : Bool) → IsEmptySide d i left → IsLostBeside d i left
 empty_is_lost d i left (straight p q is x lost) =
     let h : CrossesKind (curve d i).kind d i p q × IsLost d (side_end (curve d i) left p q) =
-    subst (λ (k : CurveKind). CrossesKind k d i p q × IsLost d (end_on (is_first_kind k (curve d i) left) p q)) (sym is.kind) (
+    subst (λ (k : CurveKind). CrossesKind k d i p q
+    × IsLost d (end_on (is_first_kind k (curve d i) left) p q)) (sym is.kind) (
       record {
         p_place = x.p_place;
         q_place = x.q_place;
@@ -63,7 +64,8 @@ empty_is_lost d i left (straight p q is x lost) =
     record { there = is.there; p = p; q = q; crossing = h.0; lost = h.1 }
 empty_is_lost d i left (half_arc p q is x lost) =
     let h : CrossesKind (curve d i).kind d i p q × IsLost d (side_end (curve d i) left p q) =
-    subst (λ (k : CurveKind). CrossesKind k d i p q × IsLost d (end_on (is_first_kind k (curve d i) left) p q)) (sym is.kind) (x, lost) in
+    subst (λ (k : CurveKind). CrossesKind k d i p q
+    × IsLost d (end_on (is_first_kind k (curve d i) left) p q)) (sym is.kind) (x, lost) in
     record { there = is.there; p = p; q = q; crossing = h.0; lost = h.1 }
 
 pub lost_is_empty : (d : Plan) (i : ℕ) (left : Bool) → IsLostBeside d i left → IsEmptySide d i left
@@ -89,9 +91,11 @@ pub lost_end : (d : Plan) (i : ℕ) (left : Bool) (h : IsLostBeside d i left)
     → Place (side_end (curve d i) left h.p h.q) × IsOff d (side_end (curve d i) left h.p h.q)
 lost_end d i left h =
     let (P, Q, p_off, q_off) = ends_off (curve d i).kind d i h.p h.q h.crossing in
-    one_of (λ v. Place v × IsOff d v) (is_first_kind (curve d i).kind (curve d i) left) h.p h.q (P, p_off) (Q, q_off)
+    one_of (λ v. Place v × IsOff d v) (is_first_kind (curve d i).kind (curve d i) left) h.p h.q
+    (P, p_off) (Q, q_off)
 
-module _ (d r : Plan) (out : ℕ → Bool) (rest : IsRestOf d r out) (kept : (i : ℕ) → i < length d.curves → out i ≡ true → ⊥) where
+module _ (d r : Plan) (out : ℕ → Bool) (rest : IsRestOf d r out) (kept : (i : ℕ)
+    → i < length d.curves → out i ≡ true → ⊥) where
   same : (i k : ℕ) → k < length r.curves → rest.number k ≡ i → curve d i ≡ curve r k
   same i k l e = ap (λ (n : ℕ). curve d n) (sym e) ∙ rest.is k l
 
@@ -112,7 +116,8 @@ module _ (d r : Plan) (out : ℕ → Bool) (rest : IsRestOf d r out) (kept : (i 
   -- what crosses a curve of the rest crosses it in the drawing
   pub whole_crosses : (k : ℕ) (p q : Vector) → k < length r.curves → CrossesOne r k p q
       → CrossesOne d (rest.number k) p q
-  whole_crosses k p q l x = subst (λ t. CrossesKind t d i p q) (ap (λ (c : Curve). c.kind) e) (by_kind (curve r k).kind x)
+  whole_crosses k p q l x =
+      subst (λ t. CrossesKind t d i p q) (ap (λ (c : Curve). c.kind) e) (by_kind (curve r k).kind x)
     where
       i : ℕ
       i = rest.number k
@@ -125,7 +130,8 @@ module _ (d r : Plan) (out : ℕ → Bool) (rest : IsRestOf d r out) (kept : (i 
           → Hits (curve d j) p q → ⊥
       other j m ne clear hit =
           let (n, b, s) = number_of j m in
-          clear n b (λ a. ne (sym s ∙ ap (λ (c : ℕ). rest.number c) a)) (subst (λ (c : Curve). Hits c p q) (same j n b s) hit)
+          clear n b (λ a. ne (sym s ∙ ap (λ (c : ℕ). rest.number c) a))
+          (subst (λ (c : Curve). Hits c p q) (same j n b s) hit)
 
       by_kind : (t : CurveKind) → CrossesKind t r k p q → CrossesKind t d i p q
       by_kind kind.Straight y = record {
@@ -157,14 +163,17 @@ module _ (d r : Plan) (out : ℕ → Bool) (rest : IsRestOf d r out) (kept : (i 
   beside_lost s z Z b lost =
       let (P, Q, p_off, q_off) = ends_off (curve r b.k).kind r b.k b.p b.q b.crossing in
       let end = side_end (curve r b.k) s.left b.p b.q in
-      let E : Place end = one_of Place (is_first_kind (curve r b.k).kind (curve r b.k) s.left) b.p b.q P Q in
+      let E : Place end = one_of Place (is_first_kind (curve r b.k).kind (curve r b.k) s.left) b.p
+      b.q P Q in
       let joined = (stays_joined d r out rest z end Z (all_closed z)).1 b.joined in
       record {
         there = subst (λ i. i < length d.curves) b.is (rest.there b.k b.there);
         p = b.p;
         q = b.q;
-        crossing = subst (λ i. CrossesOne d i b.p b.q) b.is (whole_crosses b.k b.p b.q b.there b.crossing);
-        lost = subst (λ (c : Curve). IsLost d (side_end c s.left b.p b.q)) (sym (same s.curve b.k b.there b.is)) (lost_along d z end Z E joined lost);
+        crossing = subst (λ i. CrossesOne d i b.p b.q) b.is
+            (whole_crosses b.k b.p b.q b.there b.crossing);
+        lost = subst (λ (c : Curve). IsLost d (side_end c s.left b.p b.q))
+            (sym (same s.curve b.k b.there b.is)) (lost_along d z end Z E joined lost);
       }
 
   -- the lost end of a segment that crosses a curve is beside it
@@ -180,6 +189,8 @@ module _ (d r : Plan) (out : ℕ → Bool) (rest : IsRestOf d r out) (kept : (i 
         is = e;
         p = h.p;
         q = h.q;
-        crossing = fewer_crosses d r out rest k h.p h.q l (subst (λ i. CrossesOne d i h.p h.q) (sym e) h.crossing);
-        joined = subst (λ (c : Curve). Joined r end (side_end c s.left h.p h.q)) (same s.curve k l e) (joined_self r end Z (fewer_off d r out rest end off));
+        crossing = fewer_crosses d r out rest k h.p h.q l
+            (subst (λ i. CrossesOne d i h.p h.q) (sym e) h.crossing);
+        joined = subst (λ (c : Curve). Joined r end (side_end c s.left h.p h.q))
+            (same s.curve k l e) (joined_self r end Z (fewer_off d r out rest end off));
       }

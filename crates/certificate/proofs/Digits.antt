@@ -33,7 +33,8 @@ value_of_digit c h = grind (arith, nat_tests)
 -- one digit more
 pub value_more : (ds : List ℕ) (i v : ℕ) → is_ascii_digit (get_or ds i 0) ≡ true → i < length ds
     → v ≡ min (digits_value 10 (take i ds)) (2 ^ 32)
-    → min (v * 10 + (get_or ds i 0 - 48)) (2 ^ 32) ≡ min (digits_value 10 (take (i + 1) ds)) (2 ^ 32)
+    → min (v * 10 + (get_or ds i 0 - 48)) (2 ^ 32)
+    ≡ min (digits_value 10 (take (i + 1) ds)) (2 ^ 32)
 value_more ds i v h l e =
     let d : digit_value (get_or ds i 0) ≡ get_or ds i 0 - 48 = value_of_digit (get_or ds i 0) h in
     omega (arith, digits_value_more 10 ds i l, d, e)
@@ -43,5 +44,7 @@ pub prefix_more : (ds : List ℕ) (i : ℕ) → is_ascii_digit (get_or ds i 0) �
     → i + prefix_len is_ascii_digit (drop i ds) ≡ prefix_len is_ascii_digit ds
     → i + 1 + prefix_len is_ascii_digit (drop (i + 1) ds) ≡ prefix_len is_ascii_digit ds
 prefix_more ds i h l e =
-    let d : prefix_len is_ascii_digit (drop i ds) ≡ 1 + prefix_len is_ascii_digit (drop (i + 1) ds) = rw (drop-cons ds i 0 l, h, add-one i) refl in
+    let d : prefix_len is_ascii_digit (drop i ds)
+    ≡ 1 + prefix_len is_ascii_digit (drop (i + 1) ds) =
+    rw (drop-cons ds i 0 l, h, add-one i) refl in
     omega (arith, d, e)

@@ -39,7 +39,9 @@ line_onto (word ∷ next ∷ words) rest = word ++ (32 ∷ line_onto (next ∷ w
 pub line_then : (words : List (List ℕ)) (rest : List ℕ) → line words ++ rest ≡ line_onto words rest
 line_then [] rest = refl
 line_then (word ∷ []) rest = append_assoc word (codes "\n") rest
-line_then (word ∷ next ∷ words) rest = append_assoc word (32 ∷ line (next ∷ words)) rest ∙ ap (λ (r : List ℕ). word ++ (32 ∷ r)) (line_then (next ∷ words) rest)
+line_then (word ∷ next ∷ words) rest =
+    append_assoc word (32 ∷ line (next ∷ words)) rest
+    ∙ ap (λ (r : List ℕ). word ++ (32 ∷ r)) (line_then (next ∷ words) rest)
 
 pub with_line : (bytes : List ℕ) (words : List (List ℕ)) (rest : List ℕ)
     → bytes ≡ line_onto words rest → bytes ≡ line words ++ rest
@@ -65,40 +67,52 @@ numbered_gave word bytes n rest e =
 numbered_is : (word : List ℕ) (n : ℕ) (rest : List ℕ) → n < 2 ^ 32
     → numbered_at word (word ++ (decimal n ++ (10 ∷ rest))) ≡ Some (Some n, rest)
 unfolding numbered_at
-numbered_is word n rest f = rw (after_word_is word (decimal n ++ (10 ∷ rest)), number_is n 10 rest f refl) refl
+numbered_is word n rest f =
+    rw (after_word_is word (decimal n ++ (10 ∷ rest)), number_is n 10 rest f refl) refl
 
 -- ---- events
 
 pub event_gave : (bytes : List ℕ) (n : ℕ) (rest : List ℕ) → event_at bytes ≡ Some (Some n, rest)
     → (bytes ≡ event_line n ++ rest) × (n < 2 ^ 32)
-event_gave bytes n rest e = let g = numbered_gave (codes "V ") bytes n rest e in (with_line bytes (codes "V" ∷ decimal n ∷ []) rest g.0, g.1)
+event_gave bytes n rest e =
+    let g = numbered_gave (codes "V ") bytes n rest e in
+    (with_line bytes (codes "V" ∷ decimal n ∷ []) rest g.0, g.1)
 
 pub event_is : (n : ℕ) (rest : List ℕ) → n < 2 ^ 32
     → event_at (event_line n ++ rest) ≡ Some (Some n, rest)
-event_is n rest f = ap event_at (line_then (codes "V" ∷ decimal n ∷ []) rest) ∙ numbered_is (codes "V ") n rest f
+event_is n rest f = ap event_at (line_then (codes "V" ∷ decimal n ∷ []) rest)
+    ∙ numbered_is (codes "V ") n rest f
 
 -- ---- the number of certificates
 
 pub areas_gave : (bytes : List ℕ) (n : ℕ) (rest : List ℕ) → areas_at bytes ≡ Some (Some n, rest)
     → (bytes ≡ line (codes "AREAS" ∷ decimal n ∷ []) ++ rest) × (n < 2 ^ 32)
-areas_gave bytes n rest e = let g = numbered_gave (codes "AREAS ") bytes n rest e in (with_line bytes (codes "AREAS" ∷ decimal n ∷ []) rest g.0, g.1)
+areas_gave bytes n rest e =
+    let g = numbered_gave (codes "AREAS ") bytes n rest e in
+    (with_line bytes (codes "AREAS" ∷ decimal n ∷ []) rest g.0, g.1)
 
 pub areas_is : (n : ℕ) (rest : List ℕ) → n < 2 ^ 32
     → areas_at (line (codes "AREAS" ∷ decimal n ∷ []) ++ rest) ≡ Some (Some n, rest)
-areas_is n rest f = ap areas_at (line_then (codes "AREAS" ∷ decimal n ∷ []) rest) ∙ numbered_is (codes "AREAS ") n rest f
+areas_is n rest f = ap areas_at (line_then (codes "AREAS" ∷ decimal n ∷ []) rest)
+    ∙ numbered_is (codes "AREAS ") n rest f
 
 -- ---- edges
 
 abbrev edge_words : HalfNote × HalfNote → List (List ℕ)
-edge_words e = codes "E" ∷ decimal e.0.label ∷ link_word e.0.link ∷ decimal e.0.rank ∷ decimal e.1.label ∷ link_word e.1.link ∷ decimal e.1.rank ∷ []
+edge_words e =
+    codes "E" ∷ decimal e.0.label ∷ link_word e.0.link ∷ decimal e.0.rank ∷ decimal e.1.label
+    ∷ link_word e.1.link ∷ decimal e.1.rank ∷ []
 
 both_made : (below above : Option HalfNote) (e : HalfNote × HalfNote)
     → both_notes below above ≡ Some e → (below ≡ Some e.0) × (above ≡ Some e.1)
 both_made below above e h =
     then below _ e _ h (λ b i f.
     then above _ e _ f (λ a j g.
-    let q = some_is (b, a) e g in
-    (i ∙ ap (λ (x : HalfNote × HalfNote). Some x.0) q, j ∙ ap (λ (x : HalfNote × HalfNote). Some x.1) q)))
+    let q = some_is (b, a) e g in (
+      i ∙ ap (λ (x : HalfNote × HalfNote). Some x.0) q,
+      j
+          ∙ ap (λ (x : HalfNote × HalfNote). Some x.1) q,
+    )))
 
 pub edge_gave : (bytes : List ℕ) (e : HalfNote × HalfNote) (rest : List ℕ)
     → edge_at bytes ≡ Some (Some e, rest) → (bytes ≡ edge_line e ++ rest) × FitsEdge e
@@ -111,7 +125,8 @@ edge_gave bytes e rest h =
     then (after_word (codes "\n") above.1) _ (Some e, rest) _ e4 (λ c i5 e5.
     let p = some_is (both_notes below.0 above.0, c) (Some e, rest) e5 in
     let ends : c ≡ rest = ap (λ (x : Option (HalfNote × HalfNote) × List ℕ). x.1) p in
-    let m = both_made below.0 above.0 e (ap (λ (x : Option (HalfNote × HalfNote) × List ℕ). x.0) p) in
+    let m = both_made below.0 above.0 e
+    (ap (λ (x : Option (HalfNote × HalfNote) × List ℕ). x.0) p) in
     let g1 = after_word_gave (codes "E ") bytes a i1 in
     let g2 = half_gave a e.0 below.1 (i2 ∙ ap (λ (x : Option HalfNote). Some (x, below.1)) m.0) in
     let g3 = after_word_gave (codes " ") below.1 b i3 in
@@ -153,8 +168,10 @@ cell_gave bytes p rest e =
     let k = cell_made m.0 p (ap (λ (x : Option PointPlace × List ℕ). x.0) q) in
     let ends : m.1 ≡ rest = ap (λ (x : Option PointPlace × List ℕ). x.1) q in
     let o = pair_is m (Some k.0) rest k.1 ends in
-    let g = numbered_gave (codes "P ") bytes k.0 rest (i1 ∙ ap (λ (x : Option ℕ × List ℕ). Some x) o) in
-    subst (λ (x : PointPlace). (bytes ≡ place_line x ++ rest) × FitsPlace x) k.2 (with_line bytes (cell_words k.0) rest g.0, g.1))
+    let g = numbered_gave (codes "P ") bytes k.0 rest (i1
+    ∙ ap (λ (x : Option ℕ × List ℕ). Some x) o) in
+    subst (λ (x : PointPlace). (bytes ≡ place_line x ++ rest) × FitsPlace x) k.2
+    (with_line bytes (cell_words k.0) rest g.0, g.1))
 
 tube_gave : (bytes start : List ℕ) (p : PointPlace) (rest : List ℕ) → bytes ≡ codes "P T " ++ start
     → tube_at start ≡ Some (Some p, rest) → (bytes ≡ place_line p ++ rest) × FitsPlace p
@@ -171,13 +188,15 @@ tube_gave bytes start p rest w e =
     let g2 = after_word_gave (codes " ") curve.1 a i2 in
     let g3 = side_gave a side.0 side.1 i3 in
     let g4 = after_word_gave (codes "\n") side.1 b i4 in
-    subst (λ (x : PointPlace). (bytes ≡ place_line x ++ rest) × FitsPlace x) k.2 (with_line bytes (tube_words k.0 side.0) rest (cc (w, g1.0, g2, g3, g4, ends)), g1.1)))))
+    subst (λ (x : PointPlace). (bytes ≡ place_line x ++ rest) × FitsPlace x) k.2
+    (with_line bytes (tube_words k.0 side.0) rest (cc (w, g1.0, g2, g3, g4, ends)), g1.1)))))
 
 place_by : (bytes : List ℕ) (o : Option (List ℕ)) (p : PointPlace) (rest : List ℕ)
     → after_word (codes "P T ") bytes ≡ o → place_after bytes o ≡ Some (Some p, rest)
     → (bytes ≡ place_line p ++ rest) × FitsPlace p
 place_by bytes None p rest o e = cell_gave bytes p rest e
-place_by bytes (Some start) p rest o e = tube_gave bytes start p rest (after_word_gave (codes "P T ") bytes start o) e
+place_by bytes (Some start) p rest o e =
+    tube_gave bytes start p rest (after_word_gave (codes "P T ") bytes start o) e
 
 pub place_gave : (bytes : List ℕ) (p : PointPlace) (rest : List ℕ)
     → place_at bytes ≡ Some (Some p, rest) → (bytes ≡ place_line p ++ rest) × FitsPlace p
@@ -195,25 +214,31 @@ no_tube (d ∷ ds) rest h l =
 cell_is : (n : ℕ) (rest : List ℕ) → n < 2 ^ 32
     → cell_at (80 ∷ 32 ∷ (decimal n ++ (10 ∷ rest))) ≡ Some (Some (Cell n), rest)
 unfolding cell_at
-cell_is n rest f = ap (λ (o : Line ℕ). (o >>= λ m. Some (cell m.0, m.1))) (numbered_is (codes "P ") n rest f)
+cell_is n rest f =
+    ap (λ (o : Line ℕ). (o >>= λ m. Some (cell m.0, m.1))) (numbered_is (codes "P ") n rest f)
 
 tube_is : (n : ℕ) (inside : Bool) (rest : List ℕ) → n < 2 ^ 32
-    → tube_at (decimal n ++ (32 ∷ (side_word inside ++ (10 ∷ rest)))) ≡ Some (Some (Tube n inside), rest)
+    → tube_at (decimal n ++ (32 ∷ (side_word inside ++ (10 ∷ rest))))
+    ≡ Some (Some (Tube n inside), rest)
 unfolding tube_at
-tube_is n inside rest f = rw (number_is n 32 (side_word inside ++ (10 ∷ rest)) f refl, side_is inside (10 ∷ rest)) refl
+tube_is n inside rest f =
+    rw (number_is n 32 (side_word inside ++ (10 ∷ rest)) f refl, side_is inside (10 ∷ rest)) refl
 
 pub place_is : (p : PointPlace) (rest : List ℕ) → FitsPlace p
     → place_at (place_line p ++ rest) ≡ Some (Some p, rest)
 place_is (Cell n) rest f =
     ap place_at (line_then (cell_words n) rest)
-    ∙ ap (place_after (line_onto (cell_words n) rest)) (no_tube (decimal n) (10 ∷ rest) (decimal_digits n f) (decimal_nonempty n (omega arith)))
+    ∙ ap (place_after (line_onto (cell_words n) rest))
+    (no_tube (decimal n) (10 ∷ rest) (decimal_digits n f) (decimal_nonempty n (omega arith)))
     ∙ cell_is n rest f
-place_is (Tube n inside) rest f = ap place_at (line_then (tube_words n inside) rest) ∙ tube_is n inside rest f
+place_is (Tube n inside) rest f = ap place_at (line_then (tube_words n inside) rest)
+    ∙ tube_is n inside rest f
 
 -- ---- the names
 
 pub title_gave : (bytes : List ℕ) (t : Title) (rest : List ℕ) → title_at bytes ≡ Some (Some t, rest)
-    → (bytes ≡ line (codes "AREA" ∷ t.topic ∷ t.table ∷ t.attribute ∷ []) ++ rest) × IsName t.topic × IsName t.table × IsName t.attribute
+    → (bytes ≡ line (codes "AREA" ∷ t.topic ∷ t.table ∷ t.attribute ∷ []) ++ rest) × IsName t.topic
+    × IsName t.table × IsName t.attribute
 unfolding title_at
 title_gave bytes t rest e =
     then (after_word (codes "AREA ") bytes) _ (Some t, rest) _ e (λ a i1 e1.
@@ -234,15 +259,27 @@ title_gave bytes t rest e =
     let g5 = after_word_gave (codes " ") table.1 c i5 in
     let g6 = name_gave c attribute.0 attribute.1 i6 in
     let g7 = after_word_gave (codes "\n") attribute.1 d i7 in
-    subst (λ (x : Title). (bytes ≡ line (codes "AREA" ∷ x.topic ∷ x.table ∷ x.attribute ∷ []) ++ rest) × IsName x.topic × IsName x.table × IsName x.attribute) same
-    (with_line bytes (codes "AREA" ∷ topic.0 ∷ table.0 ∷ attribute.0 ∷ []) rest (cc (g1, g2.0, g3, g4.0, g5, g6.0, g7, ends)), g2.1, g4.1, g6.1))))))))
+    subst (λ (x : Title). (bytes ≡ line (codes "AREA" ∷ x.topic ∷ x.table ∷ x.attribute ∷ [])
+    ++ rest) × IsName x.topic × IsName x.table × IsName x.attribute) same (
+      with_line bytes (codes "AREA" ∷ topic.0 ∷ table.0 ∷ attribute.0 ∷ []) rest
+          (cc (g1, g2.0, g3, g4.0, g5, g6.0, g7, ends)),
+      g2.1,
+      g4.1,
+      g6.1,
+    ))))))))
 
 pub title_is : (t : Title) (rest : List ℕ) → IsName t.topic → IsName t.table → IsName t.attribute
-    → title_at (line (codes "AREA" ∷ t.topic ∷ t.table ∷ t.attribute ∷ []) ++ rest) ≡ Some (Some t, rest)
+    → title_at (line (codes "AREA" ∷ t.topic ∷ t.table ∷ t.attribute ∷ []) ++ rest)
+    ≡ Some (Some t, rest)
 unfolding title_at
 title_is t rest f g h =
     ap title_at (line_then (codes "AREA" ∷ t.topic ∷ t.table ∷ t.attribute ∷ []) rest)
-    ∙ rw (name_is t.topic 32 (t.table ++ (32 ∷ (t.attribute ++ (10 ∷ rest)))) f refl, name_is t.table 32 (t.attribute ++ (10 ∷ rest)) g refl, name_is t.attribute 10 rest h refl) refl
+    ∙ rw (
+      name_is t.topic 32 (t.table ++ (32 ∷ (t.attribute ++ (10 ∷ rest)))) f refl,
+      name_is t.table 32 (t.attribute ++ (10 ∷ rest)) g refl,
+      name_is t.attribute 10 rest h refl,
+    )
+    refl
 
 -- ---- the level and the counts
 
@@ -267,11 +304,17 @@ counts_made edges events points c h =
     then edges _ c _ h (λ e i f.
     then events _ c _ f (λ v j g.
     then points _ c _ g (λ p m n.
-    let q : (let x : Counts = record { edges = e; events = v; points = p } in x) ≡ c = some_is _ c n in
-    (i ∙ ap (λ (x : Counts). Some x.edges) q, j ∙ ap (λ (x : Counts). Some x.events) q, m ∙ ap (λ (x : Counts). Some x.points) q))))
+    let q : (let x : Counts = record { edges = e; events = v; points = p } in x)
+    ≡ c = some_is _ c n in (
+      i ∙ ap (λ (x : Counts). Some x.edges) q,
+      j ∙ ap (λ (x : Counts). Some x.events) q,
+      m
+          ∙ ap (λ (x : Counts). Some x.points) q,
+    ))))
 
 -- what if_sizes took: the numbers, and that they are sizes
-pub record Took (level bent : Option ℕ) (counts : Option Counts) (bytes : List ℕ) (s : Sizes) (rest : List ℕ)
+pub record Took (level bent : Option ℕ) (counts : Option Counts) (bytes : List ℕ) (s : Sizes)
+    (rest : List ℕ)
     : Type 0 where
   pub flag : ℕ
   pub level_is : level ≡ Some s.level
@@ -317,8 +360,10 @@ bent_gave : (v : Version) (bytes : List ℕ) (n : ℕ) (rest : List ℕ)
     → bent_at v bytes ≡ Some (Some n, rest)
     → (bytes ≡ bent_onto v n rest) × IsFlag v n
 bent_gave One bytes n rest e =
-    let p = some_is (Some 0, bytes) (Some n, rest) e in
-    (ap (λ (x : Option ℕ × List ℕ). x.1) p, sym (some_is 0 n (ap (λ (x : Option ℕ × List ℕ). x.0) p)))
+    let p = some_is (Some 0, bytes) (Some n, rest) e in (
+      ap (λ (x : Option ℕ × List ℕ). x.1) p,
+      sym (some_is 0 n (ap (λ (x : Option ℕ × List ℕ). x.0) p)),
+    )
 bent_gave Two bytes n rest e =
     then (after_word (codes " ") bytes) _ (Some n, rest) _ e (λ a i1 e1.
     let g1 = after_word_gave (codes " ") bytes a i1 in
@@ -332,7 +377,9 @@ flag_word (suc (suc n)) h = absurd (omega (arith, h))
 
 -- the words of the sizes, where the flag says what is said there
 onto_is : (v : Version) (s : Sizes) (n : ℕ) (rest : List ℕ) → n < 2 → nat_eq n 1 ≡ s.bent
-    → codes "SIZES " ++ (decimal s.level ++ bent_onto v n (32 ∷ (decimal s.counts.edges ++ (32 ∷ (decimal s.counts.events
+    → codes "SIZES "
+    ++ (decimal s.level ++ bent_onto v n
+    (32 ∷ (decimal s.counts.edges ++ (32 ∷ (decimal s.counts.events
     ++ (32 ∷ (decimal s.counts.points ++ (10 ∷ rest))))))))
     ≡ line_onto (size_words v s) rest
 onto_is One s n rest l e = refl
@@ -362,22 +409,35 @@ sizes_gave v bytes s rest h =
     let m = took level.0 bent.0 (counts_of edges.0 events.0 points.0) z s rest e10 in
     let n = counts_made edges.0 events.0 points.0 s.counts m.counts_are in
     let g1 = after_word_gave (codes "SIZES ") bytes a i1 in
-    let g2 = number_gave a s.level level.1 (i2 ∙ ap (λ (x : Option ℕ). Some (x, level.1)) m.level_is) in
-    let g3 = bent_gave v level.1 m.flag bent.1 (i3 ∙ ap (λ (x : Option ℕ). Some (x, bent.1)) m.bent_is) in
+    let g2 = number_gave a s.level level.1 (i2
+    ∙ ap (λ (x : Option ℕ). Some (x, level.1)) m.level_is) in
+    let g3 = bent_gave v level.1 m.flag bent.1 (i3
+    ∙ ap (λ (x : Option ℕ). Some (x, bent.1)) m.bent_is) in
     let g4 = after_word_gave (codes " ") bent.1 b i4 in
-    let g5 = number_gave b s.counts.edges edges.1 (i5 ∙ ap (λ (x : Option ℕ). Some (x, edges.1)) n.0) in
+    let g5 = number_gave b s.counts.edges edges.1 (i5
+    ∙ ap (λ (x : Option ℕ). Some (x, edges.1)) n.0) in
     let g6 = after_word_gave (codes " ") edges.1 c i6 in
-    let g7 = number_gave c s.counts.events events.1 (i7 ∙ ap (λ (x : Option ℕ). Some (x, events.1)) n.1) in
+    let g7 = number_gave c s.counts.events events.1 (i7
+    ∙ ap (λ (x : Option ℕ). Some (x, events.1)) n.1) in
     let g8 = after_word_gave (codes " ") events.1 d i8 in
-    let g9 = number_gave d s.counts.points points.1 (i9 ∙ ap (λ (x : Option ℕ). Some (x, points.1)) n.2) in
+    let g9 = number_gave d s.counts.points points.1 (i9
+    ∙ ap (λ (x : Option ℕ). Some (x, points.1)) n.2) in
     let g10 = after_word_gave (codes "\n") points.1 z i10 in
     let ends : z ≡ rest = m.ends in
     let counts : bent.1 ≡ 32 ∷ (decimal s.counts.edges ++ (32 ∷ (decimal s.counts.events
-    ++ (32 ∷ (decimal s.counts.points ++ (10 ∷ rest)))))) = cc (g4, g5.0, g6, g7.0, g8, g9.0, g10, ends) in
-    let whole = g1 ∙ ap (λ (x : List ℕ). codes "SIZES " ++ x) (g2.0 ∙ ap (λ (x : List ℕ). decimal s.level ++ x)
+    ++ (32 ∷ (decimal s.counts.points ++ (10 ∷ rest)))))) =
+    cc (g4, g5.0, g6, g7.0, g8, g9.0, g10, ends) in
+    let whole = g1
+    ∙ ap (λ (x : List ℕ). codes "SIZES " ++ x) (g2.0 ∙ ap (λ (x : List ℕ). decimal s.level ++ x)
     (g3.0 ∙ ap (bent_onto v m.flag) counts)) in (
       with_line bytes (size_words v s) rest (whole ∙ onto_is v s m.flag rest m.few m.said),
-      record { level = m.low; bent = says v m.flag s.bent g3.1 m.said; edges = g5.1; events = g7.1; points = g9.1 },
+      record {
+        level = m.low;
+        bent = says v m.flag s.bent g3.1 m.said;
+        edges = g5.1;
+        events = g7.1;
+        points = g9.1;
+      },
     )))))))))))
 
 sizes_one : (level : ℕ) (c : Counts) (rest : List ℕ)
@@ -386,10 +446,14 @@ sizes_one : (level : ℕ) (c : Counts) (rest : List ℕ)
 unfolding sizes_at
 sizes_one level c rest f =
     let t : nat_lt level 256 ≡ true = let l : level < 256 = f.level in grind (arith, nat_tests) in
-    ap (sizes_at One) (line_then (size_words One (record { level = level; bent = false; counts = c })) rest)
+    ap (sizes_at One)
+    (line_then (size_words One (record { level = level; bent = false; counts = c })) rest)
     ∙ rw (
-      number_is level 32 (decimal c.edges ++ (32 ∷ (decimal c.events ++ (32 ∷ (decimal c.points ++ (10 ∷ rest)))))) (omega (arith, f.level)) refl,
-      number_is c.edges 32 (decimal c.events ++ (32 ∷ (decimal c.points ++ (10 ∷ rest)))) f.edges refl,
+      number_is level 32 (decimal c.edges
+          ++ (32 ∷ (decimal c.events ++ (32 ∷ (decimal c.points ++ (10 ∷ rest))))))
+          (omega (arith, f.level)) refl,
+      number_is c.edges 32 (decimal c.events ++ (32 ∷ (decimal c.points ++ (10 ∷ rest)))) f.edges
+          refl,
       number_is c.events 32 (decimal c.points ++ (10 ∷ rest)) f.events refl,
       number_is c.points 10 rest f.points refl,
       t,
@@ -402,12 +466,15 @@ unfolding sizes_at
 sizes_two level true c rest f =
     let t : nat_lt level 256 ≡ true = let l : level < 256 = f.level in grind (arith, nat_tests) in
     let s : Sizes = record { level = level; bent = true; counts = c } in
-    let counts : List ℕ = decimal c.edges ++ (32 ∷ (decimal c.events ++ (32 ∷ (decimal c.points ++ (10 ∷ rest))))) in
-    ap (sizes_at Two) (line_then (size_words Two s) rest ∙ sym (onto_is Two s 1 rest (omega arith) refl))
+    let counts : List ℕ = decimal c.edges
+    ++ (32 ∷ (decimal c.events ++ (32 ∷ (decimal c.points ++ (10 ∷ rest))))) in
+    ap (sizes_at Two) (line_then (size_words Two s) rest
+    ∙ sym (onto_is Two s 1 rest (omega arith) refl))
     ∙ rw (
       number_is level 32 (decimal 1 ++ (32 ∷ counts)) (omega (arith, f.level)) refl,
       number_is 1 32 counts (omega arith) refl,
-      number_is c.edges 32 (decimal c.events ++ (32 ∷ (decimal c.points ++ (10 ∷ rest)))) f.edges refl,
+      number_is c.edges 32 (decimal c.events ++ (32 ∷ (decimal c.points ++ (10 ∷ rest)))) f.edges
+          refl,
       number_is c.events 32 (decimal c.points ++ (10 ∷ rest)) f.events refl,
       number_is c.points 10 rest f.points refl,
       t,
@@ -415,12 +482,15 @@ sizes_two level true c rest f =
 sizes_two level false c rest f =
     let t : nat_lt level 256 ≡ true = let l : level < 256 = f.level in grind (arith, nat_tests) in
     let s : Sizes = record { level = level; bent = false; counts = c } in
-    let counts : List ℕ = decimal c.edges ++ (32 ∷ (decimal c.events ++ (32 ∷ (decimal c.points ++ (10 ∷ rest))))) in
-    ap (sizes_at Two) (line_then (size_words Two s) rest ∙ sym (onto_is Two s 0 rest (omega arith) refl))
+    let counts : List ℕ = decimal c.edges
+    ++ (32 ∷ (decimal c.events ++ (32 ∷ (decimal c.points ++ (10 ∷ rest))))) in
+    ap (sizes_at Two) (line_then (size_words Two s) rest
+    ∙ sym (onto_is Two s 0 rest (omega arith) refl))
     ∙ rw (
       number_is level 32 (decimal 0 ++ (32 ∷ counts)) (omega (arith, f.level)) refl,
       number_is 0 32 counts (omega arith) refl,
-      number_is c.edges 32 (decimal c.events ++ (32 ∷ (decimal c.points ++ (10 ∷ rest)))) f.edges refl,
+      number_is c.edges 32 (decimal c.events ++ (32 ∷ (decimal c.points ++ (10 ∷ rest)))) f.edges
+          refl,
       number_is c.events 32 (decimal c.points ++ (10 ∷ rest)) f.events refl,
       number_is c.points 10 rest f.points refl,
       t,
@@ -429,8 +499,15 @@ sizes_two level false c rest f =
 pub sizes_is : (v : Version) (s : Sizes) (rest : List ℕ) → FitsSizes v s
     → sizes_at v (line (size_words v s) ++ rest) ≡ Some (Some s, rest)
 sizes_is One s rest f =
-    sizes_one s.level s.counts rest (record { level = f.level; bent = refl; edges = f.edges; events = f.events; points = f.points })
-    ∙ ap (λ (b : Bool). Some (Some (record { level = s.level; bent = b; counts = s.counts }), rest)) (sym f.bent)
+    sizes_one s.level s.counts rest (record {
+      level = f.level;
+      bent = refl;
+      edges = f.edges;
+      events = f.events;
+      points = f.points;
+    })
+    ∙ ap (λ (b : Bool). Some (Some (record { level = s.level; bent = b; counts = s.counts }), rest))
+    (sym f.bent)
 sizes_is Two s rest f = sizes_two s.level s.bent s.counts rest f
 
 -- ---- the version
@@ -447,13 +524,19 @@ known_made : (o : Option ℕ) (bytes : List ℕ) (v : Version) (rest : List ℕ)
 known_made None bytes v rest e = absurd (no_value bytes rest v e)
 known_made (Some m) bytes v rest e = by_first (nat_eq m 1) refl e
   where
-    was : (w : Version) → (let found : Line Version = Some (Some w, bytes) in found) ≡ Some (Some v, rest) → m ≡ number_of w → (Some m ≡ Some (number_of v)) × (bytes ≡ rest)
+    was : (w : Version) → (let found : Line Version = Some (Some w, bytes) in found)
+        ≡ Some (Some v, rest) → m ≡ number_of w → (Some m ≡ Some (number_of v)) × (bytes ≡ rest)
     was w k i =
         let p = some_is (Some w, bytes) (Some v, rest) k in
-        let same : w ≡ v = some_is w v (ap (λ (x : Option Version × List ℕ). x.0) p) in
-        (ap (λ (x : ℕ). Some x) (i ∙ ap number_of same), ap (λ (x : Option Version × List ℕ). x.1) p)
+        let same : w ≡ v = some_is w v (ap (λ (x : Option Version × List ℕ). x.0) p) in (
+          ap (λ (x : ℕ). Some x) (i ∙ ap number_of same),
+          ap (λ (x : Option Version × List ℕ). x.1) p,
+        )
 
-    by_first : (b : Bool) → nat_eq m 1 ≡ b → cond {A = Line Version} b (Some (Some One, bytes)) (cond (nat_eq m 2) (Some (Some Two, bytes)) None) ≡ Some (Some v, rest) → (Some m ≡ Some (number_of v)) × (bytes ≡ rest)
+    by_first : (b : Bool) → nat_eq m 1 ≡ b
+        → cond {A = Line Version} b (Some (Some One, bytes))
+        (cond (nat_eq m 2) (Some (Some Two, bytes)) None) ≡ Some (Some v, rest)
+        → (Some m ≡ Some (number_of v)) × (bytes ≡ rest)
     by_first true h k = was One k (eqb-true m 1 h)
     by_first false h k =
         let c = chose (nat_eq m 2) (Some Two, bytes) (Some v, rest) k in
@@ -461,8 +544,12 @@ known_made (Some m) bytes v rest e = by_first (nat_eq m 1) refl e
 
 version_onto : (v : Version) (rest : List ℕ)
     → line (version_words v) ++ rest ≡ codes "ITFCERT " ++ (decimal (number_of v) ++ (10 ∷ rest))
-version_onto One rest = ap (λ (d : List ℕ). codes "ITFCERT " ++ (d ++ (10 ∷ rest))) (sym (decimal_digit 1 (omega arith)))
-version_onto Two rest = ap (λ (d : List ℕ). codes "ITFCERT " ++ (d ++ (10 ∷ rest))) (sym (decimal_digit 2 (omega arith)))
+version_onto One rest =
+    ap (λ (d : List ℕ). codes "ITFCERT " ++ (d ++ (10 ∷ rest)))
+    (sym (decimal_digit 1 (omega arith)))
+version_onto Two rest =
+    ap (λ (d : List ℕ). codes "ITFCERT " ++ (d ++ (10 ∷ rest)))
+    (sym (decimal_digit 2 (omega arith)))
 
 pub version_gave : (bytes : List ℕ) (v : Version) (rest : List ℕ)
     → version_at bytes ≡ Some (Some v, rest) → bytes ≡ line (version_words v) ++ rest
@@ -471,7 +558,8 @@ version_gave bytes v rest e =
     then (numbered_at (codes "ITFCERT ") bytes) _ (Some v, rest) _ e (λ m i1 e1.
     let k = known_made m.0 m.1 v rest e1 in
     let o = pair_is m (Some (number_of v)) rest k.0 k.1 in
-    (numbered_gave (codes "ITFCERT ") bytes (number_of v) rest (i1 ∙ ap (λ (x : Option ℕ × List ℕ). Some x) o)).0 ∙ sym (version_onto v rest))
+    (numbered_gave (codes "ITFCERT ") bytes (number_of v) rest (i1
+    ∙ ap (λ (x : Option ℕ × List ℕ). Some x) o)).0 ∙ sym (version_onto v rest))
 
 number_fits : (v : Version) → number_of v < 2 ^ 32
 number_fits One = omega arith
@@ -484,7 +572,9 @@ known Two rest = refl
 pub version_is : (v : Version) (rest : List ℕ)
     → version_at (line (version_words v) ++ rest) ≡ Some (Some v, rest)
 unfolding version_at
-version_is v rest = ap version_at (version_onto v rest) ∙ ap (λ (o : Line ℕ). (o >>= λ m. if_known m.0 m.1)) (numbered_is (codes "ITFCERT ") (number_of v) rest (number_fits v)) ∙ known v rest
+version_is v rest = ap version_at (version_onto v rest)
+    ∙ ap (λ (o : Line ℕ). (o >>= λ m. if_known m.0 m.1))
+    (numbered_is (codes "ITFCERT ") (number_of v) rest (number_fits v)) ∙ known v rest
 
 -- ---- the end
 
@@ -494,7 +584,8 @@ unfolding end_at
 end_gave bytes u rest e =
     then (after_word (codes "END\n") bytes) _ (Some u, rest) _ e (λ a i1 e1.
     let p = some_is (Some tt, a) (Some u, rest) e1 in
-    after_word_gave (codes "END\n") bytes a i1 ∙ ap (λ (x : Option (Unit {0}) × List ℕ). codes "END\n" ++ x.1) p)
+    after_word_gave (codes "END\n") bytes a i1
+    ∙ ap (λ (x : Option (Unit {0}) × List ℕ). codes "END\n" ++ x.1) p)
 
 pub end_is : (rest : List ℕ) → end_at (line (codes "END" ∷ []) ++ rest) ≡ Some (Some tt, rest)
 unfolding end_at

@@ -13,7 +13,8 @@ pub pairs_more : (notes : List HalfNote) (below above : HalfNote) → ArePaired 
     → pairs ((notes ++ (below ∷ [])) ++ (above ∷ [])) ≡ pairs notes ++ (below, above) ∷ []
 pairs_more [] below above h = refl
 pairs_more (a ∷ []) below above h = absurd h
-pairs_more (a ∷ b ∷ notes) below above h = ap (λ (es : List (HalfNote × HalfNote)). (a, b) ∷ es) (pairs_more notes below above h)
+pairs_more (a ∷ b ∷ notes) below above h =
+    ap (λ (es : List (HalfNote × HalfNote)). (a, b) ∷ es) (pairs_more notes below above h)
 
 pub paired_more : (notes : List HalfNote) (below above : HalfNote) → ArePaired notes
     → ArePaired ((notes ++ (below ∷ [])) ++ (above ∷ []))
@@ -32,7 +33,8 @@ length_pairs [] = omega arith
 length_pairs (a ∷ []) = omega arith
 length_pairs (a ∷ b ∷ notes) = omega (arith, length_pairs notes)
 
-apart : (x : HalfNote × HalfNote) (xs : List (HalfNote × HalfNote)) → (let none : List (HalfNote × HalfNote) = [] in none) ≡ x ∷ xs → ⊥
+apart : (x : HalfNote × HalfNote) (xs : List (HalfNote × HalfNote))
+    → (let none : List (HalfNote × HalfNote) = [] in none) ≡ x ∷ xs → ⊥
 apart x xs e = absurd (cc)
 
 tails : {X : Type 0} (x y : X) (xs ys : List X) → x ∷ xs ≡ y ∷ ys → (x ≡ y) × (xs ≡ ys)

@@ -62,7 +62,8 @@ pub some_is : {A : Type 0} (x y : A) → Some x ≡ Some y → x ≡ y
 some_is x y e = cc
 
 pub pair_is : {A B : Type 0} (m : A × B) (a : A) (b : B) → m.0 ≡ a → m.1 ≡ b → m ≡ (a, b)
-pair_is {A = A} {B = B} m a b e f = let g : m ≡ (a, m.1) = ap (λ (x : A). (x, m.1)) e in g ∙ ap (λ (y : B). (a, y)) f
+pair_is {A = A} {B = B} m a b e f =
+    let g : m ≡ (a, m.1) = ap (λ (x : A). (x, m.1)) e in g ∙ ap (λ (y : B). (a, y)) f
 
 abbrev valueless : {A : Type 0} → List ℕ → Option (Option A × List ℕ)
 valueless bytes = Some (None, bytes)
@@ -70,7 +71,8 @@ valueless bytes = Some (None, bytes)
 -- a line without a value is not one with a value
 pub no_value : {A : Type 0} (a b : List ℕ) (x : A) → valueless a ≡ Some (Some x, b) → ⊥
 no_value {A = A} a b x e =
-    let f : (let o : Option A = None in o) ≡ Some x = ap (λ (y : Option A × List ℕ). y.0) (some_is (None, a) (Some x, b) e) in
+    let f : (let o : Option A = None in o)
+    ≡ Some x = ap (λ (y : Option A × List ℕ). y.0) (some_is (None, a) (Some x, b) e) in
     absurd (cc)
 
 -- ---- words
@@ -78,20 +80,29 @@ no_value {A = A} a b x e =
 pub after_word_gave : (word bytes rest : List ℕ) → after_word word bytes ≡ Some rest
     → bytes ≡ word ++ rest
 after_word_gave word bytes rest h =
-    let k = chose (pointwise nat_eq (take (length word) bytes) word) (drop (length word) bytes) rest h in
-    let front : take (length word) bytes ≡ word = (bytes_eq-Decides (take (length word) bytes) word).0 k.0 in
-    sym (take-append-drop (length word) bytes) ∙ ap (λ (w : List ℕ). w ++ drop (length word) bytes) front ∙ ap (λ (r : List ℕ). word ++ r) k.1
+    let k = chose (pointwise nat_eq (take (length word) bytes) word)
+    (drop (length word) bytes) rest h in
+    let front : take (length word) bytes
+    ≡ word = (bytes_eq-Decides (take (length word) bytes) word).0 k.0 in
+    sym (take-append-drop (length word) bytes)
+    ∙ ap (λ (w : List ℕ). w ++ drop (length word) bytes) front
+    ∙ ap (λ (r : List ℕ). word ++ r) k.1
 
 pub after_word_is : (word rest : List ℕ) → after_word word (word ++ rest) ≡ Some rest
 after_word_is word rest =
-    rw (take_at word rest (length word) refl, drop_at word rest (length word) refl, (bytes_eq-Decides word word).1 refl) refl
+    rw (
+      take_at word rest (length word) refl,
+      drop_at word rest (length word) refl,
+      (bytes_eq-Decides word word).1 refl,
+    ) refl
 
 -- ---- runs
 
 front_by_first : (p : ℕ → Bool) (c : ℕ) (xs : List ℕ) (b : Bool) → p c ≡ b
     → AllByRecursion (λ x. p x ≡ true) (take (prefix_len p xs) xs)
     → AllByRecursion (λ x. p x ≡ true) (take (cond b (1 + prefix_len p xs) 0) (c ∷ xs))
-front_by_first p c xs true e h = let k : 1 + prefix_len p xs ≡ suc (prefix_len p xs) = omega arith in rw k (e, h)
+front_by_first p c xs true e h =
+    let k : 1 + prefix_len p xs ≡ suc (prefix_len p xs) = omega arith in rw k (e, h)
 front_by_first p c xs false e h = tt
 
 front_passes : (p : ℕ → Bool) (xs : List ℕ)
@@ -106,22 +117,36 @@ run_length p [] c rest h k = rw k refl
 run_length p (x ∷ xs) c rest h k = let t = run_length p xs c rest h.1 k in rw (h.0, t) (omega arith)
 
 -- what was found at the front is the run, and it is not empty
-front_gave : {A : Type 0} (value : List ℕ → A) (p : ℕ → Bool) (bytes : List ℕ) (x : A) (rest : List ℕ)
+front_gave : {A : Type 0} (value : List ℕ → A) (p : ℕ → Bool) (bytes : List ℕ) (x : A)
+    (rest : List ℕ)
     → front_of value (prefix_len p bytes) bytes ≡ Some (x, rest)
-    → (run : List ℕ) × (run ≡ take (prefix_len p bytes) bytes) × (bytes ≡ run ++ rest) × (0 < length run) × (value run ≡ x)
+    → (run : List ℕ) × (run ≡ take (prefix_len p bytes) bytes) × (bytes ≡ run ++ rest)
+    × (0 < length run) × (value run ≡ x)
 front_gave {A = A} value p bytes x rest h =
     let n = prefix_len p bytes in
     let k = chose_not (nat_eq n 0) (value (take n bytes), drop n bytes) (x, rest) h in
     let e : drop n bytes ≡ rest = ap (λ (y : A × List ℕ). y.1) k.1 in
-    let l = length-prefix_len p bytes in
-    (take n bytes, refl, sym (take-append-drop n bytes) ∙ ap (λ (r : List ℕ). take n bytes ++ r) e, grind (arith, nat_tests, k.0, l), ap (λ (y : A × List ℕ). y.0) k.1)
+    let l = length-prefix_len p bytes in (
+      take n bytes,
+      refl,
+      sym (take-append-drop n bytes)
+          ∙ ap (λ (r : List ℕ). take n bytes ++ r) e,
+      grind (arith, nat_tests, k.0, l),
+      ap (λ (y : A × List ℕ). y.0) k.1,
+    )
 
 front_is : {A : Type 0} (value : List ℕ → A) (p : ℕ → Bool) (run : List ℕ) (c : ℕ) (rest : List ℕ)
     → AllByRecursion (λ x. p x ≡ true) run → 0 < length run → p c ≡ false
-    → front_of value (prefix_len p (run ++ (c ∷ rest))) (run ++ (c ∷ rest)) ≡ Some (value run, c ∷ rest)
+    → front_of value (prefix_len p (run ++ (c ∷ rest))) (run ++ (c ∷ rest))
+    ≡ Some (value run, c ∷ rest)
 front_is value p run c rest h l k =
     let e : nat_eq (length run) 0 ≡ false = grind (arith, nat_tests) in
-    rw (run_length p run c rest h k, e, take_at run (c ∷ rest) (length run) refl, drop_at run (c ∷ rest) (length run) refl) refl
+    rw (
+      run_length p run c rest h k,
+      e,
+      take_at run (c ∷ rest) (length run) refl,
+      drop_at run (c ∷ rest) (length run) refl,
+    ) refl
 
 -- ---- names
 
@@ -130,8 +155,13 @@ pub name_gave : (bytes name rest : List ℕ) → name_at bytes ≡ Some (name, r
 name_gave bytes name rest h =
     let g = front_gave (λ name. name) is_name_byte bytes name rest h in
     let passes = front_passes is_name_byte bytes in
-    let e : take (prefix_len is_name_byte bytes) bytes ≡ name = sym g.1 ∙ g.4 in
-    (g.2 ∙ ap (λ (r : List ℕ). r ++ rest) g.4, record { some = subst (λ (r : List ℕ). 0 < length r) g.4 g.3; bytes = subst (AllByRecursion (λ c. is_name_byte c ≡ true)) e passes })
+    let e : take (prefix_len is_name_byte bytes) bytes ≡ name = sym g.1 ∙ g.4 in (
+      g.2 ∙ ap (λ (r : List ℕ). r ++ rest) g.4,
+      record {
+        some = subst (λ (r : List ℕ). 0 < length r) g.4 g.3;
+        bytes = subst (AllByRecursion (λ c. is_name_byte c ≡ true)) e passes;
+      },
+    )
 
 pub name_is : (name : List ℕ) (c : ℕ) (rest : List ℕ) → IsName name → is_name_byte c ≡ false
     → name_at (name ++ (c ∷ rest)) ≡ Some (name, c ∷ rest)
@@ -145,7 +175,8 @@ own = numerals_by_value (λ ds. all_ascii_digits ds ≡ true) tells_all_ascii_di
 pub each_digit : (ds : List ℕ) → all_ascii_digits ds ≡ true
     → AllByRecursion (λ c. is_ascii_digit c ≡ true) ds
 each_digit [] h = tt
-each_digit (d ∷ ds) h = let k = both_true (is_ascii_digit d) (all_ascii_digits ds) h in (k.0, each_digit ds k.1)
+each_digit (d ∷ ds) h =
+    let k = both_true (is_ascii_digit d) (all_ascii_digits ds) h in (k.0, each_digit ds k.1)
 
 no_leading_zero : (ds : List ℕ) → has_leading_zero ds ≡ false → 0 < length ds → get_or ds 0 0 ≡ 48
     → length ds ≡ 1
@@ -158,10 +189,12 @@ no_leading_zero ds h l e = by_length (nat_lt 1 (length ds)) refl
 number_spells : (ds : List ℕ) (n : ℕ) → all_ascii_digits ds ≡ true → 0 < length ds
     → number ds ≡ Some n → (decimal n ≡ ds) × (n < 2 ^ 32)
 number_spells ds n h l e =
-    let k = cond_none (has_leading_zero ds) (cond (nat_lt (digits_value 10 ds) (2 ^ 32)) (Some (digits_value 10 ds)) None) n e in
+    let k = cond_none (has_leading_zero ds)
+    (cond (nat_lt (digits_value 10 ds) (2 ^ 32)) (Some (digits_value 10 ds)) None) n e in
     let m = chose (nat_lt (digits_value 10 ds) (2 ^ 32)) (digits_value 10 ds) n k.1 in
     let lt : digits_value 10 ds < 2 ^ 32 = ltb-true _ _ m.0 in
-    let d : decimal (digits_value 10 ds) ≡ ds = decimal-digits_value own ds h l (no_leading_zero ds k.0 l) (omega arith) in
+    let d : decimal (digits_value 10 ds)
+    ≡ ds = decimal-digits_value own ds h l (no_leading_zero ds k.0 l) (omega arith) in
     (subst (λ (v : ℕ). decimal v ≡ ds) m.1 d, subst (λ (v : ℕ). v < 2 ^ 32) m.1 lt)
 
 leading_zero_of : (n : ℕ) → n < 2 ^ 32 → has_leading_zero (decimal n) ≡ false
@@ -192,12 +225,15 @@ pub number_is : (n c : ℕ) (rest : List ℕ) → n < 2 ^ 32 → is_ascii_digit 
     → number_at (decimal n ++ (c ∷ rest)) ≡ Some (Some n, c ∷ rest)
 number_is n c rest h k =
     let digits : all_ascii_digits (decimal n) ≡ true = digits_decimal own n (omega arith) in
-    front_is number is_ascii_digit (decimal n) c rest (each_digit (decimal n) digits) (decimal_nonempty n (omega arith)) k
+    front_is number is_ascii_digit (decimal n) c rest (each_digit (decimal n) digits)
+    (decimal_nonempty n (omega arith)) k
     ∙ ap (λ (o : Option ℕ). Some (o, c ∷ rest)) (number_of n h)
 
 -- ---- links and sides
 
-letter : (c d : ℕ) (k m : Link) (bytes rest : List ℕ) → nat_eq c d ≡ true → link_word k ≡ d ∷ [] → FitsLink k → (let o : Option (Option Link × List ℕ) = Some (Some k, bytes) in o) ≡ Some (Some m, rest)
+letter : (c d : ℕ) (k m : Link) (bytes rest : List ℕ) → nat_eq c d ≡ true → link_word k ≡ d ∷ []
+    → FitsLink k → (let o : Option (Option Link × List ℕ) = Some (Some k, bytes) in o)
+    ≡ Some (Some m, rest)
     → (c ∷ bytes ≡ link_word m ++ rest) × FitsLink m
 letter c d k m bytes rest t w f e =
     let p = some_is (Some k, bytes) (Some m, rest) e in
@@ -205,7 +241,11 @@ letter c d k m bytes rest t w f e =
     let ends : bytes ≡ rest = ap (λ (x : Option Link × List ℕ). x.1) p in
     let first : c ≡ d = eqb-true c d t in
     let whole : c ∷ bytes ≡ d ∷ rest = cc in
-    subst (λ (x : Link). (c ∷ bytes ≡ link_word x ++ rest) × FitsLink x) same (whole ∙ ap (λ (x : List ℕ). x ++ rest) (sym w), f)
+    subst (λ (x : Link). (c ∷ bytes ≡ link_word x ++ rest) × FitsLink x) same (
+      whole
+          ∙ ap (λ (x : List ℕ). x ++ rest) (sym w),
+      f,
+    )
 
 across_made : (o : Option ℕ) (k : Link) → across o ≡ Some k
     → (n : ℕ) × (o ≡ Some n) × (Across n ≡ k)
@@ -240,21 +280,26 @@ link_is Next c rest f d = refl
 link_is Prev c rest f d = refl
 link_is (Across n) c rest f d = rw (number_is n c rest f d) refl
 
-side_letter : (c d : ℕ) (a b : Bool) (bytes rest : List ℕ) → nat_eq c d ≡ true → side_word a ≡ d ∷ [] → (let o : Option (Bool × List ℕ) = Some (a, bytes) in o) ≡ Some (b, rest) → c ∷ bytes ≡ side_word b ++ rest
+side_letter : (c d : ℕ) (a b : Bool) (bytes rest : List ℕ) → nat_eq c d ≡ true
+    → side_word a ≡ d ∷ [] → (let o : Option (Bool × List ℕ) = Some (a, bytes) in o)
+    ≡ Some (b, rest) → c ∷ bytes ≡ side_word b ++ rest
 side_letter c d a b bytes rest t w e =
     let p = some_is (a, bytes) (b, rest) e in
     let same : a ≡ b = ap (λ (x : Bool × List ℕ). x.0) p in
     let ends : bytes ≡ rest = ap (λ (x : Bool × List ℕ). x.1) p in
     let first : c ≡ d = eqb-true c d t in
     let whole : c ∷ bytes ≡ d ∷ rest = cc in
-    subst (λ (x : Bool). c ∷ bytes ≡ side_word x ++ rest) same (whole ∙ ap (λ (x : List ℕ). x ++ rest) (sym w))
+    subst (λ (x : Bool). c ∷ bytes ≡ side_word x ++ rest) same (whole
+    ∙ ap (λ (x : List ℕ). x ++ rest) (sym w))
 
 pub side_gave : (bytes : List ℕ) (inside : Bool) (rest : List ℕ)
     → side_at bytes ≡ Some (inside, rest) → bytes ≡ side_word inside ++ rest
 side_gave [] inside rest h = absurd (cc)
 side_gave (c ∷ bytes) inside rest h =
-    either_way (nat_eq c 73) _ _ _ _ h (λ t e. side_letter c 73 true inside bytes rest t refl e) (λ f.
-    either_way (nat_eq c 79) _ _ _ _ f (λ t e. side_letter c 79 false inside bytes rest t refl e) (λ m. absurd (cc)))
+    either_way (nat_eq c 73) _ _ _ _ h (λ t e. side_letter c 73 true inside bytes rest t refl e)
+    (λ f.
+    either_way (nat_eq c 79) _ _ _ _ f (λ t e. side_letter c 79 false inside bytes rest t refl e)
+    (λ m. absurd (cc)))
 
 pub side_is : (inside : Bool) (rest : List ℕ)
     → side_at (side_word inside ++ rest) ≡ Some (inside, rest)
@@ -284,8 +329,13 @@ half_made label link rank h e =
     then label _ h _ e (λ l i f.
     then link _ h _ f (λ k j g.
     then rank _ h _ g (λ r m n.
-    let q : (let x : HalfNote = record { label = l; link = k; rank = r } in x) ≡ h = some_is _ h n in
-    (i ∙ ap (λ (x : HalfNote). Some x.label) q, j ∙ ap (λ (x : HalfNote). Some x.link) q, m ∙ ap (λ (x : HalfNote). Some x.rank) q))))
+    let q : (let x : HalfNote = record { label = l; link = k; rank = r } in x)
+    ≡ h = some_is _ h n in (
+      i ∙ ap (λ (x : HalfNote). Some x.label) q,
+      j ∙ ap (λ (x : HalfNote). Some x.link) q,
+      m
+          ∙ ap (λ (x : HalfNote). Some x.rank) q,
+    ))))
 
 pub half_gave : (bytes : List ℕ) (h : HalfNote) (rest : List ℕ)
     → half_at bytes ≡ Some (Some h, rest) → (bytes ≡ half_onto h rest) × FitsHalf h
@@ -296,10 +346,12 @@ half_gave bytes h rest e =
     then (link_at a) _ (Some h, rest) _ e2 (λ link i3 e3.
     then (after_word (codes " ") link.1) _ (Some h, rest) _ e3 (λ b i4 e4.
     then (number_at b) _ (Some h, rest) _ e4 (λ rank i5 e5.
-    let p : (let x : Option HalfNote × List ℕ = (half_note label.0 link.0 rank.0, rank.1) in x) ≡ (Some h, rest) = some_is _ _ e5 in
+    let p : (let x : Option HalfNote × List ℕ = (half_note label.0 link.0 rank.0, rank.1) in x)
+    ≡ (Some h, rest) = some_is _ _ e5 in
     let m = half_made label.0 link.0 rank.0 h (ap (λ (x : Option HalfNote × List ℕ). x.0) p) in
     let ends : rank.1 ≡ rest = ap (λ (x : Option HalfNote × List ℕ). x.1) p in
-    let g1 = number_gave bytes h.label label.1 (i1 ∙ ap (λ (x : Option ℕ). Some (x, label.1)) m.0) in
+    let g1 = number_gave bytes h.label label.1 (i1
+    ∙ ap (λ (x : Option ℕ). Some (x, label.1)) m.0) in
     let g2 = after_word_gave (codes " ") label.1 a i2 in
     let g3 = link_gave a h.link link.1 (i3 ∙ ap (λ (x : Option Link). Some (x, link.1)) m.1) in
     let g4 = after_word_gave (codes " ") link.1 b i4 in

@@ -36,7 +36,10 @@ pub none_marked : (s : Subject) (P : Gap → Half → Type 0) (marks : List Bool
     → marks ≡ replicate n false → n ≡ length s.claims.notes → AreMarkedTo s P 0 marks
 none_marked s P marks n e f = record {
   size = ap length e ∙ length-replicate n false ∙ f;
-  each = λ h. ((λ m. absurd (unmarked marks n h e m)), (λ q. absurd (let l = q.1 in omega (arith, l))));
+  each = λ h. (
+    (λ m. absurd (unmarked marks n h e m)),
+    (λ q. absurd (let l = q.1 in omega (arith, l))),
+  );
 }
 
 pub none_placed : (s : Subject) (spots : List Spot) (marks : List Bool) (n next bad : ℕ)
@@ -51,7 +54,10 @@ none_placed s spots marks n next bad a e b m f = record {
   most = omega (arith, b);
   unplaced = λ l. absurd (omega (arith, l, b));
   size = ap length m ∙ length-replicate n false ∙ f;
-  each = λ h. ((λ x. absurd (unmarked marks n h m x)), (λ q. absurd (let l = q.1 in omega (arith, l, e))));
+  each = λ h. (
+    (λ x. absurd (unmarked marks n h m x)),
+    (λ q. absurd (let l = q.1 in omega (arith, l, e))),
+  );
 }
 
 pub ends_of : (edges : List Edge) (table : List Timed) (events : ℕ) (low high : List ℕ)
@@ -66,26 +72,34 @@ ends_of edges table events low high e a = record {
     inside : (i : ℕ) → i < length low → i < length edges
     inside i l = let c = a.low_count in omega (arith, l, c)
 
-module _ (s : Subject) (n : HasCounts s) (events : ℕ) (low high : List ℕ) (a : AreEventsOf s.edges s.table low high) where
+module _ (s : Subject) (n : HasCounts s) (events : ℕ) (low high : List ℕ)
+    (a : AreEventsOf s.edges s.table low high) where
   low_at : (e : ℕ) → e < length low
       → IsEventAt (steps_from [] (moves s)) (get_or low e 0) (edge s e).low
   low_at e l =
       let m : e < length s.edges = (let c = a.low_count in omega (arith, l, c)) in
-      subst (IsEventAt (steps_from [] (moves s)) (get_or low e 0)) (a.low_at e m) (move_event_at [] s.table s.claims.positions (get_or low e 0) n.positions (a.low_within e m))
+      subst (IsEventAt (steps_from [] (moves s)) (get_or low e 0)) (a.low_at e m)
+      (move_event_at [] s.table s.claims.positions (get_or low e 0) n.positions
+      (a.low_within e m))
 
   high_at : (e : ℕ) → e < length low
       → IsEventAt (steps_from [] (moves s)) (get_or high e 0) (edge s e).high
   high_at e l =
       let m : e < length s.edges = (let c = a.low_count in omega (arith, l, c)) in
-      subst (IsEventAt (steps_from [] (moves s)) (get_or high e 0)) (a.high_at e m) (move_event_at [] s.table s.claims.positions (get_or high e 0) n.positions (a.high_within e m))
+      subst (IsEventAt (steps_from [] (moves s)) (get_or high e 0)) (a.high_at e m)
+      (move_event_at [] s.table s.claims.positions (get_or high e 0) n.positions
+      (a.high_within e m))
 
   pub none_turned : (mesh : HalfEdges) → IsMeshOf events low high (length low) mesh
       → IsTurned (length s.edges) (edge s) (steps_from [] (moves s)) mesh 0
-  none_turned mesh is = subst (λ (m : ℕ). IsTurned m (edge s) (steps_from [] (moves s)) mesh 0) a.low_count (begin (edge s) (steps_from [] (moves s)) events low high mesh is low_at high_at)
+  none_turned mesh is =
+      subst (λ (m : ℕ). IsTurned m (edge s) (steps_from [] (moves s)) mesh 0) a.low_count
+      (begin (edge s) (steps_from [] (moves s)) events low high mesh is low_at high_at)
 
 pub none_moved : (s : Subject) (live : List ℕ) (most fan : ℕ) (mesh : HalfEdges) → live ≡ []
     → IsWidest s.table (length s.table) most → fan ≡ most
-    → IsTurned (length s.edges) (edge s) (steps_from [] (moves s)) mesh 0 → IsMovedTo s 0 live fan mesh
+    → IsTurned (length s.edges) (edge s) (steps_from [] (moves s)) mesh 0
+    → IsMovedTo s 0 live fan mesh
 none_moved s live most fan mesh e w f t = record {
   passes = λ j l. absurd (omega (arith, l));
   live = e;

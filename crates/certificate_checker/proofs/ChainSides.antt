@@ -49,16 +49,30 @@ odd_half n z = odd_number (half_of n) n (number_half n) z
 -- ---- the side of a half-edge, and the side that faces the tube
 faces_is : (part : runs.Part) (w h : Half) → edge_of w ≡ edge_of h
     → (facing_of part w ≡ half_side h) ↔ (runs.IsOfTube part × (h ≡ w))
-faces_is runs.whole w (under f) e = ((λ q. absurd (let x : facing.Neither ≡ facing.Below = q in cc)), (λ x. absurd x.0))
-faces_is runs.whole w (over f) e = ((λ q. absurd (let x : facing.Neither ≡ facing.Above = q in cc)), (λ x. absurd x.0))
+faces_is runs.whole w (under f) e =
+    ((λ q. absurd (let x : facing.Neither ≡ facing.Below = q in cc)), (λ x. absurd x.0))
+faces_is runs.whole w (over f) e =
+    ((λ q. absurd (let x : facing.Neither ≡ facing.Above = q in cc)), (λ x. absurd x.0))
 faces_is runs.inner (under d) (under f) e = ((λ q. (tt, ap under (sym e))), (λ x. refl))
 faces_is runs.inner (over d) (over f) e = ((λ q. (tt, ap over (sym e))), (λ x. refl))
-faces_is runs.inner (under d) (over f) e = ((λ q. absurd (let x : facing.Below ≡ facing.Above = q in cc)), (λ x. absurd (let y = x.1 in cc)))
-faces_is runs.inner (over d) (under f) e = ((λ q. absurd (let x : facing.Above ≡ facing.Below = q in cc)), (λ x. absurd (let y = x.1 in cc)))
+faces_is runs.inner (under d) (over f) e = (
+  (λ q. absurd (let x : facing.Below ≡ facing.Above = q in cc)),
+  (λ x. absurd (let y = x.1 in cc)),
+)
+faces_is runs.inner (over d) (under f) e = (
+  (λ q. absurd (let x : facing.Above ≡ facing.Below = q in cc)),
+  (λ x. absurd (let y = x.1 in cc)),
+)
 faces_is runs.outer (under d) (under f) e = ((λ q. (tt, ap under (sym e))), (λ x. refl))
 faces_is runs.outer (over d) (over f) e = ((λ q. (tt, ap over (sym e))), (λ x. refl))
-faces_is runs.outer (under d) (over f) e = ((λ q. absurd (let x : facing.Below ≡ facing.Above = q in cc)), (λ x. absurd (let y = x.1 in cc)))
-faces_is runs.outer (over d) (under f) e = ((λ q. absurd (let x : facing.Above ≡ facing.Below = q in cc)), (λ x. absurd (let y = x.1 in cc)))
+faces_is runs.outer (under d) (over f) e = (
+  (λ q. absurd (let x : facing.Below ≡ facing.Above = q in cc)),
+  (λ x. absurd (let y = x.1 in cc)),
+)
+faces_is runs.outer (over d) (under f) e = (
+  (λ q. absurd (let x : facing.Above ≡ facing.Below = q in cc)),
+  (λ x. absurd (let y = x.1 in cc)),
+)
 
 -- ---- owners
 part_one : (p q : runs.Part) → part_of p ≡ part_of q → p ≡ q
@@ -78,9 +92,14 @@ part_is o w p e q = part_one o.part p (sym (ap (λ (w : Owner). w.part) e) ∙ q
 
 -- the owner is on that chain of that curve
 pub on_chain : (o : runs.Owned) (w : Owner) (curve : ℕ) (inside : Bool) → w ≡ owner_as o
-    → ((w.curve ≡ curve) × (w.part ≡ part_of (side_part inside))) ↔ ((o.curve ≡ curve) × (o.part ≡ side_part inside))
+    → ((w.curve ≡ curve) × (w.part ≡ part_of (side_part inside)))
+    ↔ ((o.curve ≡ curve) × (o.part ≡ side_part inside))
 on_chain o w curve inside e = (
-  (λ x. (sym (ap (λ (w : Owner). w.curve) e) ∙ x.0, part_one o.part (side_part inside) (sym (ap (λ (w : Owner). w.part) e) ∙ x.1))),
+  (λ x. (
+    sym (ap (λ (w : Owner). w.curve) e)
+        ∙ x.0,
+    part_one o.part (side_part inside) (sym (ap (λ (w : Owner). w.part) e) ∙ x.1),
+  )),
   (λ x. (ap (λ (w : Owner). w.curve) e ∙ x.0, ap (λ (w : Owner). w.part) e ∙ ap part_of x.1)),
 )
 
@@ -118,7 +137,9 @@ module _ (c : Case) (fit : IsFit c) where
   edges_count = ap length fit.edges_are
 
   pub owners_count : length c.owners.now ≡ length s.edges
-  owners_count = ap length fit.owners ∙ length-map (runs.edge_list (drawn_bays d level) 0 d.curves) owner_as ∙ sym (edge_count d level) ∙ sym edges_count
+  owners_count = ap length fit.owners
+      ∙ length-map (runs.edge_list (drawn_bays d level) 0 d.curves) owner_as
+      ∙ sym (edge_count d level) ∙ sym edges_count
 
   pub facings_count : length c.facings.now ≡ length s.edges
   facings_count = fit.facings.count ∙ sym edges_count
@@ -127,7 +148,8 @@ module _ (c : Case) (fit : IsFit c) where
       → get_or c.owners.now e z ≡ owner_as (owned_of s e)
   owner_at e z l =
       ap (λ (os : List Owner). get_or os e z) fit.owners
-      ∙ mapped (runs.edge_list (drawn_bays d level) 0 d.curves) e (let a = edges_count in let b = edge_count d level in omega (arith, l, a, b))
+      ∙ mapped (runs.edge_list (drawn_bays d level) 0 d.curves) e (let a = edges_count in
+      let b = edge_count d level in omega (arith, l, a, b))
     where
       mapped : (os : List runs.Owned) (k : ℕ) → k < length os
           → get_or (map owner_as os) k z ≡ owner_as (get_or os k runs.no_edge)
@@ -142,17 +164,23 @@ module _ (c : Case) (fit : IsFit c) where
 
   pub chain_arc : (e i : ℕ) (inside : Bool) → e < length s.edges → i ≡ (owned_of s e).curve
       → (owned_of s e).part ≡ side_part inside → IsHalfArc d i
-  chain_arc e i inside l q p = subst (IsHalfArc d) (sym q) ((of_half_arc d level e (let a = edges_count in omega (arith, l, a))).0 (chain_tube e inside p))
+  chain_arc e i inside l q p =
+      subst (IsHalfArc d) (sym q)
+      ((of_half_arc d level e (let a = edges_count in omega (arith, l, a))).0
+      (chain_tube e inside p))
 
   within_edge : (e : ℕ) → edge_of (within s e) ≡ e
-  within_edge e = side_edge (runs.third_is_left (runs.owner d (bays_of s) e)) (owned_of s e).part (runs.runs_on (runs.owner d (bays_of s) e) (edge s e)) e
+  within_edge e =
+      side_edge (runs.third_is_left (runs.owner d (bays_of s) e)) (owned_of s e).part
+      (runs.runs_on (runs.owner d (bays_of s) e) (edge s e)) e
 
   pub facing_is : (e : ℕ) (z : Facing) → e < length s.edges
       → get_or c.facings.now e z ≡ facing_of (owned_of s e).part (within s e)
   facing_is e z l =
       same c.facings.now e (let a = facings_count in omega (arith, l, a))
       ∙ fit.facings.each e (let a = edges_count in omega (arith, l, a))
-      ∙ ap (λ (es : List Edge). facing_of (owned_of s e).part (runs.half_within d (bays_of s) (nth_edge es) e)) (sym fit.edges_are)
+      ∙ ap (λ (es : List Edge). facing_of (owned_of s e).part
+      (runs.half_within d (bays_of s) (nth_edge es) e)) (sym fit.edges_are)
     where
       same : (fs : List Facing) (k : ℕ) → k < length fs → get_or fs k z ≡ get_or fs k facing.Neither
       same [] k l = absurd (omega (arith, l))
@@ -163,28 +191,44 @@ module _ (c : Case) (fit : IsFit c) where
   half_there n l = half_within s n l
 
   pub facing_half : (n e : ℕ) (z : Facing) → n < 2 * length s.edges → e ≡ edge_of (half_of n)
-      → get_or c.facings.now e z ≡ facing_of (owned_of s (edge_of (half_of n))).part (within s (edge_of (half_of n)))
-  facing_half n e z l q = subst (λ (k : ℕ). get_or c.facings.now k z ≡ facing_of (owned_of s (edge_of (half_of n))).part (within s (edge_of (half_of n)))) (sym q) (facing_is (edge_of (half_of n)) z (half_there n l))
+      → get_or c.facings.now e z ≡ facing_of (owned_of s (edge_of (half_of n))).part
+      (within s (edge_of (half_of n)))
+  facing_half n e z l q =
+      subst (λ (k : ℕ). get_or c.facings.now k z
+      ≡ facing_of (owned_of s (edge_of (half_of n))).part (within s (edge_of (half_of n)))) (sym q)
+      (facing_is (edge_of (half_of n)) z (half_there n l))
 
   module _ (e : ℕ) (f : Facing) (is : f ≡ facing_of (owned_of s e).part (within s e)) where
     pub above_within : f ≡ facing.Above → half_of (2 * e + 1) ≡ within s e
-    above_within q = half_over e ∙ sym (within_over (owned_of s e).part (within s e) e (within_edge e) (sym is ∙ q))
+    above_within q =
+        half_over e ∙ sym
+        (within_over (owned_of s e).part (within s e) e (within_edge e) (sym is ∙ q))
 
     pub above_outside : f ≡ facing.Above → half_of (2 * e) ≡ twin (within s e)
-    above_outside q = half_under e ∙ sym (ap twin (within_over (owned_of s e).part (within s e) e (within_edge e) (sym is ∙ q)))
+    above_outside q =
+        half_under e
+        ∙ sym (ap twin
+        (within_over (owned_of s e).part (within s e) e (within_edge e) (sym is ∙ q)))
 
     pub below_within : runs.IsOfTube (owned_of s e).part → (f ≡ facing.Above → ⊥)
         → half_of (2 * e) ≡ within s e
-    below_within o n = half_under e ∙ sym (within_under (owned_of s e).part (within s e) e o (within_edge e) (λ q. n (is ∙ q)))
+    below_within o n =
+        half_under e
+        ∙ sym (within_under (owned_of s e).part (within s e) e o (within_edge e) (λ q. n (is ∙ q)))
 
     pub below_outside : runs.IsOfTube (owned_of s e).part → (f ≡ facing.Above → ⊥)
         → half_of (2 * e + 1) ≡ twin (within s e)
-    below_outside o n = half_over e ∙ sym (ap twin (within_under (owned_of s e).part (within s e) e o (within_edge e) (λ q. n (is ∙ q))))
+    below_outside o n =
+        half_over e ∙ sym
+        (ap twin (within_under (owned_of s e).part (within s e) e o (within_edge e)
+        (λ q. n (is ∙ q))))
 
-  module _ (h : Half) (f : Facing) (is : f ≡ facing_of (owned_of s (edge_of h)).part (within s (edge_of h))) where
+  module _ (h : Half) (f : Facing) (is : f
+      ≡ facing_of (owned_of s (edge_of h)).part (within s (edge_of h))) where
     pub faced_is : (f ≡ half_side h) ↔ FacesTube s h
     faced_is =
-        let x = faces_is (owned_of s (edge_of h)).part (within s (edge_of h)) h (within_edge (edge_of h)) in (
+        let x = faces_is (owned_of s (edge_of h)).part (within s (edge_of h)) h
+        (within_edge (edge_of h)) in (
           (λ q. let y = x.0 (sym is ∙ q) in record { of_tube = y.0; is = y.1 }),
           (λ y. is ∙ x.1 (y.of_tube, y.is)),
         )
@@ -193,8 +237,13 @@ module _ (c : Case) (fit : IsFit c) where
         → (owned_of s (edge_of h)).part ≡ side_part inside
         → (f ≡ half_side (twin h)) ↔ LiesOutside s h curve inside
     across_is curve inside a b =
-        let x = faces_is (owned_of s (edge_of h)).part (within s (edge_of h)) (twin h) (within_edge (edge_of h) ∙ sym (twin_edge h)) in (
-          (λ q. record { of_curve = a; part = b; is = twin_back h (within s (edge_of h)) (x.0 (sym is ∙ q)).1 }),
+        let x = faces_is (owned_of s (edge_of h)).part (within s (edge_of h)) (twin h)
+        (within_edge (edge_of h) ∙ sym (twin_edge h)) in (
+          (λ q. record {
+            of_curve = a;
+            part = b;
+            is = twin_back h (within s (edge_of h)) (x.0 (sym is ∙ q)).1;
+          }),
           (λ y. is ∙ x.1 (chain_tube (edge_of h) inside b, twice h y.is)),
         )
       where
@@ -210,20 +259,30 @@ module _ (c : Case) (fit : IsFit c) where
       → IsFirstOf s true i (runs.first_edge (bays_of s) 0 d.curves i)
   first_inside i h =
       let o = first_inner d level i h (fit.counts.edges.tubes i h) in
-      record { there = (let a = o.there in let b = edges_count in omega (arith, a, b)); of_tube = subst runs.IsOfTube (sym o.part) tt; first = refl }
+      record {
+        there = (let a = o.there in let b = edges_count in omega (arith, a, b));
+        of_tube = subst runs.IsOfTube (sym o.part) tt;
+        first = refl;
+      }
 
   pub first_outside : (i : ℕ) → IsHalfArc d i
       → IsFirstOf s false i (runs.first_edge (bays_of s) 0 d.curves i + length (bays_of s i))
   first_outside i h =
       let o = first_outer d level i h in
-      record { there = (let a = o.there in let b = edges_count in omega (arith, a, b)); of_tube = subst runs.IsOfTube (sym o.part) tt; first = refl }
+      record {
+        there = (let a = o.there in let b = edges_count in omega (arith, a, b));
+        of_tube = subst runs.IsOfTube (sym o.part) tt;
+        first = refl;
+      }
 
   pub bays_count : (i : ℕ) → IsHalfArc d i → length (bays_of s i) ≡ 2 ^ (level + 1)
   bays_count i h = bay_count d level i (fit.counts.edges.tubes i h)
 
   pub first_at : (i z : ℕ) → IsHalfArc d i
       → get_or c.firsts.now i z ≡ runs.first_edge (bays_of s) 0 d.curves i
-  first_at i z h = same c.firsts.now i (let a = fit.firsts.count in let l = h.there in omega (arith, a, l)) ∙ fit.firsts.each i h.there
+  first_at i z h =
+      same c.firsts.now i (let a = fit.firsts.count in let l = h.there in omega (arith, a, l))
+      ∙ fit.firsts.each i h.there
     where
       same : (ns : List ℕ) (k : ℕ) → k < length ns → get_or ns k z ≡ get_or ns k 0
       same [] k l = absurd (omega (arith, l))
@@ -232,13 +291,16 @@ module _ (c : Case) (fit : IsFit c) where
 
   pub first_then : (i n : ℕ) (b : Bool) → IsHalfArc d i → b ≡ true
       → n ≡ runs.first_edge (bays_of s) 0 d.curves i → IsFirstOf s b i n
-  first_then i n b h q e = subst (λ (b : Bool). IsFirstOf s b i n) (sym q) (subst (IsFirstOf s true i) (sym e) (first_inside i h))
+  first_then i n b h q e =
+      subst (λ (b : Bool). IsFirstOf s b i n) (sym q)
+      (subst (IsFirstOf s true i) (sym e) (first_inside i h))
 
   pub first_else : (i n k : ℕ) (b : Bool) → IsHalfArc d i → b ≡ false
       → n ≡ runs.first_edge (bays_of s) 0 d.curves i → k ≡ 2 ^ (level + 1) → IsFirstOf s b i (n + k)
   first_else i n k b h q e f =
       let g = bays_count i h in
-      subst (λ (b : Bool). IsFirstOf s b i (n + k)) (sym q) (subst (IsFirstOf s false i) (omega (arith, e, f, g)) (first_outside i h))
+      subst (λ (b : Bool). IsFirstOf s b i (n + k)) (sym q)
+      (subst (IsFirstOf s false i) (omega (arith, e, f, g)) (first_outside i h))
 
   pub first_few : (i n k : ℕ) → IsHalfArc d i → n ≡ runs.first_edge (bays_of s) 0 d.curves i
       → k ≡ 2 ^ (level + 1) → (n + k) < 2 ^ 31

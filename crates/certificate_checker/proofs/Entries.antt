@@ -1,4 +1,5 @@
--- Entries of lists, as a program looks them up and adds them, and cases on the order of two numbers.
+-- Entries of lists, as a program looks them up and adds them, and cases on the order of two
+-- numbers.
 use Rattle.std.proofs.Common.{◌≡◌, ℕ, zero, suc, ◌+◌, ◌<◌, ◌≤◌, List, [], ◌∷◌, ◌++◌, length, get_or}
 use Rattle.std.proofs.Common.{refl, arith, sym, subst}
 use Rattle.std.proofs.lemmas.List.{get_or_append_left, get_or-append-add}
@@ -23,8 +24,12 @@ pub pushed : {X : Type 0} (P : ℕ → X → Type 0) (xs new : List X) (x z : X)
 pushed P xs new x z i s e f p k l =
     subst (λ ys. P k (get_or ys k z)) (sym e)
     (by_lt k i
-    (λ (m : k < i). subst (P k) (sym (get_or_append_left xs (x ∷ []) z k (omega (arith, m, s)))) (f k m))
-    (λ (m : i ≤ k). subst (λ (n : ℕ). P n (get_or (xs ++ x ∷ []) n z)) (last (length xs) k (omega (arith, l, m, s))) (subst (P (length xs + 0)) (sym (get_or-append-add xs (x ∷ []) 0 z)) (subst (λ (n : ℕ). P n x) (here i (length xs) (sym s)) p))))
+    (λ (m : k < i). subst (P k) (sym (get_or_append_left xs (x ∷ []) z k (omega (arith, m, s))))
+    (f k m))
+    (λ (m : i ≤ k). subst (λ (n : ℕ). P n (get_or (xs ++ x ∷ []) n z))
+    (last (length xs) k (omega (arith, l, m, s)))
+    (subst (P (length xs + 0)) (sym (get_or-append-add xs (x ∷ []) 0 z))
+    (subst (λ (n : ℕ). P n x) (here i (length xs) (sym s)) p))))
   where
     last : (n k : ℕ) → k ≡ n → n + 0 ≡ k
     last n k q = omega (arith, q)

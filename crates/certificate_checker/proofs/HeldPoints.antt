@@ -43,16 +43,22 @@ corner_close low high from p at n i j c = record {
   where
     close : (l h v w p : ℤ) → (h -ℤ l) <ℤ pos (2 ^ 40) → l ≤ℤ v → v ≤ℤ h → l ≤ℤ w → w ≤ℤ h
         → IsNear (2 ^ 28) v p → IsNear (2 ^ 41) p w
-    close l h v w p n a b c d e = record { above = omega (arith, ints, n, a, b, c, d, e.above, e.below); below = omega (arith, ints, n, a, b, c, d, e.above, e.below) }
+    close l h v w p n a b c d e =
+        record {
+          above = omega (arith, ints, n, a, b, c, d, e.above, e.below);
+          below = omega (arith, ints, n, a, b, c, d, e.above, e.below);
+        }
 
-module _ (w : Window2) (c : Curve) (at : Point) (drawn : IsDrawn w.low w.high c) (inside : IsInside w.low w.high at) where
+module _ (w : Window2) (c : Curve) (at : Point) (drawn : IsDrawn w.low w.high c)
+    (inside : IsInside w.low w.high at) where
   abbrev h : HalfArc
   h = arc c
 
   corners_close : (ps : List Point) → Each (AreNear (2 ^ 28) c.from) ps
       → Each (λ p. AreClose p at) ps
   corners_close [] e = tt
-  corners_close (p ∷ ps) e = (corner_close w.low w.high c.from p at w.narrow drawn.from inside e.0, corners_close ps e.1)
+  corners_close (p ∷ ps) e =
+      (corner_close w.low w.high c.from p at w.narrow drawn.from inside e.0, corners_close ps e.1)
 
   self : (z : ℤ) → IsNear (2 ^ 28) z z
   self z = record { above = omega (arith, ints); below = omega (arith, ints) }
@@ -61,20 +67,33 @@ module _ (w : Window2) (c : Curve) (at : Point) (drawn : IsDrawn w.low w.high c)
     pub inner_close : Each (λ p. AreClose p at) t.inner.items
     inner_close =
         subst (Each (λ p. AreClose p at)) (sym made.inner)
-        (corners_close (c.from ∷ made.after) (record { x = self c.from.x; y = self c.from.y }, made.tube.inner_near))
+        (corners_close (c.from ∷ made.after) (
+          record {
+            x = self c.from.x;
+            y = self c.from.y;
+          },
+          made.tube.inner_near,
+        ))
 
     pub outer_close : Each (λ p. AreClose p at) t.outer.items
     outer_close = corners_close t.outer.items made.tube.outer_near
 
     pub holds_in : InTubeOf t (point at) → InTube c.from (bays_at h level) (point at)
-    holds_in z = subst (λ bs. InTube c.from bs (point at)) (sym (bays_are h level made.after t.outer.items made.tube)) (subst (λ (ps : List Point). InTubeFrom ps t.outer.items (point at)) made.inner z)
+    holds_in z =
+        subst (λ bs. InTube c.from bs (point at))
+        (sym (bays_are h level made.after t.outer.items made.tube))
+        (subst (λ (ps : List Point). InTubeFrom ps t.outer.items (point at)) made.inner z)
 
     pub in_holds : InTube c.from (bays_at h level) (point at) → InTubeOf t (point at)
-    in_holds z = subst (λ (ps : List Point). InTubeFrom ps t.outer.items (point at)) (sym made.inner) (subst (λ bs. InTube c.from bs (point at)) (bays_are h level made.after t.outer.items made.tube) z)
+    in_holds z =
+        subst (λ (ps : List Point). InTubeFrom ps t.outer.items (point at)) (sym made.inner)
+        (subst (λ bs. InTube c.from bs (point at))
+        (bays_are h level made.after t.outer.items made.tube) z)
 
     pub has_side : InTubeOf t (point at) → HasSide h (point at)
     has_side z =
-        tube_has_sides h (bays made.after t.outer.items) (point at) made.tube.circle (tube_near h level made.after t.outer.items made.tube) (place_point at)
+        tube_has_sides h (bays made.after t.outer.items) (point at) made.tube.circle
+        (tube_near h level made.after t.outer.items made.tube) (place_point at)
         (subst (λ (ps : List Point). InTubeFrom ps t.outer.items (point at)) made.inner z)
 
 -- a half arc with a tube is not without one
@@ -83,7 +102,10 @@ no_tube h level t n = n t.0 t.1 t.2
 
 -- ---- the side of a point of a tube
 pub sided_near : (h : HalfArc) (p : Point) → HasSide h (point p) → AreNear (2 ^ 32) h.from p
-sided_near h p s = record { x = near h.from.x p.x s.right s.left; y = near h.from.y p.y s.above s.below }
+sided_near h p s = record {
+  x = near h.from.x p.x s.right s.left;
+  y = near h.from.y p.y s.above s.below;
+}
   where
     near : (a b : ℤ) → (b -ℤ (a *ℤ pos 1)) <ℤ (pos (2 ^ 28) *ℤ pos 1)
         → (pos 0 -ℤ (b -ℤ (a *ℤ pos 1))) <ℤ (pos (2 ^ 28) *ℤ pos 1) → IsNear (2 ^ 32) a b
@@ -91,26 +113,46 @@ sided_near h p s = record { x = near h.from.x p.x s.right s.left; y = near h.fro
 
 pub inside_is : (s : Side) (z : ℤ) → HasSign s z → (s ≡ side.Inside) ↔ IsOnSide true z
 inside_is side.Inside z h = ((λ q. h), (λ x. refl))
-inside_is side.On z h = ((λ q. absurd (let e : side.On ≡ side.Inside = q in cc)), (λ x. absurd (omega (arith, ints, h, x))))
-inside_is side.Outside z h = ((λ q. absurd (let e : side.Outside ≡ side.Inside = q in cc)), (λ x. absurd (omega (arith, ints, h, x))))
+inside_is side.On z h = (
+  (λ q. absurd (let e : side.On ≡ side.Inside = q in cc)),
+  (λ x. absurd (omega (arith, ints, h, x))),
+)
+inside_is side.Outside z h = (
+  (λ q. absurd (let e : side.Outside ≡ side.Inside = q in cc)),
+  (λ x. absurd (omega (arith, ints, h, x))),
+)
 
 pub outside_is : (s : Side) (z : ℤ) → HasSign s z → (s ≡ side.Outside) ↔ IsOnSide false z
-outside_is side.Inside z h = ((λ q. absurd (let e : side.Inside ≡ side.Outside = q in cc)), (λ x. absurd (omega (arith, ints, h, x))))
-outside_is side.On z h = ((λ q. absurd (let e : side.On ≡ side.Outside = q in cc)), (λ x. absurd (omega (arith, ints, h, x))))
+outside_is side.Inside z h = (
+  (λ q. absurd (let e : side.Inside ≡ side.Outside = q in cc)),
+  (λ x. absurd (omega (arith, ints, h, x))),
+)
+outside_is side.On z h = (
+  (λ q. absurd (let e : side.On ≡ side.Outside = q in cc)),
+  (λ x. absurd (omega (arith, ints, h, x))),
+)
 outside_is side.Outside z h = ((λ q. h), (λ x. refl))
 
 -- ---- where a point is placed
 pub held_is : (d : Plan) (level i : ℕ) (inside : Bool) (at : Point) (c : Curve) (b : Bool)
     → IsHalfArc d i → c ≡ curve d i
-    → IsTrue b ↔ (InTube c.from (bays_at (arc c) level) (point at) × IsOnSide inside (power (arc c) (point at))) → IsTrue b ↔ IsHeld d level i inside at
+    → IsTrue b ↔ (InTube c.from (bays_at (arc c) level) (point at)
+    × IsOnSide inside (power (arc c) (point at))) → IsTrue b ↔ IsHeld d level i inside at
 held_is d level i inside at c b h e f = (
-  (λ t. let x = subst (λ (c : Curve). InTube c.from (bays_at (arc c) level) (point at) × IsOnSide inside (power (arc c) (point at))) e (f.0 t) in record { half_arc = h; holds = x.0; side = x.1 }),
-  (λ x. f.1 (subst (λ (c : Curve). InTube c.from (bays_at (arc c) level) (point at) × IsOnSide inside (power (arc c) (point at))) (sym e) (x.holds, x.side))),
+  (λ t. let x = subst (λ (c : Curve). InTube c.from (bays_at (arc c) level) (point at)
+      × IsOnSide inside (power (arc c) (point at))) e (f.0 t) in
+      record { half_arc = h; holds = x.0; side = x.1 }),
+  (λ x. f.1 (subst (λ (c : Curve). InTube c.from (bays_at (arc c) level) (point at)
+      × IsOnSide inside (power (arc c) (point at))) (sym e) (x.holds, x.side))),
 )
 
-pub held_entry : (d : Plan) (level j : ℕ) (places : List PointPlace) (y : PointPlace) (p : Placed) (b : Bool)
+pub held_entry : (d : Plan) (level j : ℕ) (places : List PointPlace) (y : PointPlace) (p : Placed)
+    (b : Bool)
     → j < length places → length places ≡ length d.points → p ≡ get_or d.points j p
-    → IsTrue b ↔ IsHeldAt d level (get_or places j y) p.at → IsTrue b ↔ IsHeldAt d level (get_or places j (place.Cell 0)) (object d j)
+    → IsTrue b ↔ IsHeldAt d level (get_or places j y) p.at
+    → IsTrue b ↔ IsHeldAt d level (get_or places j (place.Cell 0)) (object d j)
 held_entry d level j places y p b l n e f =
-    subst (λ (x : PointPlace). IsTrue b ↔ IsHeldAt d level x (object d j)) (entry places j y (place.Cell 0) l)
-    (subst (λ (q : Point). IsTrue b ↔ IsHeldAt d level (get_or places j y) q) (ap (λ (p : Placed). p.at) (e ∙ entry d.points j p _ (omega (arith, l, n)))) f)
+    subst (λ (x : PointPlace). IsTrue b ↔ IsHeldAt d level x (object d j))
+    (entry places j y (place.Cell 0) l)
+    (subst (λ (q : Point). IsTrue b ↔ IsHeldAt d level (get_or places j y) q)
+    (ap (λ (p : Placed). p.at) (e ∙ entry d.points j p _ (omega (arith, l, n)))) f)

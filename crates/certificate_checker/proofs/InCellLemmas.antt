@@ -28,18 +28,23 @@ pub tube_none : (s : Subject) (j curve : ℕ) (inside : Bool) → place_at s j �
     → IsInOwnCell s j → ⊥
 tube_none s j curve inside e p = cell_tube (index_of s j) curve inside (sym p.cell ∙ e)
 
-module _ (s : Subject) (t : IsTimetable (length s.edges) (edge s) s.table) (n : HasCounts s) (k : ℕ) (w : k ≤ length s.table) (j : ℕ) (strip : IsInStrip s k (point_at s j)) (live : List ℕ) (now : live ≡ live_list s k) where
+module _ (s : Subject) (t : IsTimetable (length s.edges) (edge s) s.table) (n : HasCounts s) (k : ℕ)
+    (w : k ≤ length s.table) (j : ℕ) (strip : IsInStrip s k (point_at s j)) (live : List ℕ)
+    (now : live ≡ live_list s k) where
   pub event_none : (upto : Option Point) (at : Point) → at ≡ point_at s j → IsNextEvent s k upto
       → upto ≡ Some at → IsInOwnCell s j → ⊥
   event_none None at e next q = absurd (none_some at q)
-  event_none (Some v) at e next q = event_unplaced s t n k w j strip next.0 (sym e ∙ sym (some_one v at q) ∙ next.1)
+  event_none (Some v) at e next q =
+      event_unplaced s t n k w j strip next.0 (sym e ∙ sym (some_one v at q) ∙ next.1)
 
   index_is : (i : ℕ) → place_at s j ≡ place.Cell i → i ≡ index_of s j
   index_is i e = sym (ap under_place e)
 
   pub tests_none : (i : ℕ) → place_at s j ≡ place.Cell i → (IsBetweenEdges s live j i → ⊥)
       → IsInOwnCell s j → ⊥
-  tests_none i e f p = f (subst (λ (i : ℕ). IsBetweenEdges s live j i) (sym (index_is i e)) (placed_tests s t n k w j strip live now p).1)
+  tests_none i e f p =
+      f (subst (λ (i : ℕ). IsBetweenEdges s live j i) (sym (index_is i e))
+      (placed_tests s t n k w j strip live now p).1)
 
   no_event : (upto : Option Point) (at : Point) → at ≡ point_at s j → IsNextEvent s k upto
       → (upto ≡ Some at → ⊥) → k < length s.table → point_at s j ≡ (event s k).at → ⊥
@@ -50,23 +55,50 @@ module _ (s : Subject) (t : IsTimetable (length s.edges) (edge s) s.table) (n : 
       → IsNextEvent s k upto → place_at s j ≡ place.Cell i → (upto ≡ Some at → ⊥)
       → IsBetweenEdges s live j i → IsCellOf s j live (Some i)
   tests_some upto at i e next c f b =
-      let q = index_is i c in
-      (tests_placed s t n k w j strip live now (no_event upto at e next f) (c ∙ ap place.Cell q) (subst (λ (i : ℕ). IsBetweenEdges s live j i) q b), q, b.some, b.within)
+      let q = index_is i c in (
+        tests_placed s t n k w j strip live now (no_event upto at e next f) (c ∙ ap place.Cell q)
+            (subst (λ (i : ℕ). IsBetweenEdges s live j i) q b),
+        q,
+        b.some,
+        b.within,
+      )
 
   pub cell_marked : (i : ℕ) (old mid new : List Bool) → IsCellOf s j live (Some i)
-      → ((h : Half) → IsMarked mid h ↔ (IsMarked old h ⊎ (h ≡ half_of (2 * get_or live (i - 1) 0 + 1))))
-      → ((h : Half) → IsMarked new h ↔ (IsMarked mid h ⊎ (h ≡ half_of (2 * get_or live i 0)))) → (h : Half) → IsMarked new h ↔ (IsMarked old h ⊎ OfPoint s j h)
+      → ((h : Half)
+      → IsMarked mid h ↔ (IsMarked old h ⊎ (h ≡ half_of (2 * get_or live (i - 1) 0 + 1))))
+      → ((h : Half) → IsMarked new h ↔ (IsMarked mid h ⊎ (h ≡ half_of (2 * get_or live i 0))))
+      → (h : Half) → IsMarked new h ↔ (IsMarked old h ⊎ OfPoint s j h)
   cell_marked i old mid new cell f g h =
-      let beside = beside_cell s t n k w j strip live now h (subst (λ (i : ℕ). i < length live) cell.1 cell.3) (subst (λ (i : ℕ). 0 < i) cell.1 cell.2) in (
+      let beside = beside_cell s t n k w j strip live now h
+      (subst (λ (i : ℕ). i < length live) cell.1 cell.3)
+      (subst (λ (i : ℕ). 0 < i) cell.1 cell.2) in (
         (λ x. elim ((g h).0 x) [
-          | inl y ↦ elim ((f h).0 y) [ inl z ↦ inl z | inr q ↦ inr (cell.0, beside.1 (inl (subst (λ (i : ℕ). h ≡ over (get_or live (i - 1) 0)) cell.1 (q ∙ half_over (get_or live (i - 1) 0))))) ]
-          | inr q ↦ inr (cell.0, beside.1 (inr (subst (λ (i : ℕ). h ≡ under (get_or live i 0)) cell.1 (q ∙ half_under (get_or live i 0)))))
+          | inl y ↦ elim ((f h).0 y) [
+            | inl z ↦ inl z
+            | inr q ↦ inr (
+              cell.0,
+              beside.1
+                  (inl (subst (λ (i : ℕ). h ≡ over (get_or live (i - 1) 0)) cell.1 (q
+                  ∙ half_over (get_or live (i - 1) 0)))),
+            )
+          ]
+          | inr q ↦ inr (
+            cell.0,
+            beside.1
+                (inr (subst (λ (i : ℕ). h ≡ under (get_or live i 0)) cell.1 (q
+                ∙ half_under (get_or live i 0)))),
+          )
         ]),
         (λ x. elim x [
           | inl z ↦ (g h).1 (inl ((f h).1 (inl z)))
           | inr q ↦ elim (beside.0 q.1) [
-            | inl a ↦ (g h).1 (inl ((f h).1 (inr (subst (λ (i : ℕ). h ≡ over (get_or live (i - 1) 0)) (sym cell.1) a ∙ sym (half_over (get_or live (i - 1) 0))))))
-            | inr a ↦ (g h).1 (inr (subst (λ (i : ℕ). h ≡ under (get_or live i 0)) (sym cell.1) a ∙ sym (half_under (get_or live i 0))))
+            | inl a ↦ (g h).1
+                (inl ((f h).1
+                (inr (subst (λ (i : ℕ). h ≡ over (get_or live (i - 1) 0)) (sym cell.1) a
+                ∙ sym (half_over (get_or live (i - 1) 0))))))
+            | inr a ↦ (g h).1
+                (inr (subst (λ (i : ℕ). h ≡ under (get_or live i 0)) (sym cell.1) a
+                ∙ sym (half_under (get_or live i 0))))
           ]
         ]),
       )

@@ -56,7 +56,8 @@ past_end (e ∷ es) (suc i) l = past_end es i (omega (arith, l))
 pub before_place : (es : List ℕ) (i : ℕ) → (i ≡ 0 → ⊥) → i ≤ length es
     → edge_before es i ≡ Some (get_or es (i - 1) 0)
 before_place es zero n l = absurd (n refl)
-before_place es (suc i) n l = at_place es i (omega (arith, l)) ∙ ap (λ (k : ℕ). Some (get_or es k 0)) (back i)
+before_place es (suc i) n l = at_place es i (omega (arith, l))
+    ∙ ap (λ (k : ℕ). Some (get_or es k 0)) (back i)
   where
     back : (i : ℕ) → i ≡ suc i - 1
     back i = omega arith
@@ -91,7 +92,8 @@ first_of a (e ∷ es) = refl
 
 pub label_before : (a : Labels) (es : List ℕ) (p : ℕ) → p ≤ length es
     → over_label a (edge_before es p) ≡ last_label a 0 (take p es)
-label_before a es p l = ap (over_label a) (sym (last_before es p l)) ∙ sym (last_of a (take p es) None)
+label_before a es p l = ap (over_label a) (sym (last_before es p l))
+    ∙ sym (last_of a (take p es) None)
 
 pub label_after : (a : Labels) (es : List ℕ) (p : ℕ)
     → under_label a (edge_at es p) ≡ first_label a (drop p es) 0
@@ -172,7 +174,8 @@ pub at_note : (notes : List HalfNote) (live : List ℕ) (i : ℕ) (r : Option �
     → AreNotes notes live → HasNote notes r
 at_note notes live i r q a e h =
     by_lt i (length live)
-    (λ (l : i < length live). subst (λ (x : ℕ). 2 * x + 1 < length notes) (some_one (get_or live i 0) e (sym (at_place live i l) ∙ sym q ∙ h)) (a i l))
+    (λ (l : i < length live). subst (λ (x : ℕ). 2 * x + 1 < length notes)
+    (some_one (get_or live i 0) e (sym (at_place live i l) ∙ sym q ∙ h)) (a i l))
     (λ (l : length live ≤ i). absurd (none_some e (sym (past_end live i l) ∙ sym q ∙ h)))
 
 pub before_note : (notes : List HalfNote) (live : List ℕ) (p : ℕ) (r : Option ℕ)
@@ -187,18 +190,24 @@ pub match_more : (Q : Type 0) (a : Labels) (l m : ℕ) (starting : List ℕ) (i 
 match_more Q a l m starting i r k e f q =
     subst (λ (n : ℕ). Q ↔ Match a m (drop n starting) r) (sym (add-one i))
     (let g = subst (λ (ns : List ℕ). Q ↔ Match a l ns r) (drop-cons starting i 0 k) q in
-    subst (λ (n : ℕ). Q ↔ Match a n (drop (suc i) starting) r) (sym f) ((λ x. (g.0 x).1), (λ y. g.1 (e, y))))
+    subst (λ (n : ℕ). Q ↔ Match a n (drop (suc i) starting) r) (sym f)
+    ((λ x. (g.0 x).1), (λ y. g.1 (e, y))))
 
 pub match_no : (Q : Type 0) (a : Labels) (l : ℕ) (starting : List ℕ) (i r : ℕ) → i < length starting
     → (l ≡ a.below (get_or starting i 0) → ⊥) → Q ↔ Match a l (drop i starting) r → Q → ⊥
-match_no Q a l starting i r k n q x = n ((subst (λ (ns : List ℕ). Q ↔ Match a l ns r) (drop-cons starting i 0 k) q).0 x).0
+match_no Q a l starting i r k n q x =
+    n ((subst (λ (ns : List ℕ). Q ↔ Match a l ns r) (drop-cons starting i 0 k) q).0 x).0
 
 pub match_end : (Q : Type 0) (a : Labels) (l : ℕ) (starting : List ℕ) (i r : ℕ)
     → length starting ≤ i → Q ↔ Match a l (drop i starting) r → Q ↔ (l ≡ r)
-match_end Q a l starting i r k q = subst (λ (ns : List ℕ). Q ↔ Match a l ns r) (drop_of_length-le starting k) q
+match_end Q a l starting i r k q =
+    subst (λ (ns : List ℕ). Q ↔ Match a l ns r) (drop_of_length-le starting k) q
 
 pub by_eq : {P : Type 0} (i j : ℕ) → (i ≡ j → P) → (i ≢ j → P) → P
-by_eq i j f g = by_lt i j (λ (l : i < j). g (λ e. omega (arith, l, e))) (λ (l : j ≤ i). by_lt j i (λ (k : j < i). g (λ e. omega (arith, k, e))) (λ (k : i ≤ j). f (omega (arith, l, k))))
+by_eq i j f g =
+    by_lt i j (λ (l : i < j). g (λ e. omega (arith, l, e)))
+    (λ (l : j ≤ i). by_lt j i (λ (k : j < i). g (λ e. omega (arith, k, e)))
+    (λ (k : i ≤ j). f (omega (arith, l, k))))
 
 -- ---- the notes of edges, and the labels of an event
 pub notes_of : (notes : List HalfNote) (m : ℕ) (edges : List ℕ) → length notes ≡ 2 * m
@@ -208,25 +217,44 @@ notes_of notes m edges e b i l = let k = b i l in omega (arith, e, k)
 pub one_note : (notes : List HalfNote) (x : ℕ) → 2 * x + 1 < length notes → HasNote notes (Some x)
 one_note notes x l e q = subst (λ (y : ℕ). 2 * y + 1 < length notes) (some_one x e q) l
 
-pub labels_at : (s : Subject) (k : ℕ) (b : Bool) (notes : List HalfNote) (live starting : List ℕ) (p n : ℕ)
+pub labels_at : (s : Subject) (k : ℕ) (b : Bool) (notes : List HalfNote) (live starting : List ℕ)
+    (p n : ℕ)
     → notes ≡ s.claims.notes → live ≡ live_list s k → starting ≡ (event s k).starting
     → p ≡ position_at s k → n ≡ length (event s k).ending → p ≤ length live
-    → IsTrue b ↔ Match (labels_in notes) (over_label (labels_in notes) (edge_before live p)) starting (under_label (labels_in notes) (edge_at live (p + n))) → IsTrue b ↔ LabelsAt s k
+    → IsTrue b ↔ Match (labels_in notes)
+    (over_label (labels_in notes) (edge_before live p)) starting
+    (under_label (labels_in notes) (edge_at live (p + n))) → IsTrue b ↔ LabelsAt s k
 labels_at s k b notes live starting p n c e f g h l m' =
-    let m = subst (λ (ns : List HalfNote). IsTrue b ↔ Match (labels_in ns) (over_label (labels_in ns) (edge_before live p)) starting (under_label (labels_in ns) (edge_at live (p + n)))) c m' in
-    subst (λ (i : ℕ). IsTrue b ↔ Match (labels s) (last_label (labels s) 0 (take (position_at s k) (live_list s k))) (event s k).starting (first_label (labels s) (drop i (drop (position_at s k) (live_list s k))) 0)) h
-    (subst (λ (i : ℕ). IsTrue b ↔ Match (labels s) (last_label (labels s) 0 (take i (live_list s k))) (event s k).starting (first_label (labels s) (drop n (drop i (live_list s k))) 0)) g
-    (subst (λ (ns : List ℕ). IsTrue b ↔ Match (labels s) (last_label (labels s) 0 (take p (live_list s k))) ns (first_label (labels s) (drop n (drop p (live_list s k))) 0)) f
-    (subst (λ (ns : List ℕ). IsTrue b ↔ Match (labels s) (last_label (labels s) 0 (take p ns)) starting (first_label (labels s) (drop n (drop p ns)) 0)) e
-    (subst (λ (ns : List ℕ). IsTrue b ↔ Match (labels s) (last_label (labels s) 0 (take p live)) starting (first_label (labels s) ns 0)) (sym (drop_twice p n live))
-    (subst (λ (i : ℕ). IsTrue b ↔ Match (labels s) (last_label (labels s) 0 (take p live)) starting i) (label_after (labels s) live (p + n))
-    (subst (λ (i : ℕ). IsTrue b ↔ Match (labels s) i starting (under_label (labels s) (edge_at live (p + n)))) (label_before (labels s) live p l) m))))))
+    let m = subst (λ (ns : List HalfNote). IsTrue b
+    ↔ Match (labels_in ns) (over_label (labels_in ns) (edge_before live p)) starting
+    (under_label (labels_in ns) (edge_at live (p + n)))) c m' in
+    subst (λ (i : ℕ). IsTrue b ↔ Match (labels s)
+    (last_label (labels s) 0 (take (position_at s k) (live_list s k))) (event s k).starting
+    (first_label (labels s) (drop i (drop (position_at s k) (live_list s k))) 0)) h
+    (subst (λ (i : ℕ). IsTrue b ↔ Match (labels s)
+    (last_label (labels s) 0 (take i (live_list s k))) (event s k).starting
+    (first_label (labels s) (drop n (drop i (live_list s k))) 0)) g
+    (subst (λ (ns : List ℕ). IsTrue b ↔ Match (labels s)
+    (last_label (labels s) 0 (take p (live_list s k))) ns
+    (first_label (labels s) (drop n (drop p (live_list s k))) 0)) f
+    (subst (λ (ns : List ℕ). IsTrue b ↔ Match (labels s)
+    (last_label (labels s) 0 (take p ns)) starting
+    (first_label (labels s) (drop n (drop p ns)) 0)) e
+    (subst (λ (ns : List ℕ). IsTrue b ↔ Match (labels s)
+    (last_label (labels s) 0 (take p live)) starting (first_label (labels s) ns 0))
+    (sym (drop_twice p n live))
+    (subst (λ (i : ℕ). IsTrue b ↔ Match (labels s)
+    (last_label (labels s) 0 (take p live)) starting i) (label_after (labels s) live (p + n))
+    (subst (λ (i : ℕ). IsTrue b ↔ Match (labels s) i starting
+    (under_label (labels s) (edge_at live (p + n)))) (label_before (labels s) live p l) m))))))
 
 -- ---- the rules of an event from what a program looked up
-pub event_rule : (P : List ℕ → Point → ℕ → ℕ → Type 0) (s : Subject) (k : ℕ) (b : Bool) (live : List ℕ) (at : Point) (p n : ℕ)
+pub event_rule : (P : List ℕ → Point → ℕ → ℕ → Type 0) (s : Subject) (k : ℕ) (b : Bool)
+    (live : List ℕ) (at : Point) (p n : ℕ)
     → live ≡ live_list s k → at ≡ (event s k).at → p ≡ position_at s k
     → n ≡ length (event s k).ending
-    → IsTrue b ↔ P live at p n → IsTrue b ↔ P (live_list s k) (event s k).at (position_at s k) (length (event s k).ending)
+    → IsTrue b ↔ P live at p n → IsTrue b
+    ↔ P (live_list s k) (event s k).at (position_at s k) (length (event s k).ending)
 event_rule P s k b live at p n e f g h x =
     subst (λ (n : ℕ). IsTrue b ↔ P (live_list s k) (event s k).at (position_at s k) n) h
     (subst (λ (p : ℕ). IsTrue b ↔ P (live_list s k) (event s k).at p n) g

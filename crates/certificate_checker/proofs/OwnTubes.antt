@@ -35,7 +35,9 @@ beside_is s h j curve inside b e f = (
   (λ t. record { curve = curve; inside = inside; tube = e; outside = f.0 t }),
   (λ x.
       let q = sym x.tube ∙ e in
-      f.1 (subst (λ (i : ℕ). LiesOutside s h i inside) (one_curve x.curve curve x.inside inside q) (subst (λ (a : Bool). LiesOutside s h x.curve a) (one_side x.curve curve x.inside inside q) x.outside))),
+      f.1 (subst (λ (i : ℕ). LiesOutside s h i inside) (one_curve x.curve curve x.inside inside q)
+      (subst (λ (a : Bool). LiesOutside s h x.curve a)
+      (one_side x.curve curve x.inside inside q) x.outside))),
 )
 
 pub at_tube_is : (s : Subject) (h : Half) (j label : ℕ) (b : Bool) → label ≡ mark (labels s) h
@@ -62,8 +64,11 @@ module _ (c : Case) (fit : IsFit c) (j : ℕ) (l : j < length (judged c).points)
   pub held_is : (z : Bool)
       → IsTrue (get_or c.held.now j z) ↔ IsHeldAt d s.claims.level (place_at s j) (point_at s j)
   held_is z =
-      subst (λ (b : Bool). IsTrue b ↔ IsHeldAt d s.claims.level (place_at s j) (point_at s j)) (entry c.held.now j false z (let a = held_count in omega (arith, l, a)))
-      (subst (λ (ps : List Placed). IsTrue (get_or c.held.now j false) ↔ IsHeldAt d s.claims.level (place_at s j) (point_in ps j)) (sym fit.points_are) (fit.held.each j (let a = fit.counts.places in omega (arith, l, a))))
+      subst (λ (b : Bool). IsTrue b ↔ IsHeldAt d s.claims.level (place_at s j) (point_at s j))
+      (entry c.held.now j false z (let a = held_count in omega (arith, l, a)))
+      (subst (λ (ps : List Placed). IsTrue (get_or c.held.now j false)
+      ↔ IsHeldAt d s.claims.level (place_at s j) (point_in ps j)) (sym fit.points_are)
+      (fit.held.each j (let a = fit.counts.places in omega (arith, l, a))))
 
   module _ (curve : ℕ) (inside : Bool) (tube : place_at s j ≡ place.Tube curve inside) where
     pub held_in : IsHeldAt d s.claims.level (place_at s j) (point_at s j)
@@ -73,14 +78,24 @@ module _ (c : Case) (fit : IsFit c) (j : ℕ) (l : j < length (judged c).points)
     pub own_tube : (b : Bool) → IsHeldAt d s.claims.level (place_at s j) (point_at s j)
         → IsTrue b ↔ (side_label s inside curve ≡ suc j) → IsTrue b ↔ IsInOwnTube s j
     own_tube b x f = (
-      (λ t. record { curve = curve; inside = inside; tube = tube; held = held_in x; label = f.0 t }),
+      (λ t. record {
+        curve = curve;
+        inside = inside;
+        tube = tube;
+        held = held_in x;
+        label = f.0 t;
+      }),
       (λ y.
           let q = sym y.tube ∙ tube in
-          f.1 (subst (λ (i : ℕ). side_label s inside i ≡ suc j) (one_curve y.curve curve y.inside inside q) (subst (λ (a : Bool). side_label s a y.curve ≡ suc j) (one_side y.curve curve y.inside inside q) y.label))),
+          f.1 (subst (λ (i : ℕ). side_label s inside i ≡ suc j)
+          (one_curve y.curve curve y.inside inside q)
+          (subst (λ (a : Bool). side_label s a y.curve ≡ suc j)
+          (one_side y.curve curve y.inside inside q) y.label))),
     )
 
   pub own_held : IsInOwnTube s j → IsHeldAt d s.claims.level (place_at s j) (point_at s j)
-  own_held y = subst (λ (p : PointPlace). IsHeldAt d s.claims.level p (point_at s j)) (sym y.tube) y.held
+  own_held y =
+      subst (λ (p : PointPlace). IsHeldAt d s.claims.level p (point_at s j)) (sym y.tube) y.held
 
   pub not_own : (i : ℕ) → place_at s j ≡ place.Cell i → IsInOwnTube s j → ⊥
   not_own i e y = cell_tube i y.curve y.inside (sym e ∙ y.tube)

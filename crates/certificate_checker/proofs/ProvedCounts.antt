@@ -34,7 +34,8 @@ module _ {X : Type 0} (f : ℕ → X) (m : ℕ) where
   number_of : (xs : List X) (g : Numbered xs) (n : ℕ) → Has n (numbers xs g)
       → (n < m) × Has (f n) xs
   number_of [] g n h = absurd h
-  number_of (x ∷ xs) g n (inl e) = let (k, l, q) = g x (inl refl) in (omega (arith, e, l), inl (ap f e ∙ q))
+  number_of (x ∷ xs) g n (inl e) =
+      let (k, l, q) = g x (inl refl) in (omega (arith, e, l), inl (ap f e ∙ q))
   number_of (x ∷ xs) g n (inr h) = let (l, k) = number_of xs (λ y i. g y (inr i)) n h in (l, inr k)
 
   numbers_once : (xs : List X) (g : Numbered xs) → Once xs → Once (numbers xs g)
@@ -57,15 +58,25 @@ numbered : (m : ℕ) (E : ℕ → Edge) (pts : List Point) → IsEventList m E p
 numbered m E pts events p h =
     let (e, l, q) = events.events p h in
     elim q [
-      | inl low ↦ (number (over e), number_below (over e) m l, ap (origin E) (half_number (over e)) ∙ low)
-      | inr high ↦ (number (under e), number_below (under e) m l, ap (origin E) (half_number (under e)) ∙ high)
+      | inl low ↦ (
+        number (over e),
+        number_below (over e) m l,
+        ap (origin E) (half_number (over e))
+            ∙ low,
+      )
+      | inr high ↦ (
+        number (under e),
+        number_below (under e) m l,
+        ap (origin E) (half_number (under e)) ∙ high,
+      )
     ]
 
 two_an_edge : (m : ℕ) (E : ℕ → Edge) (table : List Timed) → IsTimetable m E table
     → length table ≤ 2 * m
 two_an_edge m E table t =
     let pts = map (λ (t : Timed). t.at) table in
-    let once : Once pts = sorted_once Before (λ p. Unit {0}) (λ p u b. never p b) (λ p q r a b c l n. before_trans p q r l n) pts (λ p i. tt) t.events.rises in
+    let once : Once pts = sorted_once Before (λ p. Unit {0}) (λ p u b. never p b)
+    (λ p q r a b c l n. before_trans p q r l n) pts (λ p i. tt) t.events.rises in
     let l = at_most (λ n. origin E (half_of n)) (2 * m) pts (numbered m E pts t.events) once in
     let n = length-map table (λ (t : Timed). t.at) in
     omega (arith, l, n)

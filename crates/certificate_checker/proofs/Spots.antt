@@ -37,7 +37,9 @@ head_order : (z : Spot) (zs : List Spot) (j : ℕ)
     → Before (spot_at zs j).at z.at → ⊥
 head_order z [] j h l b = absurd (omega (arith, l))
 head_order z (y ∷ zs) zero h l b = not_first y.at z.at h.0 b
-head_order z (y ∷ zs) (suc j) h l b = head_order y zs j h.1 (omega (arith, l)) (after_all (spot_at zs j).at z.at y.at b (not_first y.at z.at h.0))
+head_order z (y ∷ zs) (suc j) h l b =
+    head_order y zs j h.1 (omega (arith, l))
+    (after_all (spot_at zs j).at z.at y.at b (not_first y.at z.at h.0))
 
 in_order : (zs : List Spot) (i j : ℕ) → Neighbours (λ x y. comes_first y.at x.at ≡ false) zs → i ≤ j
     → j < length zs → Before (spot_at zs j).at (spot_at zs i).at → ⊥
@@ -45,7 +47,8 @@ in_order [] i j h l m b = absurd (omega (arith, m))
 in_order (z ∷ zs) zero zero h l m b = never z.at b
 in_order (z ∷ zs) zero (suc j) h l m b = head_order z zs j h (omega (arith, m)) b
 in_order (z ∷ zs) (suc i) zero h l m b = absurd (omega (arith, l))
-in_order (z ∷ zs) (suc i) (suc j) h l m b = in_order zs i j h.1 (omega (arith, l)) (omega (arith, m)) b
+in_order (z ∷ zs) (suc i) (suc j) h l m b =
+    in_order zs i j h.1 (omega (arith, l)) (omega (arith, m)) b
 
 -- ---- the points in their order of numbers
 record IsFrom (j : ℕ) (points : List Placed) (z : Spot) : Type 0 where
@@ -57,15 +60,29 @@ record IsFrom (j : ℕ) (points : List Placed) (z : Spot) : Type 0 where
 spots_only : (j : ℕ) (points : List Placed) (z : Spot) → Has z (spots_from j points)
     → IsFrom j points z
 spots_only j [] z h = absurd h
-spots_only j (p ∷ points) z (inl e) = record { index = 0; within = omega arith; number = (let q = ap (λ (w : Spot). w.number) e in omega (arith, q)); at = ap (λ (w : Spot). w.at) e }
+spots_only j (p ∷ points) z (inl e) =
+    record {
+      index = 0;
+      within = omega arith;
+      number = (let q = ap (λ (w : Spot). w.number) e in omega (arith, q));
+      at = ap (λ (w : Spot). w.at) e;
+    }
 spots_only j (p ∷ points) z (inr h) =
     let f = spots_only (suc j) points z h in
-    record { index = suc f.index; within = (let w = f.within in omega (arith, w)); number = (let q = f.number in omega (arith, q)); at = f.at }
+    record {
+      index = suc f.index;
+      within = (let w = f.within in omega (arith, w));
+      number = (let q = f.number in omega (arith, q));
+      at = f.at;
+    }
 
-spots_all : (j : ℕ) (points : List Placed) (i n : ℕ) → i < length points → n ≡ j + i → Has (record { at = point_in points i; number = n }) (spots_from j points)
+spots_all : (j : ℕ) (points : List Placed) (i n : ℕ) → i < length points → n ≡ j + i
+    → Has (record { at = point_in points i; number = n }) (spots_from j points)
 spots_all j [] i n l e = absurd (omega (arith, l))
-spots_all j (p ∷ points) zero n l e = inl (let q : n ≡ j = omega (arith, e) in ap (λ (k : ℕ). record { at = p.at; number = k }) q)
-spots_all j (p ∷ points) (suc i) n l e = inr (spots_all (suc j) points i n (omega (arith, l)) (omega (arith, e)))
+spots_all j (p ∷ points) zero n l e =
+    inl (let q : n ≡ j = omega (arith, e) in ap (λ (k : ℕ). record { at = p.at; number = k }) q)
+spots_all j (p ∷ points) (suc i) n l e =
+    inr (spots_all (suc j) points i n (omega (arith, l)) (omega (arith, e)))
 
 place_of : (z : Spot) (zs : List Spot) → Has z zs → (k : ℕ) × (k < length zs) × (spot_at zs k ≡ z)
 place_of z [] h = absurd h
@@ -76,11 +93,21 @@ pub sorted_spots : (points : List Placed) (start zs : List Spot) → start ≡ s
     → IsPermutation start zs → IsSortedByKey key_of key_cmp zs → AreSpots points zs
 sorted_spots points start zs e p h = record {
   known = λ i l.
-      (let f = spots_only 0 points (spot_at zs i) (subst (Has (spot_at zs i)) e (has_permutation zs start (spot_at zs i) (IsPermutation-sym start zs p) (has_at zs i _ l))) in
+      (let f = spots_only 0 points (spot_at zs i)
+      (subst (Has (spot_at zs i)) e
+      (has_permutation zs start (spot_at zs i) (IsPermutation-sym start zs p)
+      (has_at zs i _ l))) in
       let q : f.index ≡ (spot_at zs i).number = same f.index (spot_at zs i).number f.number in
-      record { known = subst (λ (k : ℕ). k < length points) q f.within; at = f.at ∙ ap (point_in points) q });
-  all = λ j l. (let (k, m, q) = place_of _ zs (has_permutation start zs _ p (subst (Has _) (sym e) (spots_all 0 points j j l (none j)))) in (k, m, ap (λ (z : Spot). z.number) q));
-  order = λ i j l m. in_order zs i j (sorted_neighbours (λ x y. is_lt (key_cmp (key_of x) (key_of y))) zs h) l m;
+      record {
+        known = subst (λ (k : ℕ). k < length points) q f.within;
+        at = f.at ∙ ap (point_in points) q;
+      });
+  all = λ j l.
+      (let (k, m, q) = place_of _ zs
+      (has_permutation start zs _ p (subst (Has _) (sym e) (spots_all 0 points j j l (none j)))) in
+      (k, m, ap (λ (z : Spot). z.number) q));
+  order = λ i j l m. in_order zs i j
+      (sorted_neighbours (λ x y. is_lt (key_cmp (key_of x) (key_of y))) zs h) l m;
 }
   where
     same : (i n : ℕ) → n ≡ 0 + i → i ≡ n
@@ -89,11 +116,17 @@ sorted_spots points start zs e p h = record {
     none : (j : ℕ) → j ≡ 0 + j
     none j = omega arith
 
-pub spots_step : (points : List Placed) (i : ℕ) (spots new all : List Spot) (d : Placed) → i < length points → new ≡ spots ++ record { at = (get_or points i d).at; number = i } ∷ []
-    → spots ++ spots_from i (drop i points) ≡ all → new ++ spots_from (i + 1) (drop (i + 1) points) ≡ all
+pub spots_step : (points : List Placed) (i : ℕ) (spots new all : List Spot) (d : Placed)
+    → i < length points → new ≡ spots ++ record { at = (get_or points i d).at; number = i } ∷ []
+    → spots ++ spots_from i (drop i points) ≡ all
+    → new ++ spots_from (i + 1) (drop (i + 1) points) ≡ all
 spots_step points i spots new all d l e h =
     ap (λ (xs : List Spot). xs ++ spots_from (i + 1) (drop (i + 1) points)) e
-    ∙ append_assoc spots (record { at = (get_or points i d).at; number = i } ∷ []) (spots_from (i + 1) (drop (i + 1) points))
-    ∙ ap (λ (k : ℕ). spots ++ record { at = (get_or points i d).at; number = i } ∷ spots_from k (drop k points)) (add-one i)
+    ∙ append_assoc spots (record { at = (get_or points i d).at; number = i } ∷ [])
+    (spots_from (i + 1) (drop (i + 1) points))
+    ∙ ap (λ (k : ℕ). spots ++ record {
+      at = (get_or points i d).at;
+      number = i;
+    } ∷ spots_from k (drop k points)) (add-one i)
     ∙ ap (λ (ps : List Placed). spots ++ spots_from i ps) (sym (drop-cons points i d l))
     ∙ h

@@ -39,7 +39,8 @@ files_spelled ws a b c d word named m t e h ha hk hm ht he = cc
 pub one_spelling : (words : List (List ℕ)) (command : List ℕ) (c d : FileNames)
     → IsSpelled command words c → IsSpelled command words d → c ≡ d
 one_spelling words command c d h k =
-    let e : command ∷ c.model ∷ c.transfer ∷ c.third ∷ [] ≡ command ∷ d.model ∷ d.transfer ∷ d.third ∷ [] = sym h.spelled ∙ k.spelled in
+    let e : command ∷ c.model ∷ c.transfer ∷ c.third ∷ []
+    ≡ command ∷ d.model ∷ d.transfer ∷ d.third ∷ [] = sym h.spelled ∙ k.spelled in
     let m : c.model ≡ d.model = cc in
     let t : c.transfer ≡ d.transfer = cc in
     let f : c.third ≡ d.third = cc in
@@ -48,12 +49,18 @@ one_spelling words command c d h k =
 pub one_word : (words : List (List ℕ)) (a b : List ℕ) (c d : FileNames) → IsSpelled a words c
     → IsSpelled b words d → a ≡ b
 one_word words a b c d h k =
-    let e : a ∷ c.model ∷ c.transfer ∷ c.third ∷ [] ≡ b ∷ d.model ∷ d.transfer ∷ d.third ∷ [] = sym h.spelled ∙ k.spelled in cc
+    let e : a ∷ c.model ∷ c.transfer ∷ c.third ∷ []
+    ≡ b ∷ d.model ∷ d.transfer ∷ d.third ∷ [] = sym h.spelled ∙ k.spelled in
+    cc
 
 pub one_compile : (words : List (List ℕ)) (m n : List ℕ) → IsCompile words m → IsCompile words n
     → m ≡ n
-one_compile words m n h k = let e : codes "compile" ∷ m ∷ [] ≡ codes "compile" ∷ n ∷ [] = sym h.spelled ∙ k.spelled in cc
+one_compile words m n h k =
+    let e : codes "compile" ∷ m ∷ [] ≡ codes "compile" ∷ n ∷ [] = sym h.spelled ∙ k.spelled in cc
 
 pub not_both : (words : List (List ℕ)) (m command : List ℕ) (c : FileNames) → IsCompile words m
     → IsSpelled command words c → ⊥
-not_both words m command c h k = let e : codes "compile" ∷ m ∷ [] ≡ command ∷ c.model ∷ c.transfer ∷ c.third ∷ [] = sym h.spelled ∙ k.spelled in absurd (cc)
+not_both words m command c h k =
+    let e : codes "compile" ∷ m ∷ [] ≡ command ∷ c.model ∷ c.transfer ∷ c.third ∷ [] = sym h.spelled
+    ∙ k.spelled in
+    absurd (cc)

@@ -44,7 +44,8 @@ same_files : (words : List (List ℕ)) (v w : Verb) (c d : FileNames)
     → on_files v c ≡ on_files w d
 same_files words v w c d h k =
     let e = one_verb v w (one_word words (verb_word v) (verb_word w) c d h k) in
-    let n = one_spelling words (verb_word w) c d (subst (λ (x : Verb). IsSpelled (verb_word x) words c) e h) k in
+    let n = one_spelling words (verb_word w) c d
+    (subst (λ (x : Verb). IsSpelled (verb_word x) words c) e h) k in
     λ i. on_files (e i) (n i)
 
 pub one_command : (words : List (List ℕ)) (c d : Command) → IsCommand words c → IsCommand words d
@@ -57,4 +58,5 @@ one_command words (on_files v c) (on_files w d) h k = same_files words v w c d h
 one_command words (on_files v c) (trial n a) h k = absurd (no_names words n a (verb_word v) c k h)
 one_command words (trial n a) (compile m) h k = absurd (no_compile words n a m h k)
 one_command words (trial n a) (on_files w d) h k = absurd (no_names words n a (verb_word w) d h k)
-one_command words (trial m a) (trial n b) h k = let e = one_trial words m n a b h k in λ i. trial (e.0 i) (e.1 i)
+one_command words (trial m a) (trial n b) h k =
+    let e = one_trial words m n a b h k in λ i. trial (e.0 i) (e.1 i)

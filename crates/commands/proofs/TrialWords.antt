@@ -31,21 +31,28 @@ no_other_word a b h = same_word a b (no_difference (pointwise nat_eq a b) h)
 
 -- ---- one trial, and no other command
 one_number : (word : List ℕ) (m n : ℕ) → IsSize word m → IsSize word n → m ≡ n
-one_number word m n h k = decimal_injective m n (omega (arith, h.most)) (omega (arith, k.most)) (sym h.spelled ∙ k.spelled)
+one_number word m n h k =
+    decimal_injective m n (omega (arith, h.most)) (omega (arith, k.most)) (sym h.spelled
+    ∙ k.spelled)
 
 pub one_trial : (words : List (List ℕ)) (m n : ℕ) (a b : List ℕ) → IsTrial words m a
     → IsTrial words n b → (m ≡ n) × (a ≡ b)
 one_trial words m n a b h k =
-    let e : codes "trial" ∷ h.word ∷ a ∷ [] ≡ codes "trial" ∷ k.word ∷ b ∷ [] = sym h.spelled ∙ k.spelled in
+    let e : codes "trial" ∷ h.word ∷ a ∷ [] ≡ codes "trial" ∷ k.word ∷ b ∷ [] = sym h.spelled
+    ∙ k.spelled in
     let w : h.word ≡ k.word = cc in
     (one_number k.word m n (subst (λ (x : List ℕ). IsSize x m) w h.is_size) k.is_size, cc)
 
 pub no_compile : (words : List (List ℕ)) (n : ℕ) (a m : List ℕ) → IsTrial words n a
     → IsCompile words m → ⊥
 no_compile words n a m h k =
-    let e : codes "trial" ∷ h.word ∷ a ∷ [] ≡ codes "compile" ∷ m ∷ [] = sym h.spelled ∙ k.spelled in absurd (cc)
+    let e : codes "trial" ∷ h.word ∷ a ∷ [] ≡ codes "compile" ∷ m ∷ [] = sym h.spelled
+    ∙ k.spelled in
+    absurd (cc)
 
 pub no_names : (words : List (List ℕ)) (n : ℕ) (a command : List ℕ) (c : FileNames)
     → IsTrial words n a → IsSpelled command words c → ⊥
 no_names words n a command c h k =
-    let e : codes "trial" ∷ h.word ∷ a ∷ [] ≡ command ∷ c.model ∷ c.transfer ∷ c.third ∷ [] = sym h.spelled ∙ k.spelled in absurd (cc)
+    let e : codes "trial" ∷ h.word ∷ a ∷ []
+    ≡ command ∷ c.model ∷ c.transfer ∷ c.third ∷ [] = sym h.spelled ∙ k.spelled in
+    absurd (cc)

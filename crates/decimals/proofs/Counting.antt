@@ -19,10 +19,15 @@ above a p x h k = omega (arith, mul-le (10 ^ 18) 1 a p k h)
 
 capped_by : (a p x : ℕ) → 1 ≤ p → (b : Bool) → ltb a (10 ^ 18) ≡ b
     → min (min a (10 ^ 18) * p + x) (10 ^ 18) ≡ min (a * p + x) (10 ^ 18)
-capped_by a p x h true e = rw (min-eq_left {n = a} {m = 10 ^ 18} (omega (arith, ltb-true a (10 ^ 18) e))) refl
+capped_by a p x h true e =
+    rw (min-eq_left {n = a} {m = 10 ^ 18} (omega (arith, ltb-true a (10 ^ 18) e))) refl
 capped_by a p x h false e =
     let k : 10 ^ 18 ≤ a = omega (arith, ltb-false a (10 ^ 18) e) in
-    rw (min-eq_right {n = 10 ^ 18} {m = a} k, min-eq_right (above (10 ^ 18) p x h (omega arith)), min-eq_right (above a p x h k)) refl
+    rw (
+      min-eq_right {n = 10 ^ 18} {m = a} k,
+      min-eq_right (above (10 ^ 18) p x h (omega arith)),
+      min-eq_right (above a p x h k),
+    ) refl
 
 pub capped : (a p x : ℕ) → 1 ≤ p
     → min (min a (10 ^ 18) * p + x) (10 ^ 18) ≡ min (a * p + x) (10 ^ 18)
@@ -30,11 +35,16 @@ capped a p x h = capped_by a p x h _ refl
 
 -- one more digit
 shift : (m d k x : ℕ) → (m * 10 + d) * 10 ^ k + x ≡ m * 10 ^ suc k + (d * 10 ^ k + x)
-shift m d k x = rw (pow-succ' 10 k) (omega (arith, add-mul (m * 10) d (10 ^ k), mul_assoc m 10 (10 ^ k)))
+shift m d k x =
+    rw (pow-succ' 10 k) (omega (arith, add-mul (m * 10) d (10 ^ k), mul_assoc m 10 (10 ^ k)))
 
 pub counted-cons : (m c : ℕ) (cs : List ℕ) → is_ascii_digit c ≡ true
     → counted (min (m * 10 + (c - 48)) (10 ^ 18)) cs ≡ counted m (c ∷ cs)
-counted-cons m c cs h = rw h (ap (λ (n : ℕ). cond (all_ascii_digits cs) (Ok n) (Err NotNumber)) (capped (m * 10 + (c - 48)) (10 ^ length cs) (number cs) (one-le-pow (length cs) 10 (omega arith)) ∙ ap (λ (n : ℕ). min n (10 ^ 18)) (shift m (c - 48) (length cs) (number cs))))
+counted-cons m c cs h =
+    rw h (ap (λ (n : ℕ). cond (all_ascii_digits cs) (Ok n) (Err NotNumber))
+    (capped (m * 10 + (c - 48)) (10 ^ length cs) (number cs)
+    (one-le-pow (length cs) 10 (omega arith))
+    ∙ ap (λ (n : ℕ). min n (10 ^ 18)) (shift m (c - 48) (length cs) (number cs))))
 
 pub counted_next : (m r i from : ℕ) (ds : List ℕ) → i < length ds
     → is_ascii_digit (get_or ds i 0) ≡ true

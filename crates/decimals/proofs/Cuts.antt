@@ -23,7 +23,8 @@ place bytes = position_or_len (λ byte. eqb byte 46) bytes
 whole_cut : (bytes : List ℕ) → whole_of bytes ≡ take (place bytes) bytes
 whole_cut [] = refl
 whole_cut (c ∷ cs) =
-    elim (eqb c 46) as (λ t. cond t [] (c ∷ whole_of cs) ≡ take (cond (not t) (1 + place cs) 0) (c ∷ cs)) [
+    elim (eqb c 46) as (λ t. cond t [] (c ∷ whole_of cs)
+    ≡ take (cond (not t) (1 + place cs) 0) (c ∷ cs)) [
       | true ↦ refl
       | false ↦ rw (one_add (place cs)) (ap (λ (xs : List ℕ). c ∷ xs) (whole_cut cs))
     ]
@@ -36,12 +37,17 @@ shifted : (n m : ℕ) (r : Option (List ℕ))
 shifted n m r = ap (λ (t : Bool). cond t r None) (grind (arith, nat_tests))
 
 point_cut : (bytes : List ℕ)
-    → point_of bytes ≡ cond (ltb (place bytes) (length bytes)) (Some (drop (place bytes + 1) bytes)) None
+    → point_of bytes ≡ cond (ltb (place bytes) (length bytes))
+    (Some (drop (place bytes + 1) bytes)) None
 point_cut [] = refl
 point_cut (c ∷ cs) =
-    elim (eqb c 46) as (λ t. cond t (Some cs) (point_of cs) ≡ cond (ltb (cond (not t) (1 + place cs) 0) (length (c ∷ cs))) (Some (drop (cond (not t) (1 + place cs) 0 + 1) (c ∷ cs))) None) [
-      | true ↦ ap (λ (t : Bool). cond t (Some cs) None) (sym (lt-ltb 0 (suc (length cs)) (omega arith)))
-      | false ↦ rw (one_more (place cs)) (point_cut cs ∙ shifted (place cs) (length cs) (Some (drop (place cs + 1) cs)))
+    elim (eqb c 46) as (λ t. cond t (Some cs) (point_of cs)
+    ≡ cond (ltb (cond (not t) (1 + place cs) 0) (length (c ∷ cs)))
+    (Some (drop (cond (not t) (1 + place cs) 0 + 1) (c ∷ cs))) None) [
+      | true ↦ ap (λ (t : Bool). cond t (Some cs) None)
+          (sym (lt-ltb 0 (suc (length cs)) (omega arith)))
+      | false ↦ rw (one_more (place cs)) (point_cut cs
+          ∙ shifted (place cs) (length cs) (Some (drop (place cs + 1) cs)))
     ]
 
 -- the first point is at this place
@@ -68,7 +74,10 @@ found bytes at h = found_by bytes at _ refl h
 missing_by : (bytes : List ℕ) (t : Bool) → ltb (place bytes) (length bytes) ≡ t
     → cond t (Some (place bytes)) None ≡ None → (whole_of bytes ≡ bytes) × (point_of bytes ≡ None)
 missing_by bytes true e h = cc
-missing_by bytes false e h = (whole_cut bytes ∙ take_all (place bytes) bytes (ltb-false (place bytes) (length bytes) e), point_cut bytes ∙ rw e refl)
+missing_by bytes false e h = (
+  whole_cut bytes ∙ take_all (place bytes) bytes (ltb-false (place bytes) (length bytes) e),
+  point_cut bytes ∙ rw e refl,
+)
 
 pub missing : (bytes : List ℕ) → position (λ byte. eqb byte 46) bytes ≡ None
     → (whole_of bytes ≡ bytes) × (point_of bytes ≡ None)
@@ -84,7 +93,8 @@ pub unsigned_open : (scale at : ℕ) (bytes : List ℕ) → position (λ byte. e
     → at + 1 ≡ length bytes → unsigned_of scale bytes ≡ Err NotNumber
 unsigned_open scale at bytes h e =
     let f = found bytes at h in
-    let p : point_of bytes ≡ Some [] = f.point ∙ ap (λ (ds : List ℕ). Some ds) (drop_of_length-le bytes (omega arith)) in
+    let p : point_of bytes ≡ Some [] = f.point
+    ∙ ap (λ (ds : List ℕ). Some ds) (drop_of_length-le bytes (omega arith)) in
     rw p (no_number (is_digits (whole_of bytes)) (measured scale (whole_of bytes) []))
 
 -- a point with something behind it
@@ -97,16 +107,21 @@ pub unsigned_found : (scale at : ℕ) (bytes : List ℕ)
     → unsigned_of scale bytes ≡ parts_of scale (take at bytes) (drop (at + 1) bytes)
 unsigned_found scale at bytes h e =
     let f = found bytes at h in
-    rw (f.whole, f.point) (ap (λ (t : Bool). cond (is_digits (take at bytes) && t) (measured scale (take at bytes) (drop (at + 1) bytes)) (Err NotNumber))
+    rw (f.whole, f.point)
+    (ap (λ (t : Bool). cond (is_digits (take at bytes) && t)
+    (measured scale (take at bytes) (drop (at + 1) bytes)) (Err NotNumber))
     (some_decimals (drop (at + 1) bytes) (omega (arith, length-drop (at + 1) bytes, f.within))))
 
 -- the same, where the rest of the bytes is taken by its length
 pub unsigned_rest : (scale at n : ℕ) (bytes : List ℕ)
     → position (λ byte. eqb byte 46) bytes ≡ Some at → (at + 1 ≡ length bytes → ⊥)
-    → n ≡ length bytes - (at + 1) → parts_of scale (take at bytes) (take n (drop (at + 1) bytes)) ≡ unsigned_of scale bytes
+    → n ≡ length bytes - (at + 1) → parts_of scale (take at bytes) (take n (drop (at + 1) bytes))
+    ≡ unsigned_of scale bytes
 unsigned_rest scale at n bytes h e k =
     let rest = drop (at + 1) bytes in
-    ap (λ (ds : List ℕ). parts_of scale (take at bytes) ds) (take_all n rest (omega (arith, length-drop (at + 1) bytes))) ∙ sym (unsigned_found scale at bytes h e)
+    ap (λ (ds : List ℕ). parts_of scale (take at bytes) ds)
+    (take_all n rest (omega (arith, length-drop (at + 1) bytes)))
+    ∙ sym (unsigned_found scale at bytes h e)
 
 -- no point
 pub unsigned_plain : (scale : ℕ) (bytes : List ℕ) → position (λ byte. eqb byte 46) bytes ≡ None

@@ -44,7 +44,11 @@ abbrev is_cut : List ℕ → Bool
 is_cut bytes = is_digits (whole_of (after_sign bytes)) && has_decimals (point_of (after_sign bytes))
 
 cut_spelled : (bytes : List ℕ) → is_cut bytes ≡ true → Spells bytes (cut bytes)
-cut_spelled bytes e = record { text = joined bytes; whole = both_left _ _ e; point = both_right _ _ e }
+cut_spelled bytes e = record {
+  text = joined bytes;
+  whole = both_left _ _ e;
+  point = both_right _ _ e;
+}
 
 none_by : (bytes : List ℕ) (scale : ℕ) → is_cut bytes ≡ false
     → scaled_of bytes scale ≡ Err NotNumber
@@ -69,11 +73,24 @@ Reads bytes scale (Err MoreDecimals) = HasMoreDecimals bytes scale
 
 measured_reads : (bytes : List ℕ) (scale : ℕ) (n : Numeral) (short exact : Bool) → Spells bytes n
     → ltb (magnitude_of scale n) (10 ^ 18) ≡ short → is_exact scale (decimals_in n.point) ≡ exact
-    → Reads bytes scale (signed n.sign (cond short (cond exact (Ok (magnitude_of scale n)) (Err MoreDecimals)) (Err TooLong)))
+    → Reads bytes scale
+    (signed n.sign
+    (cond short (cond exact (Ok (magnitude_of scale n)) (Err MoreDecimals)) (Err TooLong)))
 measured_reads bytes scale n true true h l e =
-    record { numeral = n; spelled = h; short = ltb-true (magnitude_of scale n) (10 ^ 18) l; exact = e; value = refl }
+    record {
+      numeral = n;
+      spelled = h;
+      short = ltb-true (magnitude_of scale n) (10 ^ 18) l;
+      exact = e;
+      value = refl;
+    }
 measured_reads bytes scale n true false h l e =
-    record { numeral = n; spelled = h; short = ltb-true (magnitude_of scale n) (10 ^ 18) l; inexact = e }
+    record {
+      numeral = n;
+      spelled = h;
+      short = ltb-true (magnitude_of scale n) (10 ^ 18) l;
+      inexact = e;
+    }
 measured_reads bytes scale n false exact h l e =
     record { numeral = n; spelled = h; long = ltb-false (magnitude_of scale n) (10 ^ 18) l }
 
@@ -87,7 +104,9 @@ pub reads : (bytes : List ℕ) (scale : ℕ) → Reads bytes scale (scaled_of by
 reads bytes scale =
     let P : Result ℤ DecimalFault → Type 0 = λ r. Reads bytes scale r in
     elim (is_cut bytes) as (λ t. is_cut bytes ≡ t → Reads bytes scale (scaled_of bytes scale)) [
-      | true ↦ λ e. let h = cut_spelled bytes e in subst P (sym (scaled_of_spelled bytes scale (cut bytes) h)) (measured_reads bytes scale (cut bytes) _ _ h refl refl)
+      | true ↦ λ e. let h = cut_spelled bytes e in
+          subst P (sym (scaled_of_spelled bytes scale (cut bytes) h))
+          (measured_reads bytes scale (cut bytes) _ _ h refl refl)
       | false ↦ λ e. subst P (sym (none_by bytes scale e)) (not_cut bytes e)
     ] refl
 
@@ -95,23 +114,29 @@ reads bytes scale =
 
 pub read_so : (bytes : List ℕ) (scale : ℕ) (r s : Result ℤ DecimalFault) → r ≡ scaled_of bytes scale
     → r ≡ s → Reads bytes scale s
-read_so bytes scale r s h e = let P : Result ℤ DecimalFault → Type 0 = λ x. Reads bytes scale x in subst P (sym h ∙ e) (reads bytes scale)
+read_so bytes scale r s h e =
+    let P : Result ℤ DecimalFault → Type 0 = λ x. Reads bytes scale x in
+    subst P (sym h ∙ e) (reads bytes scale)
 
 pub value_exactly : (bytes : List ℕ) (scale : ℕ) (r : Result ℤ DecimalFault)
     → r ≡ scaled_of bytes scale → (v : ℤ) → (r ≡ Ok v) ↔ HasValue bytes scale v
-value_exactly bytes scale r h v = (λ e. read_so bytes scale r (Ok v) h e, λ k. h ∙ value_decides bytes scale v k)
+value_exactly bytes scale r h v =
+    (λ e. read_so bytes scale r (Ok v) h e, λ k. h ∙ value_decides bytes scale v k)
 
 pub not_number_exactly : (bytes : List ℕ) (scale : ℕ) (r : Result ℤ DecimalFault)
     → r ≡ scaled_of bytes scale → (r ≡ Err NotNumber) ↔ SpellsNone bytes
-not_number_exactly bytes scale r h = (λ e. read_so bytes scale r (Err NotNumber) h e, λ k. h ∙ none_decides bytes scale k)
+not_number_exactly bytes scale r h =
+    (λ e. read_so bytes scale r (Err NotNumber) h e, λ k. h ∙ none_decides bytes scale k)
 
 pub too_long_exactly : (bytes : List ℕ) (scale : ℕ) (r : Result ℤ DecimalFault)
     → r ≡ scaled_of bytes scale → (r ≡ Err TooLong) ↔ IsTooLong bytes scale
-too_long_exactly bytes scale r h = (λ e. read_so bytes scale r (Err TooLong) h e, λ k. h ∙ too_long_decides bytes scale k)
+too_long_exactly bytes scale r h =
+    (λ e. read_so bytes scale r (Err TooLong) h e, λ k. h ∙ too_long_decides bytes scale k)
 
 pub more_decimals_exactly : (bytes : List ℕ) (scale : ℕ) (r : Result ℤ DecimalFault)
     → r ≡ scaled_of bytes scale → (r ≡ Err MoreDecimals) ↔ HasMoreDecimals bytes scale
-more_decimals_exactly bytes scale r h = (λ e. read_so bytes scale r (Err MoreDecimals) h e, λ k. h ∙ more_decimals_decide bytes scale k)
+more_decimals_exactly bytes scale r h =
+    (λ e. read_so bytes scale r (Err MoreDecimals) h e, λ k. h ∙ more_decimals_decide bytes scale k)
 
 pub value_is_unique : (bytes : List ℕ) (scale : ℕ) (v w : ℤ) → HasValue bytes scale v
     → HasValue bytes scale w → v ≡ w
@@ -129,4 +154,5 @@ with_sign_within minus m h = (omega (arith, ints), omega (arith, ints))
 
 pub value_is_short : (bytes : List ℕ) (scale : ℕ) (v : ℤ) → HasValue bytes scale v
     → (neg_ℤ (pos (10 ^ 18)) <ℤ v) × (v <ℤ pos (10 ^ 18))
-value_is_short bytes scale v h = rw h.value (with_sign_within h.numeral.sign (magnitude_of scale h.numeral) h.short)
+value_is_short bytes scale v h =
+    rw h.value (with_sign_within h.numeral.sign (magnitude_of scale h.numeral) h.short)

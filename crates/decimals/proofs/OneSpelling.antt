@@ -40,12 +40,14 @@ got_first (c ∷ cs) h = cc
 -- `decimal` writes no zero before another digit
 decimal_whole : (n : ℕ) → n < 10 ^ 18 → slice_get (decimal n) 0 ≡ Some 48 → length (decimal n) ≡ 1
 decimal_whole zero h f = ap length (decimal_digit 0 (omega arith))
-decimal_whole (suc n) h f = absurd (omega (arith, got_first _ f, first_decimal (suc n) (omega arith) (omega (arith, h))))
+decimal_whole (suc n) h f =
+    absurd (omega (arith, got_first _ f, first_decimal (suc n) (omega arith) (omega (arith, h))))
 
 -- digits without a zero in front are what `decimal` writes of their number
 written_digits : (ds : List ℕ) → all_ascii_digits ds ≡ true → 0 < length ds → number ds < 10 ^ 18
     → (slice_get ds 0 ≡ Some 48 → length ds ≡ 1) → decimal (number ds) ≡ ds
-written_digits ds h p k f = decimal-digits_value own ds h p (λ e. f (first_get ds e)) (omega (arith, k))
+written_digits ds h p k f =
+    decimal-digits_value own ds h p (λ e. f (first_get ds e)) (omega (arith, k))
 
 -- Digits are their number, padded.
 
@@ -65,25 +67,32 @@ not_nought c cs e f = absurd (omega (arith, eqb-false c 48 e, got_first (c ∷ c
 
 padded_step : (c : ℕ) (cs : List ℕ)
     → (0 < length cs → number cs < 10 ^ 18 → padded (length cs) (number cs) ≡ cs)
-    → all_ascii_digits (c ∷ cs) ≡ true → number (c ∷ cs) < 10 ^ 18 → padded (length (c ∷ cs)) (number (c ∷ cs)) ≡ c ∷ cs
-padded_step c [] ih h k = padded_full 1 (number (c ∷ [])) (c ∷ []) (written_digits (c ∷ []) h (omega arith) k (λ f. refl)) refl
+    → all_ascii_digits (c ∷ cs) ≡ true → number (c ∷ cs) < 10 ^ 18
+    → padded (length (c ∷ cs)) (number (c ∷ cs)) ≡ c ∷ cs
+padded_step c [] ih h k =
+    padded_full 1 (number (c ∷ [])) (c ∷ [])
+    (written_digits (c ∷ []) h (omega arith) k (λ f. refl)) refl
 padded_step c (d ∷ ds) ih h k =
-    elim (eqb c 48) as (λ t. eqb c 48 ≡ t → padded (length (c ∷ d ∷ ds)) (number (c ∷ d ∷ ds)) ≡ c ∷ d ∷ ds) [
+    elim (eqb c 48) as (λ t. eqb c 48 ≡ t
+    → padded (length (c ∷ d ∷ ds)) (number (c ∷ d ∷ ds)) ≡ c ∷ d ∷ ds) [
       | true ↦ λ e.
           let rest = d ∷ ds in
           let f : c ≡ 48 = eqb-true c 48 e in
           let z : number (c ∷ rest) ≡ number rest = rw f (omega arith) in
           let b : number rest < 10 ^ 18 = omega (arith, z, k) in
-          let l = length-decimal-le (length rest) (number rest) (omega arith) (short rest (both_right _ _ h)) (omega (arith, b)) in
+          let l = length-decimal-le (length rest) (number rest) (omega arith)
+          (short rest (both_right _ _ h)) (omega (arith, b)) in
           ap (padded (length (c ∷ rest))) z ∙ padded_more (length rest) (number rest) l
           ∙ ap (λ (xs : List ℕ). 48 ∷ xs) (ih (omega arith) b) ∙ ap (λ (x : ℕ). x ∷ rest) (sym f)
-      | false ↦ λ e. padded_full _ (number (c ∷ d ∷ ds)) (c ∷ d ∷ ds) (written_digits (c ∷ d ∷ ds) h (omega arith) k (not_nought c (d ∷ ds) e)) refl
+      | false ↦ λ e. padded_full _ (number (c ∷ d ∷ ds)) (c ∷ d ∷ ds)
+          (written_digits (c ∷ d ∷ ds) h (omega arith) k (not_nought c (d ∷ ds) e)) refl
     ] refl
 
 padded_digits : (ds : List ℕ) → all_ascii_digits ds ≡ true → 0 < length ds → number ds < 10 ^ 18
     → padded (length ds) (number ds) ≡ ds
 padded_digits [] h p k = absurd (omega arith)
-padded_digits (c ∷ cs) h p k = padded_step c cs (λ q b. padded_digits cs (both_right (is_ascii_digit c) _ h) q b) h k
+padded_digits (c ∷ cs) h p k =
+    padded_step c cs (λ q b. padded_digits cs (both_right (is_ascii_digit c) _ h) q b) h k
 
 decimals_digits : (point : Option (List ℕ)) → has_decimals point ≡ true
     → all_ascii_digits (decimals_in point) ≡ true
@@ -161,12 +170,16 @@ one bytes n scale s h f =
     let v = with_sign n.sign m in
     let g = sign_back n.sign m f.no_plus f.negative in
     let e : m ≡ number n.whole * 10 ^ scale + number ds = split scale n.whole ds f.decimals in
-    let d : number ds < 10 ^ scale = rw f.decimals at (short ds (decimals_digits n.point s.point)) in
+    let d : number ds < 10 ^ scale = rw f.decimals at
+    (short ds (decimals_digits n.point s.point)) in
     let w = whole_back scale m (number n.whole) (number ds) e d in
     let r = decimals_back scale m (number n.whole) (number ds) e d in
     let a : decimal (unsigned_abs v / 10 ^ scale) ≡ n.whole =
     ap (λ (x : ℕ). decimal (x / 10 ^ scale)) g.1 ∙ ap decimal w
-    ∙ written_digits n.whole (both_right _ _ s.whole) (some_digits n.whole s.whole) (omega (arith, w, div-le_self m (10 ^ scale), h)) f.whole in
+    ∙ written_digits n.whole (both_right _ _ s.whole) (some_digits n.whole s.whole)
+    (omega (arith, w, div-le_self m (10 ^ scale), h)) f.whole in
     let p : written_point scale (unsigned_abs v % 10 ^ scale) ≡ n.point =
-    ap (λ (x : ℕ). written_point scale (x % 10 ^ scale)) g.1 ∙ point_back scale _ n.point s.point f.decimals (sym r) (omega (arith, mod-le m (10 ^ scale), h)) in
+    ap (λ (x : ℕ). written_point scale (x % 10 ^ scale)) g.1
+    ∙ point_back scale _ n.point s.point f.decimals (sym r)
+    (omega (arith, mod-le m (10 ^ scale), h)) in
     s.text ∙ same_parts v scale n g.0 a p

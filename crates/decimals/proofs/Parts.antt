@@ -35,7 +35,8 @@ no_decimals false r = refl
 
 pub no_number : (scale : ℕ) (whole decimals : List ℕ) → all_ascii_digits decimals ≡ false
     → parts_of scale whole decimals ≡ Err NotNumber
-no_number scale whole decimals h = rw h (no_decimals (is_digits whole) (measured scale whole decimals))
+no_number scale whole decimals h =
+    rw h (no_decimals (is_digits whole) (measured scale whole decimals))
 
 not_both : (a b c : Bool) → c ≡ (a && b) → a ≡ false → c ≡ false
 not_both true b c e h = cc
@@ -49,13 +50,15 @@ pub no_kept : (scale n from : ℕ) (whole decimals : List ℕ) (e : DecimalFault
     → counted from (take n decimals) ≡ Err e → parts_of scale whole decimals ≡ Err e
 no_kept scale n from whole decimals e h =
     let k = err_is (all_ascii_digits (take n decimals)) _ e h in
-    no_number scale whole decimals (not_both _ _ _ (digits_cut n decimals) k.0) ∙ ap (λ (f : DecimalFault). Err f) (sym k.1)
+    no_number scale whole decimals (not_both _ _ _ (digits_cut n decimals) k.0)
+    ∙ ap (λ (f : DecimalFault). Err f) (sym k.1)
 
 pub no_surplus : (scale n from : ℕ) (whole decimals : List ℕ) (e : DecimalFault)
     → counted from (drop n decimals) ≡ Err e → parts_of scale whole decimals ≡ Err e
 no_surplus scale n from whole decimals e h =
     let k = err_is (all_ascii_digits (drop n decimals)) _ e h in
-    no_number scale whole decimals (not_both_right _ _ _ (digits_cut n decimals) k.0) ∙ ap (λ (f : DecimalFault). Err f) (sym k.1)
+    no_number scale whole decimals (not_both_right _ _ _ (digits_cut n decimals) k.0)
+    ∙ ap (λ (f : DecimalFault). Err f) (sym k.1)
 
 -- the decimals cut at the scale, or at their end where they are fewer
 pub record IsCut (scale n : ℕ) (ds : List ℕ) : Type 0 where
@@ -84,27 +87,33 @@ ge-ltb a b h = grind (arith, nat_tests)
 
 -- what was counted decides as the magnitude does
 decided : (M m : ℕ) (x y : Bool) → (m < 10 ^ 18 → m ≡ M) → (10 ^ 18 ≤ m → 10 ^ 18 ≤ M) → x ≡ y
-    → cond (ltb M (10 ^ 18)) (cond x (Ok M) (Err MoreDecimals)) (Err TooLong) ≡ cond (ltb m (10 ^ 18)) (cond y (Ok m) (Err MoreDecimals)) (Err TooLong)
+    → cond (ltb M (10 ^ 18)) (cond x (Ok M) (Err MoreDecimals)) (Err TooLong)
+    ≡ cond (ltb m (10 ^ 18)) (cond y (Ok m) (Err MoreDecimals)) (Err TooLong)
 decided M m x y f g e =
-    elim (ltb m (10 ^ 18)) as (λ t. ltb m (10 ^ 18) ≡ t → cond (ltb M (10 ^ 18)) (cond x (Ok M) (Err MoreDecimals)) (Err TooLong) ≡ cond t (cond y (Ok m) (Err MoreDecimals)) (Err TooLong)) [
+    elim (ltb m (10 ^ 18)) as (λ t. ltb m (10 ^ 18) ≡ t
+    → cond (ltb M (10 ^ 18)) (cond x (Ok M) (Err MoreDecimals)) (Err TooLong)
+    ≡ cond t (cond y (Ok m) (Err MoreDecimals)) (Err TooLong)) [
       | true ↦ λ h. let k = f (ltb-true m (10 ^ 18) h) in rw (← k, h, e) refl
       | false ↦ λ h. rw (ge-ltb M (10 ^ 18) (g (ltb-false m (10 ^ 18) h))) refl
     ] refl
 
 decided_by : (N P m : ℕ) (x y : Bool) → 1 ≤ P → m ≡ min (min N (10 ^ 18) * P) (2 ^ 64 - 1) → x ≡ y
-    → cond (ltb (N * P) (10 ^ 18)) (cond x (Ok (N * P)) (Err MoreDecimals)) (Err TooLong) ≡ cond (ltb m (10 ^ 18)) (cond y (Ok m) (Err MoreDecimals)) (Err TooLong)
+    → cond (ltb (N * P) (10 ^ 18)) (cond x (Ok (N * P)) (Err MoreDecimals)) (Err TooLong)
+    ≡ cond (ltb m (10 ^ 18)) (cond y (Ok m) (Err MoreDecimals)) (Err TooLong)
 decided_by N P m x y h e k =
     let c = capped N P 0 h in
     decided (N * P) m x y (λ l. omega (arith, c, e)) (λ l. omega (arith, c, e)) k
 
 -- the digits that were counted in two steps
 counted_twice : (w d : ℕ) (whole kept : List ℕ) → counted 0 whole ≡ Ok w → counted w kept ≡ Ok d
-    → (all_ascii_digits whole ≡ true) × (all_ascii_digits kept ≡ true) × (d ≡ min (number (whole ++ kept)) (10 ^ 18))
+    → (all_ascii_digits whole ≡ true) × (all_ascii_digits kept ≡ true)
+    × (d ≡ min (number (whole ++ kept)) (10 ^ 18))
 counted_twice w d whole kept h k =
     let a = ok_is (all_ascii_digits whole) _ w h in
     let b = ok_is (all_ascii_digits kept) _ d k in
     let n : w ≡ min (number whole) (10 ^ 18) = omega (arith, a.1) in
-    let c = capped (number whole) (10 ^ length kept) (number kept) (one-le-pow (length kept) 10 (omega arith)) in
+    let c = capped (number whole) (10 ^ length kept) (number kept)
+    (one-le-pow (length kept) 10 (omega arith)) in
     (a.0, b.0, rw (number-append whole kept) (sym b.1 ∙ rw n c))
 
 exact_by : (p : ℕ) (ds : List ℕ) → counted 0 ds ≡ Ok p
@@ -120,7 +129,8 @@ is_number whole decimals l a b = rw (lt-ltb 0 (length whole) l, a, b) refl
 
 pub parts_value : (scale n w d p m : ℕ) (whole decimals : List ℕ) → 0 < length whole
     → n ≡ min (length decimals) scale
-    → counted 0 whole ≡ Ok w → counted w (take n decimals) ≡ Ok d → counted 0 (drop n decimals) ≡ Ok p → m ≡ min (d * 10 ^ (scale - n)) (2 ^ 64 - 1)
+    → counted 0 whole ≡ Ok w → counted w (take n decimals) ≡ Ok d
+    → counted 0 (drop n decimals) ≡ Ok p → m ≡ min (d * 10 ^ (scale - n)) (2 ^ 64 - 1)
     → parts_of scale whole decimals ≡ settled m p
 parts_value scale n w d p m whole decimals l e h k q v =
     let cut = cut_is scale n decimals e in
@@ -128,4 +138,5 @@ parts_value scale n w d p m whole decimals l e h k q v =
     let s = exact_by p (drop n decimals) q in
     let all : all_ascii_digits decimals ≡ true = digits_cut n decimals ∙ rw (t.1, s.0) refl in
     rw (is_number whole decimals l t.0 all, ← cut.kept, ← cut.surplus, ← cut.missing)
-    (decided_by (number (whole ++ take n decimals)) (10 ^ (scale - n)) m _ _ (one-le-pow (scale - n) 10 (omega arith)) (rw (← t.2) v) s.1)
+    (decided_by (number (whole ++ take n decimals)) (10 ^ (scale - n)) m _ _
+    (one-le-pow (scale - n) 10 (omega arith)) (rw (← t.2) v) s.1)

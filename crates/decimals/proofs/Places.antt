@@ -15,4 +15,5 @@ drop_later m n xs ys h e =
 pub padded_behind : (digits n : ℕ) (front text : List ℕ) → text ≡ decimal n → digits ≤ 9
     → (front ++ take (digits - length text) (replicate 9 48)) ++ text ≡ front ++ padded digits n
 padded_behind digits n front text e h =
-    rw (e, take-replicate {X = ℕ} (digits - length (decimal n)) 9 48 (omega arith)) (append_assoc front _ (decimal n))
+    rw (e, take-replicate {X = ℕ} (digits - length (decimal n)) 9 48 (omega arith))
+    (append_assoc front _ (decimal n))

@@ -23,7 +23,8 @@ pub front_none : (from : ℕ) (bytes : List ℕ) → IsFrontNumber from bytes 0 
 front_none from bytes = record { digits = refl; value = omega arith; bound = omega arith }
 
 ten_times : (a i : ℕ) → a * 10 ^ (i + 1) ≡ 10 * (a * 10 ^ i)
-ten_times a i = rw (add-one i, pow-succ' 10 i) (omega (arith, mul_assoc a 10 (10 ^ i), mul_assoc 10 a (10 ^ i)))
+ten_times a i =
+    rw (add-one i, pow-succ' 10 i) (omega (arith, mul_assoc a 10 (10 ^ i), mul_assoc 10 a (10 ^ i)))
 
 last_digit : (xs : List ℕ) (c : ℕ) → number (xs ++ (c ∷ [])) ≡ number xs * 10 + (c - 48)
 last_digit xs c = number-append xs (c ∷ []) ∙ omega arith
@@ -33,12 +34,15 @@ at_most_nine c h = grind (arith, nat_tests)
 
 pub front_more : (from i n m : ℕ) (bytes : List ℕ) → i < length bytes
     → is_ascii_digit (get_or bytes i 0) ≡ true
-    → m ≡ n * 10 + (get_or bytes i 0 - 48) → IsFrontNumber from bytes i n → IsFrontNumber from bytes (i + 1) m
+    → m ≡ n * 10 + (get_or bytes i 0 - 48) → IsFrontNumber from bytes i n
+    → IsFrontNumber from bytes (i + 1) m
 front_more from i n m bytes l h e f =
     let c = get_or bytes i 0 in
     record {
-      digits = rw (take_more bytes i 0 l) (digits-append (take i bytes) (c ∷ []) ∙ rw (f.digits, h) refl);
-      value = rw (take_more bytes i 0 l, last_digit (take i bytes) c, ten_times from i) (omega (arith, e, f.value));
+      digits = rw (take_more bytes i 0 l) (digits-append (take i bytes) (c ∷ [])
+          ∙ rw (f.digits, h) refl);
+      value = rw (take_more bytes i 0 l, last_digit (take i bytes) c, ten_times from i)
+          (omega (arith, e, f.value));
       bound = rw (ten_times (from + 1) i) (omega (arith, e, f.bound, at_most_nine c h));
     }
 
@@ -59,12 +63,14 @@ decimals_fit w n h k =
     omega (arith, mul-le (w + 1) (10 ^ n) (10 ^ 15) (10 ^ 3) (omega arith) p)
 
 pub whole_below : (n w : ℕ) (bytes : List ℕ) → n ≤ 15 → IsFrontNumber 0 bytes n w → w < 10 ^ 15
-whole_below n w bytes h f = let p : 10 ^ n ≤ 10 ^ 15 = pow-le-pow_right (omega arith) h in omega (arith, p, f.bound)
+whole_below n w bytes h f =
+    let p : 10 ^ n ≤ 10 ^ 15 = pow-le-pow_right (omega arith) h in omega (arith, p, f.bound)
 
 -- Zeros behind them.
 
 times_power : (a n : ℕ) → 1 ≤ a → n < a → (p : ℕ) → 1 ≤ p → n * p < a * p
-times_power a n k h p l = omega (arith, mul-le (n + 1) p a p (omega arith) (omega arith), add-mul n 1 p)
+times_power a n k h p l =
+    omega (arith, mul-le (n + 1) p a p (omega arith) (omega arith), add-mul n 1 p)
 
 pub zeros_fit : (w scale k n : ℕ) → n < (w + 1) * 10 ^ k → k ≤ scale → scale ≤ 3 → w < 10 ^ 15
     → n * 10 ^ (scale - k) < 10 ^ 18
@@ -72,8 +78,11 @@ zeros_fit w scale k n h l s b =
     let q = one-le-pow (scale - k) 10 (omega arith) in
     let t = times_power ((w + 1) * 10 ^ k) n (omega arith) h (10 ^ (scale - k)) q in
     let e : k + (scale - k) ≡ scale = omega arith in
-    let p : 10 ^ k * 10 ^ (scale - k) ≡ 10 ^ scale = sym (pow-add 10 k (scale - k)) ∙ ap (λ (i : ℕ). 10 ^ i) e in
-    let m : (w + 1) * 10 ^ k * 10 ^ (scale - k) ≡ (w + 1) * 10 ^ scale = mul_assoc (w + 1) (10 ^ k) (10 ^ (scale - k)) ∙ ap (λ (i : ℕ). (w + 1) * i) p in
+    let p : 10 ^ k * 10 ^ (scale - k) ≡ 10 ^ scale = sym (pow-add 10 k (scale - k))
+    ∙ ap (λ (i : ℕ). 10 ^ i) e in
+    let m : (w + 1) * 10 ^ k * 10 ^ (scale - k)
+    ≡ (w + 1) * 10 ^ scale = mul_assoc (w + 1) (10 ^ k) (10 ^ (scale - k))
+    ∙ ap (λ (i : ℕ). (w + 1) * i) p in
     omega (arith, t, m, decimals_fit w scale b s)
 
 pub whole_zeros_fit : (w scale : ℕ) → scale ≤ 3 → w < 10 ^ 15 → w * 10 ^ scale < 10 ^ 18
@@ -86,14 +95,17 @@ whole_zeros_fit w scale s b =
 
 unsigned_is : (scale : ℕ) (bytes whole : List ℕ) (point : Option (List ℕ))
     → bytes ≡ whole ++ point_bytes point
-    → is_digits whole ≡ true → all_ascii_digits whole ≡ true → has_decimals point ≡ true → unsigned_of scale bytes ≡ measured scale whole (decimals_in point)
+    → is_digits whole ≡ true → all_ascii_digits whole ≡ true → has_decimals point ≡ true
+    → unsigned_of scale bytes ≡ measured scale whole (decimals_in point)
 unsigned_is scale bytes whole point e d a h =
     let w = whole_back whole point a in
     rw (e, w.0, w.1, d, h) refl
 
 plain_magnitude : (scale : ℕ) (whole decimals : List ℕ) → length decimals ≤ scale
-    → magnitude scale whole decimals ≡ (number whole * 10 ^ length decimals + number decimals) * 10 ^ (scale - length decimals)
-plain_magnitude scale whole decimals h = rw (take_all scale decimals h, number-append whole decimals) refl
+    → magnitude scale whole decimals ≡ (number whole * 10 ^ length decimals + number decimals)
+    * 10 ^ (scale - length decimals)
+plain_magnitude scale whole decimals h =
+    rw (take_all scale decimals h, number-append whole decimals) refl
 
 measured_plain : (scale m : ℕ) (whole decimals : List ℕ) → length decimals ≤ scale
     → m ≡ magnitude scale whole decimals → m < 10 ^ 18
@@ -123,9 +135,12 @@ pub plain_whole : (scale n w m : ℕ) (bytes : List ℕ) → IsFrontNumber 0 byt
 plain_whole scale n w m bytes f h k e b =
     let whole = take n bytes in
     let d : drop n bytes ≡ [] = drop_of_length-le bytes (omega arith) in
-    let t : bytes ≡ whole ++ [] = sym (take-append-drop n bytes) ∙ ap (λ (ds : List ℕ). whole ++ ds) d in
-    let v : m ≡ magnitude scale whole [] = e ∙ whole_magnitude scale w whole (front_value n w bytes f) in
-    unsigned_is scale bytes whole None t (front_digits n bytes h (omega arith) f.digits) f.digits refl
+    let t : bytes ≡ whole ++ [] = sym (take-append-drop n bytes)
+    ∙ ap (λ (ds : List ℕ). whole ++ ds) d in
+    let v : m ≡ magnitude scale whole [] = e
+    ∙ whole_magnitude scale w whole (front_value n w bytes f) in
+    unsigned_is scale bytes whole None t
+    (front_digits n bytes h (omega arith) f.digits) f.digits refl
     ∙ measured_plain scale m whole [] (omega arith) v b
 
 -- digits, a point and decimals
@@ -134,24 +149,30 @@ plain_point : (scale n w m : ℕ) (bytes decimals : List ℕ) → IsFrontNumber 
     → IsPlain scale w decimals m → m < 10 ^ 18 → unsigned_of scale bytes ≡ Ok m
 plain_point scale n w m bytes decimals f h k e p b =
     let whole = take n bytes in
-    let t : bytes ≡ whole ++ (46 ∷ decimals) = sym (take-append-drop n bytes) ∙ ap (λ (ds : List ℕ). whole ++ ds) e in
-    let v : m ≡ magnitude scale whole decimals = p.value ∙ rw (plain_magnitude scale whole decimals p.within, ← front_value n w bytes f) refl in
-    unsigned_is scale bytes whole (Some decimals) t (front_digits n bytes h k f.digits) f.digits p.digits
+    let t : bytes ≡ whole ++ (46 ∷ decimals) = sym (take-append-drop n bytes)
+    ∙ ap (λ (ds : List ℕ). whole ++ ds) e in
+    let v : m ≡ magnitude scale whole decimals = p.value
+    ∙ rw (plain_magnitude scale whole decimals p.within, ← front_value n w bytes f) refl in
+    unsigned_is scale bytes whole (Some decimals) t
+    (front_digits n bytes h k f.digits) f.digits p.digits
     ∙ measured_plain scale m whole decimals p.within v b
 
 at_point : (n k : ℕ) (bytes : List ℕ) → n < length bytes → get_or bytes n 0 ≡ 46
     → k ≡ length bytes - (n + 1)
     → drop n bytes ≡ 46 ∷ take k (drop (n + 1) bytes)
 at_point n k bytes l p e =
-    rw (take_all k (drop (n + 1) bytes) (omega (arith, length-drop (n + 1) bytes)), add-one n) (drop-cons bytes n 0 l ∙ ap (λ (c : ℕ). c ∷ drop (suc n) bytes) p)
+    rw (take_all k (drop (n + 1) bytes) (omega (arith, length-drop (n + 1) bytes)), add-one n)
+    (drop-cons bytes n 0 l ∙ ap (λ (c : ℕ). c ∷ drop (suc n) bytes) p)
 
 pub plain_if_some : (r : Option ℕ) (scale n w k : ℕ) (bytes : List ℕ) → IsFrontNumber 0 bytes n w
     → 0 < n → n < length bytes → get_or bytes n 0 ≡ 46
-    → k ≡ length bytes - (n + 1) → IfSome r (λ m. IsPlain scale w (take k (drop (n + 1) bytes)) m) → IfSome r (λ m. m < 10 ^ 18)
+    → k ≡ length bytes - (n + 1) → IfSome r (λ m. IsPlain scale w (take k (drop (n + 1) bytes)) m)
+    → IfSome r (λ m. m < 10 ^ 18)
     → IfSome r (λ m. unsigned_of scale bytes ≡ Ok m)
 plain_if_some None scale n w k bytes f h l p e i b = tt
 plain_if_some (Some m) scale n w k bytes f h l p e i b =
-    plain_point scale n w m bytes (take k (drop (n + 1) bytes)) f h (omega arith) (at_point n k bytes l p e) i b
+    plain_point scale n w m bytes (take k (drop (n + 1) bytes)) f h (omega arith)
+    (at_point n k bytes l p e) i b
 
 -- the decimals that were read to their end
 pub plain_decimals : (scale n w written : ℕ) (decimals : List ℕ)
@@ -163,5 +184,7 @@ plain_decimals scale n w written decimals f e h k =
     record {
       digits = rw (lt-ltb 0 (length decimals) (omega arith)) d;
       within = omega arith;
-      value = rw (← e) (ap (λ (i : ℕ). i * 10 ^ (scale - n)) (f.value ∙ ap (λ (ds : List ℕ). w * 10 ^ n + number ds) t));
+      value = rw (← e)
+          (ap (λ (i : ℕ). i * 10 ^ (scale - n)) (f.value
+          ∙ ap (λ (ds : List ℕ). w * 10 ^ n + number ds) t));
     }

@@ -13,7 +13,8 @@ use Rattle.decimals.proofs.Digits.{both_left, both_right}
 -- The parts of a text are its spelling.
 
 signed_by : (c : ℕ) (cs : List ℕ) (p m : Bool) → eqb c 43 ≡ p → eqb c 45 ≡ m
-    → c ∷ cs ≡ sign_bytes (cond p plus (cond m minus unsigned)) ++ drop (length (sign_bytes (cond p plus (cond m minus unsigned)))) (c ∷ cs)
+    → c ∷ cs ≡ sign_bytes (cond p plus (cond m minus unsigned))
+    ++ drop (length (sign_bytes (cond p plus (cond m minus unsigned)))) (c ∷ cs)
 signed_by c cs true m e f = ap (λ (d : ℕ). d ∷ cs) (eqb-true c 43 e)
 signed_by c cs false true e f = ap (λ (d : ℕ). d ∷ cs) (eqb-true c 45 f)
 signed_by c cs false false e f = refl
@@ -25,13 +26,16 @@ joined_sign (c ∷ cs) = signed_by c cs _ _ refl refl
 joined_point : (bytes : List ℕ) → bytes ≡ whole_of bytes ++ point_bytes (point_of bytes)
 joined_point [] = refl
 joined_point (c ∷ cs) =
-    elim (eqb c 46) as (λ t. eqb c 46 ≡ t → c ∷ cs ≡ cond t [] (c ∷ whole_of cs) ++ point_bytes (cond t (Some cs) (point_of cs))) [
+    elim (eqb c 46) as (λ t. eqb c 46 ≡ t
+    → c ∷ cs ≡ cond t [] (c ∷ whole_of cs) ++ point_bytes (cond t (Some cs) (point_of cs))) [
       | true ↦ λ e. ap (λ (d : ℕ). d ∷ cs) (eqb-true c 46 e)
       | false ↦ λ e. ap (λ (ds : List ℕ). c ∷ ds) (joined_point cs)
     ] refl
 
 pub joined : (bytes : List ℕ) → bytes ≡ spelling (cut bytes)
-joined bytes = joined_sign bytes ∙ ap (λ (ds : List ℕ). sign_bytes (sign_of bytes) ++ ds) (joined_point (after_sign bytes))
+joined bytes =
+    joined_sign bytes
+    ∙ ap (λ (ds : List ℕ). sign_bytes (sign_of bytes) ++ ds) (joined_point (after_sign bytes))
 
 -- A spelling has the parts that it was made of.
 
@@ -45,7 +49,8 @@ no_minus : (c : ℕ) → is_ascii_digit c ≡ true → eqb c 45 ≡ false
 no_minus c h = grind (arith, nat_tests)
 
 pub whole_back : (whole : List ℕ) (point : Option (List ℕ)) → all_ascii_digits whole ≡ true
-    → (whole_of (whole ++ point_bytes point) ≡ whole) × (point_of (whole ++ point_bytes point) ≡ point)
+    → (whole_of (whole ++ point_bytes point) ≡ whole)
+    × (point_of (whole ++ point_bytes point) ≡ point)
 whole_back [] None h = (refl, refl)
 whole_back [] (Some decimals) h = (refl, refl)
 whole_back (c ∷ cs) point h =
@@ -54,7 +59,8 @@ whole_back (c ∷ cs) point h =
     (rw d (ap (λ (ds : List ℕ). c ∷ ds) w.0), rw d (w.1))
 
 sign_back : (sign : Sign) (whole rest : List ℕ) → is_digits whole ≡ true
-    → (sign_of (sign_bytes sign ++ (whole ++ rest)) ≡ sign) × (after_sign (sign_bytes sign ++ (whole ++ rest)) ≡ whole ++ rest)
+    → (sign_of (sign_bytes sign ++ (whole ++ rest)) ≡ sign)
+    × (after_sign (sign_bytes sign ++ (whole ++ rest)) ≡ whole ++ rest)
 sign_back plus whole rest h = (refl, refl)
 sign_back minus whole rest h = (refl, refl)
 sign_back unsigned [] rest h = cc
@@ -89,6 +95,12 @@ spelling_is_unique bytes m n h k =
     let s : m.sign ≡ n.sign = sym a.sign ∙ b.sign in
     let w : m.whole ≡ n.whole = sym a.whole ∙ b.whole in
     let p : m.point ≡ n.point = sym a.point ∙ b.point in
-    ap (λ (x : Sign). let r : Numeral = record { sign = x; whole = m.whole; point = m.point } in r) s
-    ∙ ap (λ (x : List ℕ). let r : Numeral = record { sign = n.sign; whole = x; point = m.point } in r) w
-    ∙ ap (λ (x : Option (List ℕ)). let r : Numeral = record { sign = n.sign; whole = n.whole; point = x } in r) p
+    ap (λ (x : Sign). let r : Numeral = record { sign = x; whole = m.whole; point = m.point } in
+    r) s
+    ∙ ap (λ (x : List ℕ). let r : Numeral = record { sign = n.sign; whole = x; point = m.point } in
+    r) w
+    ∙ ap (λ (x : Option (List ℕ)). let r : Numeral = record {
+      sign = n.sign;
+      whole = n.whole;
+      point = x;
+    } in r) p

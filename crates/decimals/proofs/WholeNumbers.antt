@@ -23,7 +23,8 @@ uncut (c ∷ cs) h =
     (rw n.0 (ap (λ (ds : List ℕ). c ∷ ds) t.0), rw n.0 (t.1))
 
 tail_free : (c : ℕ) (cs : List ℕ) (p m : Bool) → holds_point (c ∷ cs) ≡ false
-    → holds_point (drop (length (sign_bytes (cond p plus (cond m minus unsigned)))) (c ∷ cs)) ≡ false
+    → holds_point (drop (length (sign_bytes (cond p plus (cond m minus unsigned)))) (c ∷ cs))
+    ≡ false
 tail_free c cs true m h = (neither (eqb c 46) (holds_point cs) h).1
 tail_free c cs false true h = (neither (eqb c 46) (holds_point cs) h).1
 tail_free c cs false false h = h
@@ -33,7 +34,8 @@ free_after_sign : (bytes : List ℕ) → holds_point bytes ≡ false
 free_after_sign [] h = refl
 free_after_sign (c ∷ cs) h = tail_free c cs _ _ h
 
-same_magnitude : (whole : List ℕ) → number (whole ++ take 0 []) * 10 ^ (0 - length {A = ℕ} []) ≡ number whole
+same_magnitude : (whole : List ℕ) → number (whole ++ take 0 []) * 10 ^ (0 - length {A = ℕ} [])
+    ≡ number whole
 same_magnitude whole = rw (append-nil whole) (omega arith)
 
 plain_by : (b : Bool) (whole : List ℕ) → cond (b && true) (measured 0 whole []) (Err NotNumber)
@@ -46,7 +48,9 @@ pub scaled_of_whole_number : (bytes : List ℕ) → holds_point bytes ≡ false
 unfolding scaled_of
 scaled_of_whole_number bytes h =
     let u = uncut (after_sign bytes) (free_after_sign bytes h) in
-    rw (u.0, u.1) (ap (λ (r : Result ℕ DecimalFault). signed (sign_of bytes) r) (plain_by (is_digits (after_sign bytes)) (after_sign bytes)))
+    rw (u.0, u.1)
+    (ap (λ (r : Result ℕ DecimalFault). signed (sign_of bytes) r)
+    (plain_by (is_digits (after_sign bytes)) (after_sign bytes)))
 
 -- no whole number has too many decimals
 fault_stays : (sign : Sign) (b c : Bool) (m : ℕ)
@@ -61,4 +65,5 @@ whole_number_is_exact bytes h = fault_stays (sign_of bytes) _ _ _ h
 -- a number without a point has no decimals
 pub spelled_whole : (bytes : List ℕ) (n : Numeral) → holds_point bytes ≡ false → Spells bytes n
     → n.point ≡ None
-spelled_whole bytes n h s = sym (cut_back bytes n s).point ∙ (uncut (after_sign bytes) (free_after_sign bytes h)).1
+spelled_whole bytes n h s = sym (cut_back bytes n s).point
+    ∙ (uncut (after_sign bytes) (free_after_sign bytes h)).1

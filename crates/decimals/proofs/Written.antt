@@ -27,7 +27,9 @@ number_of_decimal : (n : ℕ) → n < 10 ^ 18 → number (decimal n) ≡ n
 number_of_decimal n h = digits_value-decimal own n (omega (arith, h))
 
 decimal_is_digits : (n : ℕ) → n < 10 ^ 18 → is_digits (decimal n) ≡ true
-decimal_is_digits n h = rw (lt-ltb 0 (length (decimal n)) (decimal_nonempty n (omega (arith, h)))) (digits_of_decimal n h)
+decimal_is_digits n h =
+    rw (lt-ltb 0 (length (decimal n)) (decimal_nonempty n (omega (arith, h))))
+    (digits_of_decimal n h)
 
 -- zeros in front count nothing
 zeros_are_digits : (k : ℕ) → all_ascii_digits (replicate k 48) ≡ true
@@ -39,13 +41,23 @@ zeros_are_nought zero = refl
 zeros_are_nought (suc k) = omega (arith, zeros_are_nought k)
 
 padded_digits : (k n : ℕ) → n < 10 ^ 18 → all_ascii_digits (padded k n) ≡ true
-padded_digits k n h = rw (digits-append (replicate (k - length (decimal n)) 48) (decimal n), zeros_are_digits (k - length (decimal n))) (digits_of_decimal n h)
+padded_digits k n h =
+    rw (
+      digits-append (replicate (k - length (decimal n)) 48) (decimal n),
+      zeros_are_digits (k - length (decimal n)),
+    ) (digits_of_decimal n h)
 
 padded_number : (k n : ℕ) → n < 10 ^ 18 → number (padded k n) ≡ n
-padded_number k n h = rw (number-append (replicate (k - length (decimal n)) 48) (decimal n), zeros_are_nought (k - length (decimal n)), number_of_decimal n h) (omega arith)
+padded_number k n h =
+    rw (
+      number-append (replicate (k - length (decimal n)) 48) (decimal n),
+      zeros_are_nought (k - length (decimal n)),
+      number_of_decimal n h,
+    ) (omega arith)
 
 padded_length : (k n : ℕ) → length (decimal n) ≤ k → length (padded k n) ≡ k
-padded_length k n h = length-append (replicate (k - length (decimal n)) 48) (decimal n) ∙ omega (arith, length-replicate {A = ℕ} (k - length (decimal n)) 48, h)
+padded_length k n h = length-append (replicate (k - length (decimal n)) 48) (decimal n)
+    ∙ omega (arith, length-replicate {A = ℕ} (k - length (decimal n)) 48, h)
 
 padded_is_digits : (k n : ℕ) → n < 10 ^ 18 → 0 < k → length (decimal n) ≤ k
     → is_digits (padded k n) ≡ true
@@ -79,7 +91,11 @@ some_point k n = rw (not_none k) refl
 
 pub decimals_write : (scale m : ℕ) → m < 10 ^ 18
     → Writes scale (m % 10 ^ scale) (written_point scale (m % 10 ^ scale))
-decimals_write zero m h = record { digits = refl; count = refl; value = omega (arith, mod-lt m (power_positive 0)) }
+decimals_write zero m h = record {
+  digits = refl;
+  count = refl;
+  value = omega (arith, mod-lt m (power_positive 0));
+}
 decimals_write (suc k) m h =
     let n = m % 10 ^ suc k in
     let b : n < 10 ^ 18 = omega (arith, h, mod-le m (10 ^ suc k)) in
@@ -95,7 +111,8 @@ pub written_magnitude : (value : ℤ) (scale : ℕ) → unsigned_abs value < 10 
 written_magnitude value scale h =
     let m = unsigned_abs value in
     let a = decimals_write scale m h in
-    joined scale m (decimal (m / 10 ^ scale)) _ a.count (number_of_decimal (m / 10 ^ scale) (omega (arith, h, div-le_self m (10 ^ scale)))) a.value
+    joined scale m (decimal (m / 10 ^ scale)) _ a.count
+    (number_of_decimal (m / 10 ^ scale) (omega (arith, h, div-le_self m (10 ^ scale)))) a.value
 
 written_value : (value : ℤ) (scale : ℕ) → unsigned_abs value < 10 ^ 18
     → HasValue (spelling_of value scale) scale value
@@ -106,7 +123,11 @@ written_value value scale h =
     let e = written_magnitude value scale h in
     record {
       numeral = numeral_of value scale;
-      spelled = record { text = refl; whole = decimal_is_digits (m / 10 ^ scale) b; point = a.digits };
+      spelled = record {
+        text = refl;
+        whole = decimal_is_digits (m / 10 ^ scale) b;
+        point = a.digits;
+      };
       short = rw e h;
       exact = nothing_left scale _ a.count;
       value = rw e (back value);
@@ -114,4 +135,5 @@ written_value value scale h =
 
 pub reads_back : (value : ℤ) (scale : ℕ) → unsigned_abs value < 10 ^ 18
     → scaled_of (spelling_of value scale) scale ≡ Ok value
-reads_back value scale h = value_decides (spelling_of value scale) scale value (written_value value scale h)
+reads_back value scale h =
+    value_decides (spelling_of value scale) scale value (written_value value scale h)

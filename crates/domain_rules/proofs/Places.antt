@@ -109,16 +109,22 @@ point_in : (codes : Codes) (w : Window) (words : List (List ℕ)) → length wor
     → field_fault (model.AreaPoint w) codes words ≡ None → IsInside w (place_named w words)
 point_in codes w [] n h = absurd (omega (arith, n))
 point_in codes w (x ∷ []) n h = absurd (omega (arith, n))
-point_in codes w (x ∷ y ∷ ws) n h = inside w x y [] ws (defined (list_any (is_undefined codes) (x ∷ y ∷ ws)) _ (value_fault (model.AreaPoint w) (x ∷ y ∷ ws)) h)
+point_in codes w (x ∷ y ∷ ws) n h =
+    inside w x y [] ws
+    (defined (list_any (is_undefined codes) (x ∷ y ∷ ws)) _
+    (value_fault (model.AreaPoint w) (x ∷ y ∷ ws)) h)
 
 point : (codes : Codes) (optional : Bool) (form : Form) (words : List (List ℕ))
     → length words ≡ width form
-    → ((optional && list_all (is_undefined codes) words) ≡ true) ⊎ (field_fault form codes words ≡ None)
+    → ((optional && list_all (is_undefined codes) words) ≡ true)
+    ⊎ (field_fault form codes words ≡ None)
     → HasPoint codes optional form words
-point codes optional (model.AreaPoint w) words n h = elim h as (λ s. ((optional && list_all (is_undefined codes) words) ≡ true) ⊎ IsInside w (place_named w words)) [
-  | inl u ↦ inl u
-  | inr f ↦ inr (point_in codes w words n f)
-]
+point codes optional (model.AreaPoint w) words n h =
+    elim h as (λ s. ((optional && list_all (is_undefined codes) words) ≡ true)
+    ⊎ IsInside w (place_named w words)) [
+      | inl u ↦ inl u
+      | inr f ↦ inr (point_in codes w words n f)
+    ]
 point codes optional (model.Range l) words n h = tt
 point codes optional (model.Dim1 l) words n h = tt
 point codes optional (model.Dim2 l) words n h = tt
@@ -145,11 +151,14 @@ points : (codes : Codes) (line number : ℕ) (cs : List Column) (words : List (L
     → HavePoints codes cs words
 points codes line number [] words n h = tt
 points codes line number (c ∷ cs) words n h =
-    let e = empty_both (finding_at line number (column_code codes c (take (width c.form) words))) (columns_findings codes line (number + 1) cs (drop (width c.form) words)) h in
+    let e = empty_both (finding_at line number (column_code codes c (take (width c.form) words)))
+    (columns_findings codes line (number + 1) cs (drop (width c.form) words)) h in
     let own = take (width c.form) words in (
       point codes c.optional c.form own (taken (width c.form) (widths cs) words n)
-          (either_none (c.optional && list_all (is_undefined codes) own) (field_fault c.form codes own) (told_none line number (column_code codes c own) e.0)),
-      points codes line (number + 1) cs (drop (width c.form) words) (left (width c.form) (widths cs) words n) e.1,
+          (either_none (c.optional && list_all (is_undefined codes) own)
+          (field_fault c.form codes own) (told_none line number (column_code codes c own) e.0)),
+      points codes line (number + 1) cs (drop (width c.form) words)
+          (left (width c.form) (widths cs) words n) e.1,
     )
 
 -- ---- lines
@@ -159,14 +168,23 @@ first_code_none (Some c) b h = cc
 
 vertex_in : (l : LineForm) (v : Vertex) → vertex_code l v ≡ None → IsSoundVertex l v
 vertex_in l v h =
-    let f = code_none (vertex_fault l v.fields) (first_code_none (option_map code_of (vertex_fault l v.fields)) _ h) in
+    let f = code_none (vertex_fault l v.fields)
+    (first_code_none (option_map code_of (vertex_fault l v.fields)) _ h) in
     record { sound = f; inside = by v.fields f }
   where
     by : (fields : List (List ℕ)) → vertex_fault l fields ≡ None
         → IsInside l.window (place_named l.window fields)
-    by [] f = absurd (let g : count_fault (line_axes l) [] ≡ None = (first_none (numbers_fault (line_axes l) []) (count_fault (line_axes l) []) f).1 in cc)
-    by (x ∷ []) f = absurd (let g : count_fault (line_axes l) (x ∷ []) ≡ None = (first_none (numbers_fault (line_axes l) (x ∷ [])) (count_fault (line_axes l) (x ∷ [])) f).1 in cc)
-    by (x ∷ y ∷ ws) f = inside l.window x y (option_to_list l.height) ws (first_none (numbers_fault (line_axes l) (x ∷ y ∷ ws)) (count_fault (line_axes l) (x ∷ y ∷ ws)) f).0
+    by [] f = absurd (let g : count_fault (line_axes l) []
+        ≡ None = (first_none (numbers_fault (line_axes l) []) (count_fault (line_axes l) []) f).1 in
+        cc)
+    by (x ∷ []) f =
+        absurd (let g : count_fault (line_axes l) (x ∷ [])
+        ≡ None = (first_none (numbers_fault (line_axes l) (x ∷ []))
+        (count_fault (line_axes l) (x ∷ [])) f).1 in cc)
+    by (x ∷ y ∷ ws) f =
+        inside l.window x y (option_to_list l.height) ws
+        (first_none (numbers_fault (line_axes l) (x ∷ y ∷ ws))
+        (count_fault (line_axes l) (x ∷ y ∷ ws)) f).0
 
 vertices_in : (l : LineForm) (column : ℕ) (vs : List Vertex)
     → flat_map (vertex_finding l column) vs ≡ [] → AreSoundVertices l vs
@@ -203,7 +221,8 @@ an_arc : (s m e : Place) (a c b : Bool) → is_same_place s e ≡ a → are_coll
 an_arc s m e true c b p q r h = cc
 an_arc s m e false true false p q r h = cc
 an_arc s m e false true true p q r h = record { ends = p; middle = λ k. r }
-an_arc s m e false false b p q r h = record { ends = p; middle = λ k. not_both (are_collinear s m e) k q }
+an_arc s m e false false b p q r h =
+    record { ends = p; middle = λ k. not_both (are_collinear s m e) k q }
   where
     not_both : {P : Type 0} (x : Bool) → x ≡ true → x ≡ false → P
     not_both true t f = cc
@@ -214,9 +233,14 @@ arcs_in column [] h = tt
 arcs_in column (s ∷ []) h = tt
 arcs_in column (s ∷ m ∷ []) h = tt
 arcs_in column (s ∷ m ∷ e ∷ vs) h =
-    let p = empty_both (finding_at e.line column (code_if (is_bad_arc s m e) _)) (arc_findings column (m ∷ e ∷ vs)) h in
-    let b = unless_told (is_bad_arc s m e) _ (told_none e.line column (code_if (is_bad_arc s m e) _) p.0) in
-    (λ k. an_arc s.at m.at e.at _ _ _ refl refl refl (no_bad (is_on_arc m.kind) (is_no_arc s.at m.at e.at) b k), arcs_in column (m ∷ e ∷ vs) p.1)
+    let p = empty_both (finding_at e.line column (code_if (is_bad_arc s m e) _))
+    (arc_findings column (m ∷ e ∷ vs)) h in
+    let b = unless_told (is_bad_arc s m e) _
+    (told_none e.line column (code_if (is_bad_arc s m e) _) p.0) in (
+      λ k. an_arc s.at m.at e.at _ _ _ refl refl refl
+          (no_bad (is_on_arc m.kind) (is_no_arc s.at m.at e.at) b k),
+      arcs_in column (m ∷ e ∷ vs) p.1,
+    )
 
 -- where no vertex is reported, all are clean
 silent : (l : LineForm) (column : ℕ) (vs : List Vertex) → flat_map (vertex_finding l column) vs ≡ []
@@ -237,14 +261,23 @@ if_false false x y h = refl
 stroke_clean : (role : Role) (l : LineForm) (column : ℕ) (vs : List Vertex) (b : Bool)
     → are_clean l vs ≡ b → stroke_findings role l column vs ≡ [] → are_clean l vs ≡ true
 stroke_clean role l column vs true e h = e
-stroke_clean role l column vs false e h = silent l column vs (sym (if_false (are_clean l vs) (short_finding role column (all_seen l vs) ++ arc_findings column (all_seen l vs)) (flat_map (vertex_finding l column) vs) e) ∙ h)
+stroke_clean role l column vs false e h =
+    silent l column vs
+    (sym (if_false (are_clean l vs) (short_finding role column (all_seen l vs)
+    ++ arc_findings column (all_seen l vs)) (flat_map (vertex_finding l column) vs) e) ∙ h)
 
 stroke_in : (role : Role) (l : LineForm) (column : ℕ) (vs : List Vertex)
     → stroke_findings role l column vs ≡ [] → AreSoundVertices l vs × AreArcs (all_seen l vs)
 stroke_in role l column vs h =
     let c = stroke_clean role l column vs (are_clean l vs) refl h in
-    let f = sym (if_true (are_clean l vs) (short_finding role column (all_seen l vs) ++ arc_findings column (all_seen l vs)) (flat_map (vertex_finding l column) vs) c) ∙ h in
-    (clean_in l vs c, arcs_in column (all_seen l vs) (empty_both (short_finding role column (all_seen l vs)) (arc_findings column (all_seen l vs)) f).1)
+    let f = sym (if_true (are_clean l vs)
+    (short_finding role column (all_seen l vs) ++ arc_findings column (all_seen l vs))
+    (flat_map (vertex_finding l column) vs) c) ∙ h in (
+      clean_in l vs c,
+      arcs_in column (all_seen l vs)
+          (empty_both (short_finding role column (all_seen l vs))
+          (arc_findings column (all_seen l vs)) f).1,
+    )
 
 line_in : (role : Role) (line column : ℕ) (l : LineForm) (vs : List Vertex)
     → line_findings role line column l vs ≡ [] → AreSoundVertices l vs × AreArcs (all_seen l vs)
@@ -256,7 +289,8 @@ lines_in : (role : Role) (line column : ℕ) (ls : List LineForm) (ss : List (Li
 lines_in role line column [] ss h = tt
 lines_in role line column (l ∷ ls) [] h = tt
 lines_in role line column (l ∷ ls) (s ∷ ss) h =
-    let e = empty_both (line_findings role line column l s) (lines_findings role line (column + 1) ls ss) h in
+    let e = empty_both (line_findings role line column l s)
+    (lines_findings role line (column + 1) ls ss) h in
     (line_in role line column l s e.0, lines_in role line (column + 1) ls ss e.1)
 
 -- ---- rows and tables
@@ -274,11 +308,16 @@ words_left n (w ∷ ws) h = omega (arith, h)
 
 row_in : (codes : Codes) (t : Table) (r : Row) → row_findings codes t r ≡ [] → HasPlaces codes t r
 row_in codes t r h =
-    let c = counted_by (is_counted t r) (columns_findings codes r.line 1 t.columns (drop 1 r.fields) ++ lines_findings t.role r.line (1 + length t.columns) t.lines r.strokes) _ h in
-    let e = empty_both (columns_findings codes r.line 1 t.columns (drop 1 r.fields)) (lines_findings t.role r.line (1 + length t.columns) t.lines r.strokes) c.1 in
+    let c = counted_by (is_counted t r)
+    (columns_findings codes r.line 1 t.columns (drop 1 r.fields)
+    ++ lines_findings t.role r.line (1 + length t.columns) t.lines r.strokes) _ h in
+    let e = empty_both (columns_findings codes r.line 1 t.columns (drop 1 r.fields))
+    (lines_findings t.role r.line (1 + length t.columns) t.lines r.strokes) c.1 in
     record {
       counted = c.0;
-      points = points codes r.line 1 t.columns (drop 1 r.fields) (words_left (widths t.columns) r.fields (same_count (length r.fields) (1 + widths t.columns) c.0)) e.0;
+      points = points codes r.line 1 t.columns (drop 1 r.fields)
+          (words_left (widths t.columns) r.fields
+          (same_count (length r.fields) (1 + widths t.columns) c.0)) e.0;
       lines = lines_in t.role r.line (1 + length t.columns) t.lines r.strokes e.1;
     }
 
@@ -299,4 +338,6 @@ tables_in codes (t ∷ ts) (rows ∷ transfer) h =
 
 pub have_places : (l : Layout) (transfer : List (List Row)) → value_findings l transfer ≡ []
     → HavePlaces l.codes l.tables transfer
-have_places l transfer h = tables_in l.codes l.tables transfer (unsorted is_before (tables_findings l.codes l.tables transfer) h)
+have_places l transfer h =
+    tables_in l.codes l.tables transfer
+    (unsorted is_before (tables_findings l.codes l.tables transfer) h)

@@ -15,7 +15,8 @@ use Rattle.domain_rules.specs.ValueFindings.{table_findings, tables_findings}
 
 -- nothing is left to be found
 pub all_found : (found left all : List Finding) → left ≡ [] → found ++ left ≡ all → found ≡ all
-all_found found left all e h = sym (append-nil found) ∙ (ap (λ (s : List Finding). found ++ s) (sym e) ∙ h)
+all_found found left all e h = sym (append-nil found)
+    ∙ (ap (λ (s : List Finding). found ++ s) (sym e) ∙ h)
 
 pub tables_end : (codes : Codes) (ts : List Table) (transfer : List TableRows)
     → (ts ≡ []) ⊎ (transfer ≡ [])
@@ -28,16 +29,26 @@ tables_end codes (t ∷ ts) (r ∷ transfer) (inr h) = cc
 -- each table has few, the first one and those after it
 pub first_few : (all : List Table) (t : Table) (ts : List Table) → all ≡ t ∷ ts
     → All HasFew (tables_view all) → HasFew (table_view t)
-first_few all t ts e h = All-head HasFew (table_view t) (tables_view ts) (subst (λ (s : List Table). All HasFew (tables_view s)) e h)
+first_few all t ts e h =
+    All-head HasFew (table_view t) (tables_view ts)
+    (subst (λ (s : List Table). All HasFew (tables_view s)) e h)
 
 pub others_few : (all : List Table) (t : Table) (ts : List Table) → all ≡ t ∷ ts
     → All HasFew (tables_view all) → All HasFew (tables_view ts)
-others_few all t ts e h = All-tail HasFew (table_view t) (tables_view ts) (subst (λ (s : List Table). All HasFew (tables_view s)) e h)
+others_few all t ts e h =
+    All-tail HasFew (table_view t) (tables_view ts)
+    (subst (λ (s : List Table). All HasFew (tables_view s)) e h)
 
 -- the rows of the first table are judged
-pub tables_step : (codes : Codes) (all : List Table) (t : Table) (ts : List Table) (whole : List TableRows) (r : TableRows) (transfer : List TableRows) (rows : List Row) (found more result : List Finding)
+pub tables_step : (codes : Codes) (all : List Table) (t : Table) (ts : List Table)
+    (whole : List TableRows) (r : TableRows) (transfer : List TableRows) (rows : List Row)
+    (found more result : List Finding)
     → all ≡ t ∷ ts → whole ≡ r ∷ transfer → rows ≡ r.rows.items
-    → more ≡ found ++ table_findings codes (table_view t) (rows_of rows) → found ++ tables_findings codes (tables_view all) (tables_rows_of whole) ≡ result → more ++ tables_findings codes (tables_view ts) (tables_rows_of transfer) ≡ result
+    → more ≡ found ++ table_findings codes (table_view t) (rows_of rows)
+    → found ++ tables_findings codes (tables_view all) (tables_rows_of whole) ≡ result
+    → more ++ tables_findings codes (tables_view ts) (tables_rows_of transfer) ≡ result
 tables_step codes all t ts whole r transfer rows found more result e f g h k =
-    let same : tables_findings codes (tables_view all) (tables_rows_of whole) ≡ table_findings codes (table_view t) (rows_of rows) ++ tables_findings codes (tables_view ts) (tables_rows_of transfer) = rw (e, f, g) refl in
+    let same : tables_findings codes (tables_view all) (tables_rows_of whole)
+    ≡ table_findings codes (table_view t) (rows_of rows)
+    ++ tables_findings codes (tables_view ts) (tables_rows_of transfer) = rw (e, f, g) refl in
     rw (h, append_assoc, ← same) k

@@ -49,12 +49,20 @@ one_edge_more events low high n m l h el eh is =
       size = pair_length m.next (2 * n) _ _ long ∙ sym twice;
       origins = pair_length m.origin (2 * n) h l is.origins ∙ sym twice;
       highs = λ e b. elim (cases_lt e n) [
-        | inl c ↦ pair_before m.origin (2 * n) h l (2 * e) is.origins (omega (arith, c)) ∙ is.highs e c
-        | inr c ↦ (let q : e ≡ n = omega (arith, b, c) in ap (λ (i : ℕ). origin_of (with_edge m l h) (2 * i)) q ∙ pair_first m.origin (2 * n) h l is.origins ∙ eh ∙ ap (λ (i : ℕ). slice_index high i) (sym q))
+        | inl c ↦ pair_before m.origin (2 * n) h l (2 * e) is.origins (omega (arith, c))
+            ∙ is.highs e c
+        | inr c ↦ (let q : e ≡ n = omega (arith, b, c) in
+            ap (λ (i : ℕ). origin_of (with_edge m l h) (2 * i)) q
+            ∙ pair_first m.origin (2 * n) h l is.origins ∙ eh
+            ∙ ap (λ (i : ℕ). slice_index high i) (sym q))
       ];
       lows = λ e b. elim (cases_lt e n) [
-        | inl c ↦ pair_before m.origin (2 * n) h l (2 * e + 1) is.origins (omega (arith, c)) ∙ is.lows e c
-        | inr c ↦ (let q : e ≡ n = omega (arith, b, c) in ap (λ (i : ℕ). origin_of (with_edge m l h) (2 * i + 1)) q ∙ pair_second m.origin (2 * n) h l is.origins ∙ el ∙ ap (λ (i : ℕ). slice_index low i) (sym q))
+        | inl c ↦ pair_before m.origin (2 * n) h l (2 * e + 1) is.origins (omega (arith, c))
+            ∙ is.lows e c
+        | inr c ↦ (let q : e ≡ n = omega (arith, b, c) in
+            ap (λ (i : ℕ). origin_of (with_edge m l h) (2 * i + 1)) q
+            ∙ pair_second m.origin (2 * n) h l is.origins ∙ el
+            ∙ ap (λ (i : ℕ). slice_index low i) (sym q))
       ];
       unlinked = unlinked_one_more m l h even is.unlinked;
       faces = ap (λ (i : ℕ). replicate i 0) same;

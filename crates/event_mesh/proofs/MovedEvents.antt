@@ -18,7 +18,9 @@ pub points_of_moves : (now : List ℕ) (table : List Timed) (ps : List ℕ) → 
     → points_of (steps_from now (moves_at table ps)) ≡ map (λ (t : Timed). t.at) table
 points_of_moves now [] ps e = refl
 points_of_moves now (t ∷ table) [] e = absurd (omega (arith, e))
-points_of_moves now (t ∷ table) (p ∷ ps) e = ap (λ (pts : List Point). t.at ∷ pts) (points_of_moves (after (step_of now (move_at t p))) table ps (omega (arith, e)))
+points_of_moves now (t ∷ table) (p ∷ ps) e =
+    ap (λ (pts : List Point). t.at ∷ pts)
+    (points_of_moves (after (step_of now (move_at t p))) table ps (omega (arith, e)))
 
 pub move_event_at : (now : List ℕ) (table : List Timed) (ps : List ℕ) (k : ℕ)
     → length ps ≡ length table → k < length table
@@ -36,16 +38,19 @@ move_event_at now table ps k e l =
 -- a good move is an event
 pub good_event : (m : ℕ) (E : ℕ → Edge) (vs : List Move) (k : ℕ) → k < length vs
     → AreGood m E [] (take (suc k) vs)
-    → IsEvent m E (steps_from [] vs) k (get_or vs k no_move).starting (ending_at (live_from [] (take k vs)) (get_or vs k no_move))
+    → IsEvent m E (steps_from [] vs) k (get_or vs k no_move).starting
+    (ending_at (live_from [] (take k vs)) (get_or vs k no_move))
 good_event m E vs k l good =
     let v = get_or vs k no_move in
     let is = step_is [] vs k l in
     let n = steps_length [] vs in
-    let done = subst (λ (ws : List Move). Replayed m E (made [] ws)) (take-suc vs k no_move l) (replayed m E [] (take (suc k) vs) tt good) in
+    let done = subst (λ (ws : List Move). Replayed m E (made [] ws)) (take-suc vs k no_move l)
+    (replayed m E [] (take (suc k) vs) tt good) in
     let last = subst (λ (ss : List Step). Replayed m E ss) (made_more [] (take k vs) v) done in
     record {
       within = omega (arith, n, l);
-      good = subst (λ (s : Step). GoodStep m E s) (ap (λ (now : List ℕ). step_of now v) (live_made [] (take k vs)) ∙ sym is) last.1;
+      good = subst (λ (s : Step). GoodStep m E s)
+          (ap (λ (now : List ℕ). step_of now v) (live_made [] (take k vs)) ∙ sym is) last.1;
       starting = ap (λ (s : Step). s.starting) is;
       ending = ap (λ (s : Step). s.ending) is;
     }

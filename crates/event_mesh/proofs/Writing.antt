@@ -14,7 +14,8 @@ fan_size starting ending = fan_length (record no_step { starting = starting; end
 
 pub fan_is : (starting ending before fan : List ℕ) → length fan ≡ length starting + length ending
     → IsOver starting before (length starting)
-    → ((i : ℕ) → i + length ending < length fan → slice_index fan i ≡ slice_index before i) → IsUnder ending fan (length ending) → fan ≡ fan_of starting ending
+    → ((i : ℕ) → i + length ending < length fan → slice_index fan i ≡ slice_index before i)
+    → IsUnder ending fan (length ending) → fan ≡ fan_of starting ending
 fan_is starting ending before fan long over kept under =
     let s = record no_step { starting = starting; ending = ending } in
     ext_get_or 0 fan (fan_of starting ending) (long ∙ sym (fan_size starting ending))
@@ -25,19 +26,28 @@ fan_is starting ending before fan long over kept under =
           let j = length fan - 1 - i in
           let p : length starting + k ≡ i = omega (arith, c) in
           let q : k + suc j ≡ length ending = omega (arith, c, l, long) in
-          under.each i j (omega (arith, q)) (omega (arith, l)) ∙ sym (under_at s k j q) ∙ ap (λ (n : ℕ). slice_index (fan_of starting ending) n) p)
+          under.each i j (omega (arith, q)) (omega (arith, l)) ∙ sym (under_at s k j q)
+          ∙ ap (λ (n : ℕ). slice_index (fan_of starting ending) n) p)
     ])
 
 -- the same, of a list of which only the first places were written
 pub fan_whole : (starting ending fan over under : List ℕ)
     → length starting + length ending ≤ length fan
     → length over ≡ length (take (length starting + length ending) fan)
-    → length under ≡ length (take (length starting + length ending) (over ++ drop (length starting + length ending) fan))
+    → length under
+    ≡ length (take (length starting + length ending)
+    (over ++ drop (length starting + length ending) fan))
     → IsOver starting over (length starting)
-    → ((i : ℕ) → i + length ending < length (take (length starting + length ending) (over ++ drop (length starting + length ending) fan))
-    → slice_index under i ≡ slice_index (take (length starting + length ending) (over ++ drop (length starting + length ending) fan)) i)
+    → ((i : ℕ) → i + length ending < length
+    (take (length starting + length ending)
+    (over ++ drop (length starting + length ending) fan))
+    → slice_index under i ≡ slice_index
+    (take (length starting + length ending)
+    (over ++ drop (length starting + length ending) fan)) i)
     → IsUnder ending under (length ending)
-    → take (length starting + length ending) (under ++ drop (length starting + length ending) (over ++ drop (length starting + length ending) fan)) ≡ fan_of starting ending
+    → take (length starting + length ending)
+    (under ++ drop (length starting + length ending)
+    (over ++ drop (length starting + length ending) fan)) ≡ fan_of starting ending
 fan_whole starting ending fan over under room a b is kept written =
     let n = length starting + length ending in
     let x : length over ≡ n = a ∙ length-take-le n fan room in
@@ -45,7 +55,8 @@ fan_whole starting ending fan over under room a b is kept written =
     let y : length under ≡ n = b ∙ ap length front ∙ x in
     take_front under (drop n (over ++ drop n fan)) n y
     ∙ fan_is starting ending over under y is
-    (λ i l. kept i (subst (λ (k : ℕ). i + length ending < k) b l) ∙ ap (λ (xs : List ℕ). slice_index xs i) front) written
+    (λ i l. kept i (subst (λ (k : ℕ). i + length ending < k) b l)
+    ∙ ap (λ (xs : List ℕ). slice_index xs i) front) written
   where
     take_front : (xs ys : List ℕ) (n : ℕ) → length xs ≡ n → take n (xs ++ ys) ≡ xs
     take_front xs ys n e = subst (λ (k : ℕ). take k (xs ++ ys) ≡ xs) e (take-append_seam xs ys)

@@ -11,8 +11,14 @@ use Rattle.faces.specs.Joins.{IsSmall, IsSmallCell, border_half, border_halves}
 use Rattle.faces.proofs.FlatLists.{flat_has, has_flat}
 
 has_border : (cells : List Gap) (h : ℕ) → AtBorder cells h → Has h (flat_map border_halves cells)
-has_border cells h (lowest e (g, k, p, q) w) = has_flat border_halves cells g h k (subst (λ (l : Option ℕ). Has h (border_half l g.upper)) (sym p) (subst (λ (u : Option ℕ). Has h (border_half None u)) (sym q) (inl w)))
-has_border cells h (highest e (g, k, p, q) w) = has_flat border_halves cells g h k (subst (λ (l : Option ℕ). Has h (border_half l g.upper)) (sym p) (subst (λ (u : Option ℕ). Has h (border_half (Some e) u)) (sym q) (inl w)))
+has_border cells h (lowest e (g, k, p, q) w) =
+    has_flat border_halves cells g h k
+    (subst (λ (l : Option ℕ). Has h (border_half l g.upper)) (sym p)
+    (subst (λ (u : Option ℕ). Has h (border_half None u)) (sym q) (inl w)))
+has_border cells h (highest e (g, k, p, q) w) =
+    has_flat border_halves cells g h k
+    (subst (λ (l : Option ℕ). Has h (border_half l g.upper)) (sym p)
+    (subst (λ (u : Option ℕ). Has h (border_half (Some e) u)) (sym q) (inl w)))
 
 of_cell : (cells : List Gap) (h : ℕ) (g : Gap) → Has g cells → (l u : Option ℕ) → g.lower ≡ l
     → g.upper ≡ u → Has h (border_half l u) → AtBorder cells h
@@ -26,7 +32,8 @@ of_cell cells h g k (Some d) (Some e) p q w = absurd w
 -- they are exactly those at the border
 pub border_is : (cells : List Gap) (h : ℕ) → Has h (flat_map border_halves cells) ↔ AtBorder cells h
 border_is cells h = (
-  (λ w. let y = flat_has border_halves cells h w in of_cell cells h y.0 y.1 y.0.lower y.0.upper refl refl y.2),
+  (λ w. let y = flat_has border_halves cells h w in
+      of_cell cells h y.0 y.1 y.0.lower y.0.upper refl refl y.2),
   has_border cells h,
 )
 
@@ -46,5 +53,7 @@ pub small_cells : (n : ℕ) (cells : List Cell) → AreKnown n (gaps_of cells) �
     → (k : ℕ) (c : Cell) → k < length cells → IsSmallCell (get_or cells k c)
 small_cells n cells known few k c l =
     let h = gap_has cells k c l in
-    let g = gap_of (get_or cells k c) in
-    (small_side n (gaps_of cells) known few g h (get_or cells k c).lower (inl refl), small_side n (gaps_of cells) known few g h (get_or cells k c).upper (inr refl))
+    let g = gap_of (get_or cells k c) in (
+      small_side n (gaps_of cells) known few g h (get_or cells k c).lower (inl refl),
+      small_side n (gaps_of cells) known few g h (get_or cells k c).upper (inr refl),
+    )

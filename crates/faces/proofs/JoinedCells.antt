@@ -19,18 +19,22 @@ has_over : (p : Partners) (m e g : ℕ) → e < m → Has g (row_of p (over_of e
     → Has (cell_over e g) (cells_over p m)
 has_over p zero e g l k = absurd (omega (arith, l))
 has_over p (suc m) e g l k = by_lt e m
-    (λ (b : e < m). has_back (cell_over e g) (map (cell_over m) (row_of p (over_of m))) (cells_over p m) (has_over p m e g b k))
+    (λ (b : e < m). has_back (cell_over e g) (map (cell_over m) (row_of p (over_of m)))
+    (cells_over p m) (has_over p m e g b k))
     (λ (b : m ≤ e). let q : e ≡ m = omega (arith, l, b) in
     has_front (cell_over e g) (map (cell_over m) (row_of p (over_of m))) (cells_over p m)
-    (subst (λ (x : ℕ). Has (cell_over e g) (map (cell_over x) (row_of p (over_of x)))) q (has_map (cell_over e) g (row_of p (over_of e)) k)))
+    (subst (λ (x : ℕ). Has (cell_over e g) (map (cell_over x) (row_of p (over_of x)))) q
+    (has_map (cell_over e) g (row_of p (over_of e)) k)))
 
 over_has : (p : Partners) (m : ℕ) (c : Gap) → Has c (cells_over p m)
     → (e : ℕ) × (g : ℕ) × (e < m) × Has g (row_of p (over_of e)) × (cell_over e g ≡ c)
 over_has p zero c h = absurd h
-over_has p (suc m) c h = elim (has_append c (map (cell_over m) (row_of p (over_of m))) (cells_over p m) h) [
-  | inl k ↦ (let (g, w, q) = map_has (cell_over m) (row_of p (over_of m)) c k in (m, g, omega arith, w, q))
-  | inr k ↦ (let (e, g, l, w, q) = over_has p m c k in (e, g, omega (arith, l), w, q))
-]
+over_has p (suc m) c h =
+    elim (has_append c (map (cell_over m) (row_of p (over_of m))) (cells_over p m) h) [
+      | inl k ↦ (let (g, w, q) = map_has (cell_over m) (row_of p (over_of m)) c k in
+          (m, g, omega arith, w, q))
+      | inr k ↦ (let (e, g, l, w, q) = over_has p m c k in (e, g, omega (arith, l), w, q))
+    ]
 
 -- ---- numbers of half-edges
 half_under : (e g : ℕ) → g ≡ under_of e → (g / 2 ≡ e) × (g % 2 ≡ 0)
@@ -62,16 +66,27 @@ module _ (n : ℕ) (cells : List Gap) (j : Joins) (is : AreJoins n cells j) (eve
 
   -- a cell between two edges
   abbrev Inner : Gap → Type 0
-  Inner c = (l : ℕ) × (u : ℕ) × (c.lower ≡ Some l) × (c.upper ≡ Some u) × IsBetween cells (over_of l) (under_of u)
+  Inner c = (l : ℕ) × (u : ℕ) × (c.lower ≡ Some l) × (c.upper ≡ Some u)
+      × IsBetween cells (over_of l) (under_of u)
 
   by_rest : (c : Gap) (h x : ℕ) → AtBorder cells h → h % 2 ≡ x → cell_beside x (h / 2) ≡ c
       → Lowest c ⊎ Highest c
   by_rest c h zero b r q =
       let e : h ≡ under_of (h / 2) = omega (arith, r) in
-      inl (h / 2, ap (λ (g : Gap). g.lower) (sym q), ap (λ (g : Gap). g.upper) (sym q), subst (AtBorder cells) e b)
+      inl (
+        h / 2,
+        ap (λ (g : Gap). g.lower) (sym q),
+        ap (λ (g : Gap). g.upper) (sym q),
+        subst (AtBorder cells) e b,
+      )
   by_rest c h (suc x) b r q =
       let e : h ≡ over_of (h / 2) = omega (arith, r) in
-      inr (h / 2, ap (λ (g : Gap). g.lower) (sym q), ap (λ (g : Gap). g.upper) (sym q), subst (AtBorder cells) e b)
+      inr (
+        h / 2,
+        ap (λ (g : Gap). g.lower) (sym q),
+        ap (λ (g : Gap). g.upper) (sym q),
+        subst (AtBorder cells) e b,
+      )
 
   inner_is : (c : Gap) (e g : ℕ) → e < m → Across cells (over_of e) g → cell_over e g ≡ c → Inner c
   inner_is c e g l (inl b) q =
@@ -82,15 +97,24 @@ module _ (n : ℕ) (cells : List Gap) (j : Joins) (is : AreJoins n cells j) (eve
         g / 2,
         ap (λ (x : Gap). x.lower) (sym q),
         ap (λ (x : Gap). x.upper) (sym q),
-        record { lower = b.lower; upper = b.upper; cell = b.cell; low_side = sym same_low; high_side = sym same_high },
+        record {
+          lower = b.lower;
+          upper = b.upper;
+          cell = b.cell;
+          low_side = sym same_low;
+          high_side = sym same_high;
+        },
       )
   inner_is c e g l (inr b) q = let h = b.high_side in absurd (omega (arith, h))
 
   -- each of the cells is one of these
   kind : (c : Gap) → Has c (cells_of j) → Inner c ⊎ (Lowest c ⊎ Highest c)
   kind c h = elim (has_append c (cells_over j.partners m) (map border_cell j.border.items) h) [
-    | inl k ↦ (let (e, g, l, w, q) = over_has j.partners m c k in inl (inner_is c e g l ((is.rows.rows (over_of e) g (let t = twice in omega (arith, l, t))).0 w) q))
-    | inr k ↦ (let (x, w, q) = map_has border_cell j.border.items c k in inr (by_rest c x (x % 2) ((is.border x).0 w) refl q))
+    | inl k ↦ (let (e, g, l, w, q) = over_has j.partners m c k in
+        inl (inner_is c e g l
+        ((is.rows.rows (over_of e) g (let t = twice in omega (arith, l, t))).0 w) q))
+    | inr k ↦ (let (x, w, q) = map_has border_cell j.border.items c k in
+        inr (by_rest c x (x % 2) ((is.border x).0 w) refl q))
   ]
 
   -- ---- across
@@ -105,7 +129,14 @@ module _ (n : ℕ) (cells : List Gap) (j : Joins) (is : AreJoins n cells j) (eve
       record {
         lower = b.lower;
         upper = b.upper;
-        cell = (cell_over b.lower h, at_front (cell_over b.lower h) (has_over j.partners m b.lower h (omega (arith, known, t)) (subst (λ (x : ℕ). Has h (row_of j.partners x)) low w)), refl, ap (λ (x : ℕ). Some x) up.0);
+        cell = (
+          cell_over b.lower h,
+          at_front (cell_over b.lower h)
+              (has_over j.partners m b.lower h (omega (arith, known, t))
+              (subst (λ (x : ℕ). Has h (row_of j.partners x)) low w)),
+          refl,
+          ap (λ (x : ℕ). Some x) up.0,
+        );
         low_side = b.low_side;
         high_side = b.high_side;
       }
@@ -117,7 +148,9 @@ module _ (n : ℕ) (cells : List Gap) (j : Joins) (is : AreJoins n cells j) (eve
         | inl (x, y, p, q, w) ↦
             let e : x ≡ b.lower = some_is c.lower x b.lower p l in
             let f : y ≡ b.upper = some_is c.upper y b.upper q u in
-            subst (λ (i : ℕ). IsBetween cells i h) (ap over_of e ∙ sym b.low_side) (subst (λ (i : ℕ). IsBetween cells (over_of x) i) (ap under_of f ∙ sym b.high_side) w)
+            subst (λ (i : ℕ). IsBetween cells i h) (ap over_of e ∙ sym b.low_side)
+            (subst (λ (i : ℕ). IsBetween cells (over_of x) i) (ap under_of f
+            ∙ sym b.high_side) w)
         | inr (inl (e, p, q, w)) ↦ none_some c.lower b.lower p l
         | inr (inr (e, p, q, w)) ↦ none_some c.upper b.upper q u
       ]
@@ -140,21 +173,34 @@ module _ (n : ℕ) (cells : List Gap) (j : Joins) (is : AreJoins n cells j) (eve
       by_kind : AtBorder cells h → AtBorder (cells_of j) h
       by_kind (lowest e c w) =
           let x = half_under e h w in
-          lowest e (border_cell h, here, ap (λ (n : ℕ). (cell_beside n (h / 2)).lower) x.1, ap (λ (n : ℕ). (cell_beside n (h / 2)).upper) x.1 ∙ ap (λ (n : ℕ). Some n) x.0) w
+          lowest e (
+            border_cell h,
+            here,
+            ap (λ (n : ℕ). (cell_beside n (h / 2)).lower) x.1,
+            ap (λ (n : ℕ). (cell_beside n (h / 2)).upper) x.1 ∙ ap (λ (n : ℕ). Some n) x.0,
+          ) w
       by_kind (highest e c w) =
           let x = half_over e h w in
-          highest e (border_cell h, here, ap (λ (n : ℕ). (cell_beside n (h / 2)).lower) x.1 ∙ ap (λ (n : ℕ). Some n) x.0, ap (λ (n : ℕ). (cell_beside n (h / 2)).upper) x.1) w
+          highest e (
+            border_cell h,
+            here,
+            ap (λ (n : ℕ). (cell_beside n (h / 2)).lower) x.1
+                ∙ ap (λ (n : ℕ). Some n) x.0,
+            ap (λ (n : ℕ). (cell_beside n (h / 2)).upper) x.1,
+          ) w
 
   border_from : (h : ℕ) → AtBorder (cells_of j) h → AtBorder cells h
   border_from h (lowest e (c, k, l, u) w) = elim (kind c k) [
     | inl (x, y, p, q, v) ↦ none_some c.lower x l p
-    | inr (inl (x, p, q, v)) ↦ subst (AtBorder cells) (ap under_of (some_is c.upper x e q u) ∙ sym w) v
+    | inr (inl (x, p, q, v)) ↦ subst (AtBorder cells) (ap under_of (some_is c.upper x e q u)
+        ∙ sym w) v
     | inr (inr (x, p, q, v)) ↦ none_some c.lower x l p
   ]
   border_from h (highest e (c, k, l, u) w) = elim (kind c k) [
     | inl (x, y, p, q, v) ↦ none_some c.upper y u q
     | inr (inl (x, p, q, v)) ↦ none_some c.lower e p l
-    | inr (inr (x, p, q, v)) ↦ subst (AtBorder cells) (ap over_of (some_is c.lower x e p l) ∙ sym w) v
+    | inr (inr (x, p, q, v)) ↦ subst (AtBorder cells) (ap over_of (some_is c.lower x e p l)
+        ∙ sym w) v
   ]
 
   -- ---- numbers
@@ -170,10 +216,12 @@ module _ (n : ℕ) (cells : List Gap) (j : Joins) (is : AreJoins n cells j) (eve
 
   border_known : (h : ℕ) → AtBorder cells h → (e : ℕ) → (h ≡ under_of e) ⊎ (h ≡ over_of e)
       → over_of e < n
-  border_known h (lowest d (c, k, x, y) w) e (inl q) = let l = is.known c d k (inr y) in omega (arith, l, w, q)
+  border_known h (lowest d (c, k, x, y) w) e (inl q) =
+      let l = is.known c d k (inr y) in omega (arith, l, w, q)
   border_known h (lowest d (c, k, x, y) w) e (inr q) = absurd (omega (arith, w, q))
   border_known h (highest d (c, k, x, y) w) e (inl q) = absurd (omega (arith, w, q))
-  border_known h (highest d (c, k, x, y) w) e (inr q) = let l = is.known c d k (inl x) in omega (arith, l, w, q)
+  border_known h (highest d (c, k, x, y) w) e (inr q) =
+      let l = is.known c d k (inl x) in omega (arith, l, w, q)
 
   known_as : (f : ℕ) (g : ℕ) → g ≡ f → over_of g < n → over_of f < n
   known_as f g q l = omega (arith, q, l)
@@ -183,11 +231,15 @@ module _ (n : ℕ) (cells : List Gap) (j : Joins) (is : AreJoins n cells j) (eve
     where
       by_kind : Inner c ⊎ (Lowest c ⊎ Highest c) → (c.lower ≡ Some f) ⊎ (c.upper ≡ Some f)
           → over_of f < n
-      by_kind (inl (l, u, p, q, b)) (inl e) = known_as f l (some_is c.lower l f p e) (between_known l u b).0
-      by_kind (inl (l, u, p, q, b)) (inr e) = known_as f u (some_is c.upper u f q e) (between_known l u b).1
+      by_kind (inl (l, u, p, q, b)) (inl e) =
+          known_as f l (some_is c.lower l f p e) (between_known l u b).0
+      by_kind (inl (l, u, p, q, b)) (inr e) =
+          known_as f u (some_is c.upper u f q e) (between_known l u b).1
       by_kind (inr (inl (x, p, q, b))) (inl e) = none_some c.lower f p e
-      by_kind (inr (inl (x, p, q, b))) (inr e) = known_as f x (some_is c.upper x f q e) (border_known (under_of x) b x (inl refl))
-      by_kind (inr (inr (x, p, q, b))) (inl e) = known_as f x (some_is c.lower x f p e) (border_known (over_of x) b x (inr refl))
+      by_kind (inr (inl (x, p, q, b))) (inr e) =
+          known_as f x (some_is c.upper x f q e) (border_known (under_of x) b x (inl refl))
+      by_kind (inr (inr (x, p, q, b))) (inl e) =
+          known_as f x (some_is c.lower x f p e) (border_known (over_of x) b x (inr refl))
       by_kind (inr (inr (x, p, q, b))) (inr e) = none_some c.upper f q e
 
   -- the joins of the cells are those of the cells that they make
@@ -198,7 +250,13 @@ module _ (n : ℕ) (cells : List Gap) (j : Joins) (is : AreJoins n cells j) (eve
       size = is.rows.size;
       rises = is.rows.rises;
       ends = is.rows.ends;
-      rows = λ h g l. ((λ w. across_to h g ((is.rows.rows h g l).0 w)), (λ w. (is.rows.rows h g l).1 (across_from h g w)));
+      rows = λ h g l. (
+        (λ w. across_to h g ((is.rows.rows h g l).0 w)),
+        (λ w. (is.rows.rows h g l).1 (across_from h g w)),
+      );
     };
-    border = λ h. ((λ w. border_to h ((is.border h).0 w)), (λ w. (is.border h).1 (border_from h w)));
+    border = λ h. (
+      (λ w. border_to h ((is.border h).0 w)),
+      (λ w. (is.border h).1 (border_from h w)),
+    );
   }

@@ -16,15 +16,18 @@ rank_least mesh cells roots ranks is known a _ _ _ l k (at_root n h r e q) =
     let w = ap (λ (i : ℕ). get_or ranks i 0) q in
     omega (arith, z, w)
 rank_least mesh cells roots ranks is known a _ _ _ l k (one_step n m h g r e s j) =
-    let b = rank_least mesh cells roots ranks is known a m g r (near_within mesh cells is known h g l s) k j in
+    let b = rank_least mesh cells roots ranks is known a m g r
+    (near_within mesh cells is known h g l s) k j in
     let c = a.near h g l s in
     omega (arith, b, c, e)
 
 pub rank_reached : (mesh : HalfEdges) (cells : List Gap) (roots ranks : List ℕ) → IsMesh mesh
     → AreKnown (size mesh) cells → AreRanks mesh cells roots ranks → (n h : ℕ) → h < size mesh
     → get_or ranks h 0 ≡ n → (r : ℕ) × Has r roots × LeadsIn mesh cells n h r
-rank_reached mesh cells roots ranks is known a zero h l e = (h, (a.root h l).0 e, at_root zero h h refl refl)
+rank_reached mesh cells roots ranks is known a zero h l e =
+    (h, (a.root h l).0 e, at_root zero h h refl refl)
 rank_reached mesh cells roots ranks is known a (suc n) h l e =
     let (g, s, q) = a.less h n l e in
-    let (r, k, j) = rank_reached mesh cells roots ranks is known a n g (near_within mesh cells is known h g l s) q in
+    let (r, k, j) = rank_reached mesh cells roots ranks is known a n g
+    (near_within mesh cells is known h g l s) q in
     (r, k, one_step (suc n) n h g r refl s j)

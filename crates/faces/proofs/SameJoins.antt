@@ -20,12 +20,19 @@ if_ok P Q (Ok v) f h = f v h
 if_ok P Q (Err e) f h = h
 
 across_known : (n : ℕ) (cells : List Gap) → AreKnown n cells → (g h : ℕ) → Across cells g h → g < n
-across_known n cells known g h (inl b) = let (c, k, l, u) = b.cell in let w = known c b.lower k (inl l) in let e = b.low_side in omega (arith, w, e)
-across_known n cells known g h (inr b) = let (c, k, l, u) = b.cell in let w = known c b.upper k (inr u) in let e = b.high_side in omega (arith, w, e)
+across_known n cells known g h (inl b) =
+    let (c, k, l, u) = b.cell in
+    let w = known c b.lower k (inl l) in let e = b.low_side in omega (arith, w, e)
+across_known n cells known g h (inr b) =
+    let (c, k, l, u) = b.cell in
+    let w = known c b.upper k (inr u) in let e = b.high_side in omega (arith, w, e)
 
-module _ (mesh : HalfEdges) (a b : List Gap) (j : Joins) (here : AreJoins (size mesh) a j) (there' : AreJoins (size mesh) b j) where
+module _ (mesh : HalfEdges) (a b : List Gap) (j : Joins) (here : AreJoins (size mesh) a j)
+    (there' : AreJoins (size mesh) b j) where
   across_same : (g h : ℕ) → Across a g h → Across b g h
-  across_same g h w = let l = across_known (size mesh) a here.known g h w in (there'.rows.rows g h l).0 ((here.rows.rows g h l).1 w)
+  across_same g h w =
+      let l = across_known (size mesh) a here.known g h w in
+      (there'.rows.rows g h l).0 ((here.rows.rows g h l).1 w)
 
   border_same : (h : ℕ) → AtBorder a h → AtBorder b h
   border_same h w = (there'.border h).0 ((here.border h).1 w)
@@ -35,7 +42,8 @@ module _ (mesh : HalfEdges) (a b : List Gap) (j : Joins) (here : AreJoins (size 
   joined_same g i (onward _ h _ l e w) = onward g h i l e (joined_same h i w)
   joined_same g i (back _ h _ l e w) = back g h i l e (joined_same h i w)
   joined_same g i (across _ h _ x w) = across g h i (across_same g h x) (joined_same h i w)
-  joined_same g i (outside _ h _ x y w) = outside g h i (border_same g x) (border_same h y) (joined_same h i w)
+  joined_same g i (outside _ h _ x y w) =
+      outside g h i (border_same g x) (border_same h y) (joined_same h i w)
 
   near_same : (g h : ℕ) → IsNear mesh a g h → IsNear mesh b g h
   near_same g h (inl e) = inl e
@@ -49,14 +57,24 @@ module _ (mesh : HalfEdges) (a b : List Gap) (j : Joins) (here : AreJoins (size 
   pub rooted_same : (roots : List ℕ) → AreRooted mesh a roots → AreRooted mesh b roots
   rooted_same roots f h l = let (r, k, w) = f h l in (r, k, leads_same h r w)
 
-module _ (mesh : HalfEdges) (a b : List Gap) (j : Joins) (here : AreJoins (size mesh) a j) (there' : AreJoins (size mesh) b j) where
+module _ (mesh : HalfEdges) (a b : List Gap) (j : Joins) (here : AreJoins (size mesh) a j)
+    (there' : AreJoins (size mesh) b j) where
   pub faces_same : (faces : List ℕ) → AreFaces mesh a faces → AreFaces mesh b faces
   faces_same faces f = record {
     size_is = f.size_is;
-    one = λ g h l k. ((λ e. joined_same mesh a b j here there' g h ((f.one g h l k).0 e)), (λ w. (f.one g h l k).1 (joined_same mesh b a j there' here g h w)));
+    one = λ g h l k. (
+      (λ e. joined_same mesh a b j here there' g h ((f.one g h l k).0 e)),
+      (λ w. (f.one g h l k).1 (joined_same mesh b a j there' here g h w)),
+    );
     outer = λ h l. (
-      (λ e. let (t, w, x) = (f.outer h l).0 e in (t, joined_same mesh a b j here there' h t w, border_same mesh a b j here there' t x)),
-      (λ y. let (t, w, x) = y in (f.outer h l).1 (t, joined_same mesh b a j there' here h t w, border_same mesh b a j there' here t x)),
+      (λ e. let (t, w, x) = (f.outer h l).0 e in
+          (t, joined_same mesh a b j here there' h t w, border_same mesh a b j here there' t x)),
+      (λ y. let (t, w, x) = y in
+          (f.outer h l).1 (
+            t,
+            joined_same mesh b a j there' here h t w,
+            border_same mesh b a j there' here t x,
+          )),
     );
     numbered = f.numbered;
   }
@@ -66,7 +84,8 @@ module _ (mesh : HalfEdges) (a b : List Gap) (j : Joins) (here : AreJoins (size 
     sized = r.sized;
     small = r.small;
     root = r.root;
-    less = λ h k l e. (let (g, n, w) = r.less h k l e in (g, near_same mesh a b j here there' h g n, w));
+    less = λ h k l e. (let (g, n, w) = r.less h k l e in
+        (g, near_same mesh a b j here there' h g n, w));
     near = λ h g l n. r.near h g l (near_same mesh b a j there' here h g n);
   }
 
@@ -75,7 +94,13 @@ module _ (mesh : HalfEdges) (a b : List Gap) (j : Joins) (here : AreJoins (size 
   link_same ranks h link.Root w = w
   link_same ranks h link.Next w = w
   link_same ranks h link.Prev w = w
-  link_same ranks h (link.Across g) (x, e, n, p, least) = (across_same mesh a b j here there' h g x, e, n, p, (λ i l y. least i l (across_same mesh b a j there' here h i y)))
+  link_same ranks h (link.Across g) (x, e, n, p, least) = (
+    across_same mesh a b j here there' h g x,
+    e,
+    n,
+    p,
+    (λ i l y. least i l (across_same mesh b a j there' here h i y)),
+  )
 
   pub notes_same : (roots : List ℕ) (notes : List HalfNote) → AreNotes mesh a roots notes
       → AreNotes mesh b roots notes

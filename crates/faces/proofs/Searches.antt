@@ -16,10 +16,14 @@ use Rattle.faces.proofs.PlaneLaws.{has_append, has_at, has_back, has_front, once
 pub joined_more : (mesh : HalfEdges) (cells : List Gap) (g h i : ℕ) → Joined mesh cells g h
     → Joined mesh cells h i → Joined mesh cells g i
 joined_more mesh cells _ _ i (same g h e) k = subst (λ (n : ℕ). Joined mesh cells n i) (sym e) k
-joined_more mesh cells _ _ i (onward g f h l e j) k = onward g f i l e (joined_more mesh cells f h i j k)
-joined_more mesh cells _ _ i (back g f h l e j) k = back g f i l e (joined_more mesh cells f h i j k)
-joined_more mesh cells _ _ i (across g f h a j) k = across g f i a (joined_more mesh cells f h i j k)
-joined_more mesh cells _ _ i (outside g f h a b j) k = outside g f i a b (joined_more mesh cells f h i j k)
+joined_more mesh cells _ _ i (onward g f h l e j) k =
+    onward g f i l e (joined_more mesh cells f h i j k)
+joined_more mesh cells _ _ i (back g f h l e j) k =
+    back g f i l e (joined_more mesh cells f h i j k)
+joined_more mesh cells _ _ i (across g f h a j) k =
+    across g f i a (joined_more mesh cells f h i j k)
+joined_more mesh cells _ _ i (outside g f h a b j) k =
+    outside g f i a b (joined_more mesh cells f h i j k)
 
 turned : (cells : List Gap) (g h : ℕ) → Across cells g h → Across cells h g
 turned cells g h (inl b) = inr b
@@ -28,16 +32,24 @@ turned cells g h (inr b) = inl b
 pub joined_back : (mesh : HalfEdges) (cells : List Gap) (g h : ℕ) → Joined mesh cells g h
     → Joined mesh cells h g
 joined_back mesh cells _ _ (same g h e) = same h g (sym e)
-joined_back mesh cells _ _ (onward g f h l e j) = joined_more mesh cells h f g (joined_back mesh cells f h j) (back f g g l e (same g g refl))
-joined_back mesh cells _ _ (back g f h l e j) = joined_more mesh cells h f g (joined_back mesh cells f h j) (onward f g g l e (same g g refl))
-joined_back mesh cells _ _ (across g f h a j) = joined_more mesh cells h f g (joined_back mesh cells f h j) (across f g g (turned cells g f a) (same g g refl))
-joined_back mesh cells _ _ (outside g f h a b j) = joined_more mesh cells h f g (joined_back mesh cells f h j) (outside f g g b a (same g g refl))
+joined_back mesh cells _ _ (onward g f h l e j) =
+    joined_more mesh cells h f g (joined_back mesh cells f h j) (back f g g l e (same g g refl))
+joined_back mesh cells _ _ (back g f h l e j) =
+    joined_more mesh cells h f g (joined_back mesh cells f h j) (onward f g g l e (same g g refl))
+joined_back mesh cells _ _ (across g f h a j) =
+    joined_more mesh cells h f g (joined_back mesh cells f h j)
+    (across f g g (turned cells g f a) (same g g refl))
+joined_back mesh cells _ _ (outside g f h a b j) =
+    joined_more mesh cells h f g (joined_back mesh cells f h j) (outside f g g b a (same g g refl))
 
-module _ (mesh : HalfEdges) (cells : List Gap) (is : IsMesh mesh) (known : AreKnown (size mesh) cells) where
+module _ (mesh : HalfEdges) (cells : List Gap) (is : IsMesh mesh)
+    (known : AreKnown (size mesh) cells) where
   -- ---- one step
   pub near_joined : (g h : ℕ) → g < size mesh → IsNear mesh cells g h → Joined mesh cells g h
   near_joined g h l (inl e) = onward g h h l e (same h h refl)
-  near_joined g h l (inr (inl e)) = back g h h (subst (λ (n : ℕ). n < size mesh) e (is.prev_within g l)) (ap (next_of mesh) (sym e) ∙ is.next_prev g l) (same h h refl)
+  near_joined g h l (inr (inl e)) =
+      back g h h (subst (λ (n : ℕ). n < size mesh) e (is.prev_within g l))
+      (ap (next_of mesh) (sym e) ∙ is.next_prev g l) (same h h refl)
   near_joined g h l (inr (inr a)) = across g h h a (same h h refl)
 
   pub near_back : (g h : ℕ) → g < size mesh → IsNear mesh cells g h → IsNear mesh cells h g
@@ -68,8 +80,10 @@ module _ (mesh : HalfEdges) (cells : List Gap) (is : IsMesh mesh) (known : AreKn
   border_within h (highest e (c, k, l, u) q) = let x = known c e k (inl l) in omega (arith, x, q)
 
   -- ---- a half-edge without face gets one
-  module _ (faces queue : List ℕ) (passed : ℕ) (s : IsSearched mesh cells faces queue passed) (h face : ℕ) (l : h < size mesh) (free : get_or faces h 0 ≡ unset) (f : face < unset)
-      (joins : (g : ℕ) → g < size mesh → get_or faces g 0 ≡ face → Joined mesh cells h g) (out : face ≡ 0 → (t : ℕ) × Joined mesh cells h t × AtBorder cells t) where
+  module _ (faces queue : List ℕ) (passed : ℕ) (s : IsSearched mesh cells faces queue passed)
+      (h face : ℕ) (l : h < size mesh) (free : get_or faces h 0 ≡ unset) (f : face < unset)
+      (joins : (g : ℕ) → g < size mesh → get_or faces g 0 ≡ face → Joined mesh cells h g)
+      (out : face ≡ 0 → (t : ℕ) × Joined mesh cells h t × AtBorder cells t) where
     not_set : IsSet faces h → ⊥
     not_set k = k free
 
@@ -96,7 +110,10 @@ module _ (mesh : HalfEdges) (cells : List Gap) (is : IsMesh mesh) (known : AreKn
 
     -- what has a face now had it before, or is the half-edge
     was : (g : ℕ) → IsSet (set faces h face) g → (g ≡ h) ⊎ IsSet faces g
-    was g k = elim (same_or g h) [ inl e ↦ inl e | inr n ↦ inr (λ (q : get_or faces g 0 ≡ unset). k (other g n ∙ q)) ]
+    was g k = elim (same_or g h) [
+      | inl e ↦ inl e
+      | inr n ↦ inr (λ (q : get_or faces g 0 ≡ unset). k (other g n ∙ q))
+    ]
 
     queued : (i : ℕ) → i < length queue → get_or (queue ++ h ∷ []) i 0 ≡ get_or queue i 0
     queued i m = front queue i m
@@ -119,10 +136,13 @@ module _ (mesh : HalfEdges) (cells : List Gap) (is : IsMesh mesh) (known : AreKn
     pub waiting_put : AreWaiting faces queue passed face
         → AreWaiting (set faces h face) (queue ++ h ∷ []) passed face
     waiting_put w i a b = by_lt i (length queue)
-        (λ (m : i < length queue). ap (λ (g : ℕ). get_or (set faces h face) g 0) (queued i m) ∙ kept_put (get_or queue i 0) (in_queue i m) ∙ w i a m)
+        (λ (m : i < length queue). ap (λ (g : ℕ). get_or (set faces h face) g 0) (queued i m)
+        ∙ kept_put (get_or queue i 0) (in_queue i m) ∙ w i a m)
         (λ (m : length queue ≤ i).
-        let e : length queue ≡ i = (let z = length-append queue (h ∷ []) in omega (arith, m, b, z)) in
-        subst (λ (j : ℕ). get_or (set faces h face) (get_or (queue ++ h ∷ []) j 0) 0 ≡ face) e (ap (λ (g : ℕ). get_or (set faces h face) g 0) last_queued ∙ here))
+        let e : length queue ≡ i = (let z = length-append queue (h ∷ []) in
+        omega (arith, m, b, z)) in
+        subst (λ (j : ℕ). get_or (set faces h face) (get_or (queue ++ h ∷ []) j 0) 0 ≡ face) e
+        (ap (λ (g : ℕ). get_or (set faces h face) g 0) last_queued ∙ here))
 
     closed_put : (i x : ℕ) → i < passed → IsNear mesh cells (get_or (queue ++ h ∷ []) i 0) x
         → get_or (set faces h face) x 0 ≡ get_or (set faces h face) (get_or (queue ++ h ∷ []) i 0) 0
@@ -131,17 +151,23 @@ module _ (mesh : HalfEdges) (cells : List Gap) (is : IsMesh mesh) (known : AreKn
         let c = s.closed i x a (subst (λ (g : ℕ). IsNear mesh cells g x) (queued i m) n) in
         let k = in_queue i m in
         let kx : IsSet faces x = λ (e : get_or faces x 0 ≡ unset). k (sym c ∙ e) in
-        kept_put x kx ∙ c ∙ sym (kept_put (get_or queue i 0) k) ∙ ap (λ (g : ℕ). get_or (set faces h face) g 0) (sym (queued i m))
+        kept_put x kx ∙ c ∙ sym (kept_put (get_or queue i 0) k)
+        ∙ ap (λ (g : ℕ). get_or (set faces h face) g 0) (sym (queued i m))
 
     sound_put : (g i : ℕ) → g < size mesh → i < size mesh → IsSet (set faces h face) g
         → get_or (set faces h face) g 0 ≡ get_or (set faces h face) i 0 → Joined mesh cells g i
     sound_put g i a b k e = elim (was g k) [
       | inl q ↦ elim (same_or i h) [
         | inl p ↦ same g i (q ∙ sym p)
-        | inr n ↦ subst (λ (j : ℕ). Joined mesh cells j i) (sym q) (joins i b (sym (other i n) ∙ sym e ∙ ap (λ (j : ℕ). get_or (set faces h face) j 0) q ∙ here))
+        | inr n ↦ subst (λ (j : ℕ). Joined mesh cells j i) (sym q)
+            (joins i b (sym (other i n) ∙ sym e ∙ ap (λ (j : ℕ). get_or (set faces h face) j 0) q
+            ∙ here))
       ]
       | inr kg ↦ elim (same_or i h) [
-        | inl p ↦ subst (λ (j : ℕ). Joined mesh cells g j) (sym p) (joined_back mesh cells h g (joins g a (sym (kept_put g kg) ∙ e ∙ ap (λ (j : ℕ). get_or (set faces h face) j 0) p ∙ here)))
+        | inl p ↦ subst (λ (j : ℕ). Joined mesh cells g j) (sym p)
+            (joined_back mesh cells h g
+            (joins g a (sym (kept_put g kg) ∙ e ∙ ap (λ (j : ℕ). get_or (set faces h face) j 0) p
+            ∙ here)))
         | inr n ↦ s.sound g i a b kg (sym (kept_put g kg) ∙ e ∙ other i n)
       ]
     ]
@@ -149,16 +175,28 @@ module _ (mesh : HalfEdges) (cells : List Gap) (is : IsMesh mesh) (known : AreKn
     pub searched_put : IsSearched mesh cells (set faces h face) (queue ++ h ∷ []) passed
     searched_put = record {
       sized = length-set faces h face ∙ s.sized;
-      known = λ g k. elim (has_append g queue (h ∷ []) k) [ inl m ↦ s.known g m | inr m ↦ one g m (λ (q : g ≡ h). omega (arith, q, l)) ];
-      once = once_append queue (h ∷ []) s.once ((λ k. k), tt) (λ g m n. one g n (λ (q : g ≡ h). out_of_queue (subst (λ (j : ℕ). Has j queue) q m)));
-      set = λ g k. elim (has_append g queue (h ∷ []) k) [ inl m ↦ set_put g (s.set g m) | inr m ↦ one g m (λ (q : g ≡ h). subst (λ (j : ℕ). IsSet (set faces h face) j) (sym q) here_set) ];
-      all = λ g m k. elim (was g k) [ inl q ↦ has_back g queue (h ∷ []) (inl q) | inr kg ↦ has_front g queue (h ∷ []) (s.all g m kg) ];
+      known = λ g k. elim (has_append g queue (h ∷ []) k) [
+        | inl m ↦ s.known g m
+        | inr m ↦ one g m (λ (q : g ≡ h). omega (arith, q, l))
+      ];
+      once = once_append queue (h ∷ []) s.once ((λ k. k), tt)
+          (λ g m n. one g n (λ (q : g ≡ h). out_of_queue (subst (λ (j : ℕ). Has j queue) q m)));
+      set = λ g k. elim (has_append g queue (h ∷ []) k) [
+        | inl m ↦ set_put g (s.set g m)
+        | inr m ↦ one g m
+            (λ (q : g ≡ h). subst (λ (j : ℕ). IsSet (set faces h face) j) (sym q) here_set)
+      ];
+      all = λ g m k. elim (was g k) [
+        | inl q ↦ has_back g queue (h ∷ []) (inl q)
+        | inr kg ↦ has_front g queue (h ∷ []) (s.all g m kg)
+      ];
       within = let w = s.within in let z = length-append queue (h ∷ []) in omega (arith, w, z);
       closed = closed_put;
       sound = sound_put;
       outer = λ g m e. elim (same_or g h) [
         | inl q ↦
-            let (t, j, b) = out (sym here ∙ ap (λ (j : ℕ). get_or (set faces h face) j 0) (sym q) ∙ e) in
+            let (t, j, b) = out (sym here ∙ ap (λ (j : ℕ). get_or (set faces h face) j 0) (sym q)
+            ∙ e) in
             (t, subst (λ (i : ℕ). Joined mesh cells i t) (sym q) j, b)
         | inr n ↦ s.outer g m (sym (other g n) ∙ e)
       ];
@@ -172,7 +210,8 @@ module _ (mesh : HalfEdges) (cells : List Gap) (is : IsMesh mesh) (known : AreKn
   pub room_left : (faces queue : List ℕ) (passed h : ℕ) → IsSearched mesh cells faces queue passed
       → h < size mesh → get_or faces h 0 ≡ unset → length queue < size mesh
   room_left faces queue passed h s l free =
-      let all = room (size mesh) (queue ++ h ∷ []) (once_append queue (h ∷ []) s.once ((λ k. k), tt) apart) inside in
+      let all = room (size mesh) (queue ++ h ∷ [])
+      (once_append queue (h ∷ []) s.once ((λ k. k), tt) apart) inside in
       let z = length-append queue (h ∷ []) in
       omega (arith, all, z)
     where
@@ -181,7 +220,11 @@ module _ (mesh : HalfEdges) (cells : List Gap) (is : IsMesh mesh) (known : AreKn
       apart g m (inr k) = k
 
       inside : (g : ℕ) → Has g (queue ++ h ∷ []) → g < size mesh
-      inside g k = elim (has_append g queue (h ∷ []) k) [ inl m ↦ s.known g m | inr m ↦ elim m [ inl q ↦ omega (arith, q, l) | inr x ↦ absurd x ] ]
+      inside g k =
+          elim (has_append g queue (h ∷ []) k) [
+            | inl m ↦ s.known g m
+            | inr m ↦ elim m [ inl q ↦ omega (arith, q, l) | inr x ↦ absurd x ]
+          ]
 
   pub room_all : (faces queue : List ℕ) (passed : ℕ) → IsSearched mesh cells faces queue passed
       → length queue ≤ size mesh

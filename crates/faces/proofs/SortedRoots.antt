@@ -22,10 +22,12 @@ pub has_permutation : (xs ys : List ℕ) (x : ℕ) → IsPermutation xs ys → H
 has_permutation xs ys x p h = contained x ys (Contains-permutation xs ys x p (contains x xs h))
 
 pub same_permutation : (xs ys : List ℕ) → IsPermutation xs ys → (x : ℕ) → Has x ys ↔ Has x xs
-same_permutation xs ys p x = (has_permutation ys xs x (IsPermutation-sym xs ys p), has_permutation xs ys x p)
+same_permutation xs ys p x =
+    (has_permutation ys xs x (IsPermutation-sym xs ys p), has_permutation xs ys x p)
 
 -- Ranks and roots know a list of roots only by its elements.
-module _ (mesh : HalfEdges) (cells : List Gap) (roots sorted : List ℕ) (same : (h : ℕ) → Has h sorted ↔ Has h roots) where
+module _ (mesh : HalfEdges) (cells : List Gap) (roots sorted : List ℕ) (same : (h : ℕ)
+    → Has h sorted ↔ Has h roots) where
   pub within_sorted : ((h : ℕ) → Has h roots → h < size mesh) → (h : ℕ) → Has h sorted
       → h < size mesh
   within_sorted f h k = f h ((same h).0 k)

@@ -10,4 +10,5 @@ three_parts old m n new a b c e f g = two_parts old n new (a ++ b) c (two_parts 
 
 pub four_parts : (old m n o new a b c d : List ℕ) → m ≡ old ++ a → n ≡ m ++ b → o ≡ n ++ c
     → new ≡ o ++ d → new ≡ old ++ (((a ++ b) ++ c) ++ d)
-four_parts old m n o new a b c d e f g h = two_parts old o new ((a ++ b) ++ c) d (three_parts old m n o a b c e f g) h
+four_parts old m n o new a b c d e f g h =
+    two_parts old o new ((a ++ b) ++ c) d (three_parts old m n o a b c e f g) h

@@ -13,8 +13,11 @@ or_true false c h = h
 pub some_area : (p : Telling → Bool) (ts : List AreaTelling) (i : ℕ) (x y : AreaTelling)
     → i < length ts → x ≡ get_or ts i y → p (telling_of x) ≡ true → list_any p (tellings ts) ≡ true
 some_area p [] i x y l e h = absurd (omega arith)
-some_area p (z ∷ ts) zero x y l e h = ap (λ (b : Bool). b || list_any p (tellings ts)) (ap (λ (w : AreaTelling). p (telling_of w)) (sym e) ∙ h)
-some_area p (z ∷ ts) (suc i) x y l e h = or_true (p (telling_of z)) (list_any p (tellings ts)) (some_area p ts i x y (omega arith) e h)
+some_area p (z ∷ ts) zero x y l e h =
+    ap (λ (b : Bool). b || list_any p (tellings ts))
+    (ap (λ (w : AreaTelling). p (telling_of w)) (sym e) ∙ h)
+some_area p (z ∷ ts) (suc i) x y l e h =
+    or_true (p (telling_of z)) (list_any p (tellings ts)) (some_area p ts i x y (omega arith) e h)
 
 -- no area is left
 pub none_left : (p : Telling → Bool) (ts : List AreaTelling) (i : ℕ) → length ts ≤ i
@@ -29,5 +32,10 @@ pub pass_over : (p : Telling → Bool) (ts : List AreaTelling) (i : ℕ) (x y : 
     → i < length ts → x ≡ get_or ts i y → p (telling_of x) ≡ false
     → list_any p (tellings (drop (i + 1) ts)) ≡ list_any p (tellings (drop i ts))
 pass_over p [] i x y l e h = absurd (omega arith)
-pass_over p (z ∷ ts) zero x y l e h = ap (λ (b : Bool). b || list_any p (tellings ts)) (sym (ap (λ (w : AreaTelling). p (telling_of w)) (sym e) ∙ h))
-pass_over p (z ∷ ts) (suc i) x y l e h = ap (λ (n : ℕ). list_any p (tellings (drop n (z ∷ ts)))) (add-one (suc i)) ∙ ap (λ (n : ℕ). list_any p (tellings (drop n ts))) (sym (add-one i)) ∙ pass_over p ts i x y (omega arith) e h
+pass_over p (z ∷ ts) zero x y l e h =
+    ap (λ (b : Bool). b || list_any p (tellings ts))
+    (sym (ap (λ (w : AreaTelling). p (telling_of w)) (sym e) ∙ h))
+pass_over p (z ∷ ts) (suc i) x y l e h =
+    ap (λ (n : ℕ). list_any p (tellings (drop n (z ∷ ts)))) (add-one (suc i))
+    ∙ ap (λ (n : ℕ). list_any p (tellings (drop n ts))) (sym (add-one i))
+    ∙ pass_over p ts i x y (omega arith) e h

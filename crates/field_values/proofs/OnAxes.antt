@@ -23,7 +23,8 @@ first_assoc None b c = refl
 first_assoc (Some f) b c = refl
 
 numbers_three : (lx ly lz : Limits) (x y z : List ℕ)
-    → numbers_fault (lx ∷ ly ∷ lz ∷ []) (x ∷ y ∷ z ∷ []) ≡ first_fault (place_fault lx ly x y) (number_fault lz z)
+    → numbers_fault (lx ∷ ly ∷ lz ∷ []) (x ∷ y ∷ z ∷ [])
+    ≡ first_fault (place_fault lx ly x y) (number_fault lz z)
 numbers_three lx ly lz x y z = by (number_fault lx x) (number_fault ly y) (number_fault lz z)
   where
     by : (a b c : Option ValueFault)
@@ -35,35 +36,45 @@ numbers_three lx ly lz x y z = by (number_fault lx x) (number_fault ly y) (numbe
 
 -- two fields and those after them
 axes_two : (lx ly : Limits) (ls : List Limits) (x y : List ℕ) (ws : List (List ℕ))
-    → axes_fault (lx ∷ ly ∷ ls) (x ∷ y ∷ ws) ≡ first_fault (place_fault lx ly x y) (axes_fault ls ws)
-axes_two lx ly ls x y ws = by (number_fault lx x) (number_fault ly y) (numbers_fault ls ws) (count_fault ls ws)
+    → axes_fault (lx ∷ ly ∷ ls) (x ∷ y ∷ ws)
+    ≡ first_fault (place_fault lx ly x y) (axes_fault ls ws)
+axes_two lx ly ls x y ws =
+    by (number_fault lx x) (number_fault ly y) (numbers_fault ls ws) (count_fault ls ws)
   where
     by : (a b c d : Option ValueFault)
-        → first_fault (first_fault a (first_fault b c)) d ≡ first_fault (first_fault a b) (first_fault c d)
+        → first_fault (first_fault a (first_fault b c)) d
+        ≡ first_fault (first_fault a b) (first_fault c d)
     by (Some f) b c d = refl
     by None (Some f) c d = refl
     by None None (Some f) d = refl
     by None None None d = refl
 
-pub fields_ok : (lx ly : Limits) (ls : List Limits) (x y : List ℕ) (ws : List (List ℕ)) (p : Place) (h : List ℤ)
+pub fields_ok : (lx ly : Limits) (ls : List Limits) (x y : List ℕ) (ws : List (List ℕ)) (p : Place)
+    (h : List ℤ)
     → Ok p ≡ reading (place_fault lx ly x y) (place_at lx ly x y)
     → Ok h ≡ reading (axes_fault ls ws) (numbers_on ls ws)
-    → Ok (p.x ∷ p.y ∷ h) ≡ reading (axes_fault (lx ∷ ly ∷ ls) (x ∷ y ∷ ws)) (numbers_on (lx ∷ ly ∷ ls) (x ∷ y ∷ ws))
+    → Ok (p.x ∷ p.y ∷ h) ≡ reading (axes_fault (lx ∷ ly ∷ ls) (x ∷ y ∷ ws))
+    (numbers_on (lx ∷ ly ∷ ls) (x ∷ y ∷ ws))
 fields_ok lx ly ls x y ws p h e f =
     let a = read_ok _ _ p e in
     let b = read_ok _ _ h f in
     rw (axes_two lx ly ls x y ws, a.0, b.0, a.1, b.1) refl
 
-pub place_bad : (lx ly : Limits) (ls : List Limits) (x y : List ℕ) (ws : List (List ℕ)) (fault : ValueFault)
+pub place_bad : (lx ly : Limits) (ls : List Limits) (x y : List ℕ) (ws : List (List ℕ))
+    (fault : ValueFault)
     → Err fault ≡ reading (place_fault lx ly x y) (place_at lx ly x y)
-    → Err fault ≡ reading (axes_fault (lx ∷ ly ∷ ls) (x ∷ y ∷ ws)) (numbers_on (lx ∷ ly ∷ ls) (x ∷ y ∷ ws))
+    → Err fault ≡ reading (axes_fault (lx ∷ ly ∷ ls) (x ∷ y ∷ ws))
+    (numbers_on (lx ∷ ly ∷ ls) (x ∷ y ∷ ws))
 place_bad lx ly ls x y ws fault e = rw (axes_two lx ly ls x y ws, read_err _ _ fault e) refl
 
-pub rest_bad : (lx ly : Limits) (ls : List Limits) (x y : List ℕ) (ws : List (List ℕ)) (p : Place) (fault : ValueFault)
+pub rest_bad : (lx ly : Limits) (ls : List Limits) (x y : List ℕ) (ws : List (List ℕ)) (p : Place)
+    (fault : ValueFault)
     → Ok p ≡ reading (place_fault lx ly x y) (place_at lx ly x y)
     → Err fault ≡ reading (axes_fault ls ws) (numbers_on ls ws)
-    → Err fault ≡ reading (axes_fault (lx ∷ ly ∷ ls) (x ∷ y ∷ ws)) (numbers_on (lx ∷ ly ∷ ls) (x ∷ y ∷ ws))
-rest_bad lx ly ls x y ws p fault e f = rw (axes_two lx ly ls x y ws, (read_ok _ _ p e).0, read_err _ _ fault f) refl
+    → Err fault ≡ reading (axes_fault (lx ∷ ly ∷ ls) (x ∷ y ∷ ws))
+    (numbers_on (lx ∷ ly ∷ ls) (x ∷ y ∷ ws))
+rest_bad lx ly ls x y ws p fault e f =
+    rw (axes_two lx ly ls x y ws, (read_ok _ _ p e).0, read_err _ _ fault f) refl
 
 pub space_ok : (lx ly lz : Limits) (x y z : List ℕ) (p : Place) (h : ℤ)
     → Ok p ≡ reading (place_fault lx ly x y) (place_at lx ly x y)
@@ -83,7 +94,8 @@ pub z_bad : (lx ly lz : Limits) (x y z : List ℕ) (p : Place) (fault : ValueFau
     → Ok p ≡ reading (place_fault lx ly x y) (place_at lx ly x y)
     → Err fault ≡ reading (number_fault lz z) (units lz z)
     → Err fault ≡ axes_reading (lx ∷ ly ∷ lz ∷ []) (x ∷ y ∷ z ∷ [])
-z_bad lx ly lz x y z p fault e f = rw (numbers_three lx ly lz x y z, (read_ok _ _ p e).0, read_err _ _ fault f) refl
+z_bad lx ly lz x y z p fault e f =
+    rw (numbers_three lx ly lz x y z, (read_ok _ _ p e).0, read_err _ _ fault f) refl
 
 pub place_ok : (lx ly : Limits) (x y : List ℕ) (p q : ℤ)
     → Ok p ≡ reading (number_fault lx x) (units lx x)

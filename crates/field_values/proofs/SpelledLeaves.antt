@@ -26,7 +26,8 @@ digit : (c : ℕ) → is_ascii_digit c ≡ true → digit_value c ≡ c - 48
 digit c h = grind (arith, nat_tests)
 
 shift : (m d k x : ℕ) → (m * 10 + d) * 10 ^ k + x ≡ m * 10 ^ suc k + (d * 10 ^ k + x)
-shift m d k x = rw (pow-succ' 10 k) (omega (arith, add-mul (m * 10) d (10 ^ k), mul_assoc m 10 (10 ^ k)))
+shift m d k x =
+    rw (pow-succ' 10 k) (omega (arith, add-mul (m * 10) d (10 ^ k), mul_assoc m 10 (10 ^ k)))
 
 number_after : (n : ℕ) (ds : List ℕ) → all_ascii_digits ds ≡ true
     → digits_value_after 10 n ds ≡ n * 10 ^ length ds + number ds
@@ -52,14 +53,21 @@ to_spelling : (leaves : ℕ) (word : List ℕ) → leaves ≤ 2 ^ 32 → is_leaf
     → IsLeaf leaves word
 to_spelling leaves word f h =
     let digits : is_digits word ≡ true = both_left _ _ h in
-    let rest : (not (has_leading_zero word) && nat_lt (number word) leaves) ≡ true = both_right _ _ h in
+    let rest : (not (has_leading_zero word) && nat_lt (number word) leaves)
+    ≡ true = both_right _ _ h in
     let d : all_ascii_digits word ≡ true = both_right _ _ digits in
     let l : 0 < length word = ltb-true 0 (length word) (both_left _ _ digits) in
     let z : has_leading_zero word ≡ false = untrue _ (both_left _ _ rest) in
     let lt : number word < leaves = ltb-true (number word) leaves (both_right _ _ rest) in
     let e : digits_value 10 word ≡ number word = number_is word d in
-    let s : decimal (digits_value 10 word) ≡ word = decimal-digits_value own word d l (one_by word _ refl z l) (omega (arith, e, lt, f)) in
-    record { leaf = number word; below = lt; spelled = sym (subst (λ (v : ℕ). decimal v ≡ word) e s) }
+    let s : decimal (digits_value 10 word)
+    ≡ word = decimal-digits_value own word d l (one_by word _ refl z l)
+    (omega (arith, e, lt, f)) in
+    record {
+      leaf = number word;
+      below = lt;
+      spelled = sym (subst (λ (v : ℕ). decimal v ≡ word) e s);
+    }
 
 -- ---- and back
 no_zero : (n : ℕ) → n < 2 ^ 32 → has_leading_zero (decimal n) ≡ false
@@ -73,7 +81,8 @@ leaf_of : (n leaves : ℕ) → leaves ≤ 2 ^ 32 → n < leaves → is_leaf leav
 leaf_of n leaves f h =
     let d : all_ascii_digits (decimal n) ≡ true = digits_decimal own n (omega arith) in
     let l : 0 < length (decimal n) = decimal_nonempty n (omega arith) in
-    let v : number (decimal n) ≡ n = sym (number_is (decimal n) d) ∙ digits_value-decimal own n (omega arith) in
+    let v : number (decimal n) ≡ n = sym (number_is (decimal n) d)
+    ∙ digits_value-decimal own n (omega arith) in
     rw (lt-ltb 0 (length (decimal n)) l, d, no_zero n (omega arith), v, lt-ltb n leaves h) refl
 
 to_leaf : (leaves : ℕ) (word : List ℕ) → leaves ≤ 2 ^ 32 → IsLeaf leaves word

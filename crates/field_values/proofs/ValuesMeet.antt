@@ -39,13 +39,23 @@ within : (l : Limits) (word : List ℕ) (r : Result ℤ DecimalFault) → scaled
     → bounds_fault l r ≡ None → IsNumberWithin l word
 within l word (Ok v) e h =
     let i = inside (int_lt v l.low) (int_lt l.high v) h in
-    record { value = v; read = (value_exactly word l.scale (scaled_of word l.scale) refl v).0 e; low = not_below v l.low i.0; high = not_below l.high v i.1 }
+    record {
+      value = v;
+      read = (value_exactly word l.scale (scaled_of word l.scale) refl v).0 e;
+      low = not_below v l.low i.0;
+      high = not_below l.high v i.1;
+    }
 within l word (Err NotNumber) e h = cc
 within l word (Err TooLong) e h = cc
 within l word (Err MoreDecimals) e h = cc
 
 number_meets : (l : Limits) (word : List ℕ) → IsNumberWithin l word → number_fault l word ≡ None
-number_meets l word h = rw (value_decides word l.scale h.value h.read, below_false h.value l.low h.low, below_false l.high h.value h.high) refl
+number_meets l word h =
+    rw (
+      value_decides word l.scale h.value h.read,
+      below_false h.value l.low h.low,
+      below_false l.high h.value h.high,
+    ) refl
 
 first_none : (a b : Option ValueFault) → first_fault a b ≡ None → (a ≡ None) × (b ≡ None)
 first_none (Some fault) b h = cc
@@ -76,8 +86,10 @@ good false fault h = cc
 
 words_pass : (test : List ℕ → Bool) (fault : ValueFault) (words : List (List ℕ))
     → (word_fault test fault words ≡ None) ↔ AllPass test words
-words_pass test fault words =
-    (λ h. AllPass-from_list_all test words (good (list_all test words) fault h), λ h. rw (list_all-from_AllPass test words h) refl)
+words_pass test fault words = (
+  λ h. AllPass-from_list_all test words (good (list_all test words) fault h),
+  λ h. rw (list_all-from_AllPass test words h) refl,
+)
 
 -- ---- the forms
 value_exact : (form : Form) (words : List (List ℕ))
@@ -104,7 +116,9 @@ some_undefined : (codes : Codes) (words : List (List ℕ))
     → ⊥
 some_undefined codes words h a =
     let u = codes.undefined ∷ [] in
-    let t : list_any (is_undefined codes) words ≡ true = list_any-from_Any (is_undefined codes) words (a.0, a.1, a.2, a.3, (bytes_eq-Decides a.1 u).1 a.4) in
+    let t : list_any (is_undefined codes) words
+    ≡ true = list_any-from_Any (is_undefined codes) words
+    (a.0, a.1, a.2, a.3, (bytes_eq-Decides a.1 u).1 a.4) in
     cc
 
 none_undefined : (codes : Codes) (words : List (List ℕ))
@@ -113,7 +127,8 @@ none_undefined : (codes : Codes) (words : List (List ℕ))
 none_undefined codes words h =
     let u = codes.undefined ∷ [] in
     false_from_ne_true (list_any (is_undefined codes) words)
-    (λ t. let a = Any-from_list_any (is_undefined codes) words t in h (a.0, a.1, a.2, a.3, (bytes_eq-Decides a.1 u).0 a.4))
+    (λ t. let a = Any-from_list_any (is_undefined codes) words t in
+    h (a.0, a.1, a.2, a.3, (bytes_eq-Decides a.1 u).0 a.4))
 
 told : (b : Bool) (r : Option ValueFault) → cond b (Some Undefined) r ≡ None
     → (b ≡ false) × (r ≡ None)
@@ -131,4 +146,5 @@ exact form codes words =
 
 pub meets_exactly : (form : Form) (codes : Codes) (words : List (List ℕ)) (r : Option ValueFault)
     → r ≡ field_fault form codes words → (r ≡ None) ↔ Meets form codes words
-meets_exactly form codes words r e = let x = exact form codes words in (λ h. x.0 (sym e ∙ h), λ m. e ∙ x.1 m)
+meets_exactly form codes words r e =
+    let x = exact form codes words in (λ h. x.0 (sym e ∙ h), λ m. e ∙ x.1 m)

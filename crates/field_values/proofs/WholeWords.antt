@@ -40,7 +40,8 @@ scaled_of_digits (c ∷ cs) h =
     let d : all_ascii_digits (c ∷ cs) ≡ true = both_right _ _ h in
     let e : is_ascii_digit c ≡ true = both_left _ _ d in
     scaled_of_whole_number (c ∷ cs) (pointless (c ∷ cs) d)
-    ∙ rw (no_plus c e, no_minus c e, h) (with_no_sign (ltb (number (c ∷ cs)) (10 ^ 18)) (number (c ∷ cs)))
+    ∙ rw (no_plus c e, no_minus c e, h)
+    (with_no_sign (ltb (number (c ∷ cs)) (10 ^ 18)) (number (c ∷ cs)))
 
 -- the value of digits is less than a number where the number that they write is
 value_of : (m : ℕ) (b : Bool) (v : ℤ) → cond b (Ok (pos m)) (Err TooLong) ≡ Ok v → pos m ≡ v

@@ -45,8 +45,10 @@ among n (cs ∷ rest) k z l = by_order k (length cs)
     record {
       index = 0;
       fits = omega arith;
-      number = get_or_append_left (replicate (length cs) n) (numbers_of (suc n) rest) 0 k (omega (arith, b, r)) ∙ get_or-replicate (length cs) k n 0 b ∙ none n;
-      has = subst (λ (c : Curve). Has c cs) (sym (get_or_append_left cs (all_of rest) z k b)) (has_at cs k z b);
+      number = get_or_append_left (replicate (length cs) n) (numbers_of (suc n) rest) 0 k
+          (omega (arith, b, r)) ∙ get_or-replicate (length cs) k n 0 b ∙ none n;
+      has = subst (λ (c : Curve). Has c cs) (sym (get_or_append_left cs (all_of rest) z k b))
+          (has_at cs k z b);
     })
     (λ (b : length cs ≤ k). later (beyond (length cs) k b) (λ j m. among (suc n) rest j z m))
   where
@@ -61,14 +63,19 @@ among n (cs ∷ rest) k z l = by_order k (length cs)
         → IsAmong n (cs ∷ rest) k z
     later (j, e) f =
         let r = length-replicate (length cs) n in
-        let m : j < length (all_of rest) = (let a = length-append cs (all_of rest) in omega (arith, l, e, a)) in
+        let m : j < length (all_of rest) = (let a = length-append cs (all_of rest) in
+        omega (arith, l, e, a)) in
         let x = f j m in
         let q : k ≡ length (replicate (length cs) n) + j = omega (arith, e, r) in
         record {
           index = suc x.index;
           fits = (let a = x.fits in omega (arith, a));
-          number = ap (λ (i : ℕ). get_or (replicate (length cs) n ++ numbers_of (suc n) rest) i 0) q ∙ get_or-append-add (replicate (length cs) n) (numbers_of (suc n) rest) j 0 ∙ x.number ∙ more n x.index;
-          has = subst (λ (c : Curve). Has c (get_or rest x.index [])) (sym (ap (λ (i : ℕ). get_or (cs ++ all_of rest) i z) e ∙ get_or-append-add cs (all_of rest) j z)) x.has;
+          number = ap (λ (i : ℕ). get_or (replicate (length cs) n ++ numbers_of (suc n) rest) i 0) q
+              ∙ get_or-append-add (replicate (length cs) n) (numbers_of (suc n) rest) j 0 ∙ x.number
+              ∙ more n x.index;
+          has = subst (λ (c : Curve). Has c (get_or rest x.index []))
+              (sym (ap (λ (i : ℕ). get_or (cs ++ all_of rest) i z) e
+              ∙ get_or-append-add cs (all_of rest) j z)) x.has;
         }
 
 -- ---- a bent drawing
@@ -83,7 +90,8 @@ module _ (t : ℤ) (d g : Plan) (origin : List ℕ) (b : IsBentOf t d g origin) 
   here k l = among 0 b.pieces k no_curve (let a = ap length b.curves in omega (arith, l, a))
 
   pub number_is : (k : ℕ) (l : k < length g.curves) → of k ≡ (here k l).index
-  number_is k l = ap (λ (os : List ℕ). get_or os k 0) b.origins ∙ (here k l).number ∙ zero_more (here k l).index
+  number_is k l = ap (λ (os : List ℕ). get_or os k 0) b.origins ∙ (here k l).number
+      ∙ zero_more (here k l).index
     where
       zero_more : (i : ℕ) → 0 + i ≡ i
       zero_more i = omega arith
@@ -100,9 +108,11 @@ module _ (t : ℤ) (d g : Plan) (origin : List ℕ) (b : IsBentOf t d g origin) 
       let x = here k l in
       let i = x.index in
       let m : i < length d.curves = (let a = x.fits in let c = b.count in omega (arith, a, c)) in
-      let e : get_or (all_of b.pieces) k no_curve ≡ curve g k = ap (λ (cs : List Curve). get_or cs k no_curve) (sym b.curves) in
+      let e : get_or (all_of b.pieces) k no_curve
+      ≡ curve g k = ap (λ (cs : List Curve). get_or cs k no_curve) (sym b.curves) in
       subst (λ (j : ℕ). KeepsTo t d (curve d j) (curve g k)) (sym (number_is k l))
-      (keeps t d i (get_or b.pieces i []) (b.each i m) (curve g k) (subst (λ (c : Curve). Has c (get_or b.pieces i [])) e x.has))
+      (keeps t d i (get_or b.pieces i []) (b.each i m) (curve g k)
+      (subst (λ (c : Curve). Has c (get_or b.pieces i [])) e x.has))
 
 -- ---- how many there are
 pub straights_size : (p : Point) (line : ℕ) (qs : List Point)
@@ -111,7 +121,9 @@ straights_size p line [] = refl
 straights_size p line (q ∷ qs) = ap suc (straights_size q line qs)
 
 pub few_parts : (s : Curve) (first last : Option Point) → length (parts s first last) ≤ 3
-few_parts s first last = let e = straights_size s.from s.line (if_any first ++ (if_any last ++ s.to ∷ [])) in let f = few_points first last s.to in omega (arith, e, f)
+few_parts s first last =
+    let e = straights_size s.from s.line (if_any first ++ (if_any last ++ s.to ∷ [])) in
+    let f = few_points first last s.to in omega (arith, e, f)
   where
     few_points : (first last : Option Point) (q : Point)
         → length (if_any first ++ (if_any last ++ q ∷ [])) ≤ 3
@@ -126,7 +138,8 @@ one_few s cs e = let f = ap length e in omega (arith, f)
 run_few : (d : Plan) (s : Curve) (first last : Option Point) (cs : List Curve)
     → IsRun d s first last cs → length cs ≤ 3
 run_few d s first last cs (inl (h, e)) = one_few s cs e
-run_few d s first last cs (inr (h, e)) = let f = ap length e in let m = few_parts s first last in omega (arith, f, m)
+run_few d s first last cs (inr (h, e)) =
+    let f = ap length e in let m = few_parts s first last in omega (arith, f, m)
 
 stand_few : (d : Plan) (s : Curve) (first last : Option Point) (cs : List Curve)
     → StandBy d s first last cs → length cs ≤ 3
@@ -152,6 +165,8 @@ pub few : (t : ℤ) (d g : Plan) (origin : List ℕ) → IsBentOf t d g origin
     → length g.curves ≤ (3 * length d.curves)
 few t d g origin b =
     let c = b.count in
-    let m = all_few b.pieces (λ i l. piece_few t d i (curve d i).kind (get_or b.pieces i []) (b.each i (omega (arith, l, c)))) in
+    let m = all_few b.pieces
+    (λ i l. piece_few t d i (curve d i).kind (get_or b.pieces i [])
+    (b.each i (omega (arith, l, c)))) in
     let e = ap length b.curves in
     omega (arith, m, e, c)

@@ -11,7 +11,8 @@ use Rattle.forks.proofs.LeastBends.{same_curve}
 use Rattle.forks.proofs.PieceLists.{bent_of_pieces}
 use Rattle.forks.proofs.PlaneLaws.{no_curve}
 
-module _ (t : ℤ) (d : Plan) (cs : List Curve) (os : List ℕ) (a : ArePieces t d (length d.curves) cs os) where
+module _ (t : ℤ) (d : Plan) (cs : List Curve) (os : List ℕ)
+    (a : ArePieces t d (length d.curves) cs os) where
   abbrev g : Plan
   g = record { window = d.window; curves = cs; points = d.points }
 
@@ -22,7 +23,8 @@ module _ (t : ℤ) (d : Plan) (cs : List Curve) (os : List ℕ) (a : ArePieces t
       → All (IsDrawn d.window.low d.window.high) cs
   all_drawn h k x l =
       subst (IsDrawn d.window.low d.window.high) (same_curve cs k no_curve x l)
-      ((curves.keep t d g os bent_is k l).drawn (h (get_or os k 0) no_curve (curves.there t d g os bent_is k l)))
+      ((curves.keep t d g os bent_is k l).drawn
+      (h (get_or os k 0) no_curve (curves.there t d g os bent_is k l)))
 
   pub not_large : length d.curves ≤ 16000000 → length cs < 2 ^ 30
   not_large l = let f = curves.few t d g os bent_is in omega (arith, l, f)

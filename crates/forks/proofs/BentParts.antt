@@ -1,4 +1,5 @@
--- The curves that stand for a curve when forks are bent: each is drawn, lies close to it, and holds no object's point that it does not
+-- The curves that stand for a curve when forks are bent: each is drawn, lies close to it, and holds
+-- no object's point that it does not
 -- hold.
 use Rattle.std.proofs.Common.{◌≡◌, inl, inr, ℕ, ◌<◌, Bool, true, false, Option, None, Some, ℤ, pos}
 use Rattle.std.proofs.Common.{◌≤ℤ◌, List, [], ◌∷◌, ◌++◌, length, get_or, refl, sym, ap, subst, ◌∙◌}
@@ -54,10 +55,19 @@ own_close : (t : ℤ) (s : Curve) → s.kind ≡ kind.Straight → pos 0 ≤ℤ 
     → (z : Vector) → Place z → IsOn s z → IsClose t s.from s.to z
 own_close t s k l n z p on =
     close t s.from s.to z (apart_positive s.from s.to n) p
-    (beside_between t s.from s.to l (point s.from) (point s.to) z (place_point s.from) (place_point s.to) p (beside_first t s.from s.to l) (beside_last t s.from s.to l) (subst (λ (x : CurveKind). IsOnKind x s z) k on))
+    (beside_between t s.from s.to l (point s.from) (point s.to) z (place_point s.from)
+    (place_point s.to) p (beside_first t s.from s.to l) (beside_last t s.from s.to l)
+    (subst (λ (x : CurveKind). IsOnKind x s z) k on))
 
 itself : (t : ℤ) (d : Plan) (s c : Curve) → c ≡ s → KeepsTo t d s c
-itself t d s c e = subst (KeepsTo t d s) (sym e) (record { same_kind = refl; same_line = refl; drawn = λ x. x; close = own_close t s; points = λ j l x. x })
+itself t d s c e =
+    subst (KeepsTo t d s) (sym e) (record {
+      same_kind = refl;
+      same_line = refl;
+      drawn = λ x. x;
+      close = own_close t s;
+      points = λ j l x. x;
+    })
 
 one_of : (s c : Curve) → Has c (s ∷ []) → c ≡ s
 one_of s c (inl e) = e
@@ -78,7 +88,9 @@ module _ (t : ℤ) (d : Plan) (i : ℕ) where
   bent_at a b (k, z, l) =
       record {
         left = is_left z.zone.seen (far_end a s);
-        bends = subst (λ (p : Point). IsBend t (is_left z.zone.seen (far_end a s)) p (far_end a s) b) z.zone.is_seen.begins z.zone.fork.is_bend;
+        bends = subst
+            (λ (p : Point). IsBend t (is_left z.zone.seen (far_end a s)) p (far_end a s) b)
+            z.zone.is_seen.begins z.zone.fork.is_bend;
         inside = z.inside;
       }
 
@@ -112,28 +124,89 @@ module _ (t : ℤ) (d : Plan) (i : ℕ) where
   first_beside b h l = beside_bend t h.left s.from s.to b h.bends
 
   last_beside : (b : Point) → IsBentAt false b → Beside b
-  last_beside b h l = beside_back t s.from s.to (point b) (beside_bend t h.left s.to s.from b h.bends)
+  last_beside b h l =
+      beside_back t s.from s.to (point b) (beside_bend t h.left s.to s.from b h.bends)
 
   chain : (first last : Option Point) → IsBendAt t d i true first → IsBendAt t d i false last
       → Chained Joins s.from (if_any first ++ (if_any last ++ s.to ∷ []))
-  chain None None f l = (record { differ = λ h. h.distinct; first_inside = from_inside; last_inside = to_inside; first_beside = from_beside; last_beside = to_beside }, tt)
+  chain None None f l = (
+    record {
+      differ = λ h. h.distinct;
+      first_inside = from_inside;
+      last_inside = to_inside;
+      first_beside = from_beside;
+      last_beside = to_beside;
+    },
+    tt,
+  )
   chain (Some b) None f l =
       let x = bent_at true b f in (
-        record { differ = λ h e. start_differs t x.left s.from s.to b x.bends (sym e); first_inside = from_inside; last_inside = λ h. x.inside; first_beside = from_beside; last_beside = first_beside b x },
-        (record { differ = λ h e. end_differs t x.left s.from s.to b x.bends e; first_inside = λ h. x.inside; last_inside = to_inside; first_beside = first_beside b x; last_beside = to_beside }, tt),
+        record {
+          differ = λ h e. start_differs t x.left s.from s.to b x.bends (sym e);
+          first_inside = from_inside;
+          last_inside = λ h. x.inside;
+          first_beside = from_beside;
+          last_beside = first_beside b x;
+        },
+        (
+          record {
+            differ = λ h e. end_differs t x.left s.from s.to b x.bends e;
+            first_inside = λ h. x.inside;
+            last_inside = to_inside;
+            first_beside = first_beside b x;
+            last_beside = to_beside;
+          },
+          tt,
+        ),
       )
   chain None (Some b) f l =
       let x = bent_at false b l in (
-        record { differ = λ h e. end_differs t x.left s.to s.from b x.bends (sym e); first_inside = from_inside; last_inside = λ h. x.inside; first_beside = from_beside; last_beside = last_beside b x },
-        (record { differ = λ h e. start_differs t x.left s.to s.from b x.bends e; first_inside = λ h. x.inside; last_inside = to_inside; first_beside = last_beside b x; last_beside = to_beside }, tt),
+        record {
+          differ = λ h e. end_differs t x.left s.to s.from b x.bends (sym e);
+          first_inside = from_inside;
+          last_inside = λ h. x.inside;
+          first_beside = from_beside;
+          last_beside = last_beside b x;
+        },
+        (
+          record {
+            differ = λ h e. start_differs t x.left s.to s.from b x.bends e;
+            first_inside = λ h. x.inside;
+            last_inside = to_inside;
+            first_beside = last_beside b x;
+            last_beside = to_beside;
+          },
+          tt,
+        ),
       )
   chain (Some b) (Some c) f l =
       let x = bent_at true b f in
       let y = bent_at false c l in (
-        record { differ = λ h e. start_differs t x.left s.from s.to b x.bends (sym e); first_inside = from_inside; last_inside = λ h. x.inside; first_beside = from_beside; last_beside = first_beside b x },
+        record {
+          differ = λ h e. start_differs t x.left s.from s.to b x.bends (sym e);
+          first_inside = from_inside;
+          last_inside = λ h. x.inside;
+          first_beside = from_beside;
+          last_beside = first_beside b x;
+        },
         (
-          record { differ = λ h e. bends_differ t x.left y.left s.from s.to b c x.bends y.bends e; first_inside = λ h. x.inside; last_inside = λ h. y.inside; first_beside = first_beside b x; last_beside = last_beside c y },
-          (record { differ = λ h e. start_differs t y.left s.to s.from c y.bends e; first_inside = λ h. y.inside; last_inside = to_inside; first_beside = last_beside c y; last_beside = to_beside }, tt),
+          record {
+            differ = λ h e. bends_differ t x.left y.left s.from s.to b c x.bends y.bends e;
+            first_inside = λ h. x.inside;
+            last_inside = λ h. y.inside;
+            first_beside = first_beside b x;
+            last_beside = last_beside c y;
+          },
+          (
+            record {
+              differ = λ h e. start_differs t y.left s.to s.from c y.bends e;
+              first_inside = λ h. y.inside;
+              last_inside = to_inside;
+              first_beside = last_beside c y;
+              last_beside = to_beside;
+            },
+            tt,
+          ),
         ),
       )
 
@@ -153,18 +226,22 @@ module _ (t : ℤ) (d : Plan) (i : ℕ) where
       → Place z → IsOn (straight a b s.line) z → IsClose t s.from s.to z
   straight_close a b j l n z p on =
       close t s.from s.to z (apart_positive s.from s.to n) p
-      (beside_between t s.from s.to l (point a) (point b) z (place_point a) (place_point b) p (j.first_beside l) (j.last_beside l) on)
+      (beside_between t s.from s.to l (point a) (point b) z (place_point a) (place_point b) p
+      (j.first_beside l) (j.last_beside l) on)
 
   part_keeps : s.kind ≡ kind.Straight → (first last : Option Point) → IsBendAt t d i true first
       → IsBendAt t d i false last → (HoldPoint d (parts s first last) → ⊥) → (c : Curve)
       → Has c (parts s first last) → KeepsTo t d s c
   part_keeps k first last f l none c x =
-      let r = link_of Joins s.from s.line (if_any first ++ (if_any last ++ s.to ∷ [])) c (chain first last f l) x in
+      let r = link_of Joins s.from s.line (if_any first ++ (if_any last ++ s.to ∷ [])) c
+      (chain first last f l) x in
       record {
         same_kind = ap (λ (e : Curve). e.kind) r.is ∙ sym k;
         same_line = ap (λ (e : Curve). e.line) r.is;
-        drawn = λ h. subst (IsDrawn d.window.low d.window.high) (sym r.is) (straight_drawn r.a r.b r.joins h);
-        close = λ q t n z p on. straight_close r.a r.b r.joins t n z p (subst (λ (e : Curve). IsOn e z) r.is on);
+        drawn = λ h. subst (IsDrawn d.window.low d.window.high) (sym r.is)
+            (straight_drawn r.a r.b r.joins h);
+        close = λ q t n z p on. straight_close r.a r.b r.joins t n z p
+            (subst (λ (e : Curve). IsOn e z) r.is on);
         points = λ j b on. absurd (none (record { c = c; j = j; among = x; there = b; on = on }));
       }
 
@@ -173,17 +250,20 @@ module _ (t : ℤ) (d : Plan) (i : ℕ) where
       → All (IsPart d) (parts s first last)
   parts_drawn k first last f l h m z b =
       let c = get_or (parts s first last) m z in
-      let r = link_of Joins s.from s.line (if_any first ++ (if_any last ++ s.to ∷ [])) c (chain first last f l) (has_at (parts s first last) m z b) in
+      let r = link_of Joins s.from s.line (if_any first ++ (if_any last ++ s.to ∷ [])) c
+      (chain first last f l) (has_at (parts s first last) m z b) in
       record {
         straight = ap (λ (e : Curve). e.kind) r.is;
-        drawn = subst (IsDrawn d.window.low d.window.high) (sym r.is) (straight_drawn r.a r.b r.joins h);
+        drawn = subst (IsDrawn d.window.low d.window.high) (sym r.is)
+            (straight_drawn r.a r.b r.joins h);
       }
 
   run_keeps : s.kind ≡ kind.Straight → (first last : Option Point) → IsBendAt t d i true first
       → IsBendAt t d i false last → (cs : List Curve) → IsRun d s first last cs → (c : Curve)
       → Has c cs → KeepsTo t d s c
   run_keeps k first last f l cs (inl (h, e)) c x = itself t d s c (one_of s c (subst (Has c) e x))
-  run_keeps k first last f l cs (inr (h, e)) c x = part_keeps k first last f l h c (subst (Has c) e x)
+  run_keeps k first last f l cs (inr (h, e)) c x =
+      part_keeps k first last f l h c (subst (Has c) e x)
 
   stand_keeps : s.kind ≡ kind.Straight → (first last : Option Point) → IsBendAt t d i true first
       → IsBendAt t d i false last → (cs : List Curve) → StandBy d s first last cs → (c : Curve)

@@ -32,7 +32,13 @@ module _ (n : ℕ) (least : 3 ≤ n) where
       → sum_of (straights_from p line qs) ≡ length qs
   straights_weight p line [] = refl
   straights_weight p line (q ∷ qs) =
-      let a = sum_by-cons (weight n) (record { kind = kind.Straight; from = p; to = q; third = q; line = line }) (straights_from q line qs) in
+      let a = sum_by-cons (weight n) (record {
+        kind = kind.Straight;
+        from = p;
+        to = q;
+        third = q;
+        line = line;
+      }) (straights_from q line qs) in
       let r = straights_weight q line qs in
       omega (arith, a, r)
 
@@ -46,7 +52,8 @@ module _ (n : ℕ) (least : 3 ≤ n) where
   run_weight : (d : Plan) (s : Curve) (first last : Option Point) (cs : List Curve)
       → IsRun d s first last cs → sum_of cs ≤ n
   run_weight d s first last cs (inl (h, e)) = one_weight s cs e
-  run_weight d s first last cs (inr (h, e)) = let f = ap sum_of e in let m = parts_weight s first last in omega (arith, f, m)
+  run_weight d s first last cs (inr (h, e)) =
+      let f = ap sum_of e in let m = parts_weight s first last in omega (arith, f, m)
 
   stand_weight : (d : Plan) (s : Curve) (first last : Option Point) (cs : List Curve)
       → StandBy d s first last cs → sum_of cs ≤ n
@@ -72,5 +79,8 @@ module _ (n : ℕ) (least : 3 ≤ n) where
       → sum_of g.curves ≤ (n * length d.curves)
   bent_weight t d g origin b =
       let c = b.count in
-      let m = all_weight b.pieces (λ i l. piece_weight t d i (curve d i).kind (get_or b.pieces i []) (b.each i (omega (arith, l, c)))) in
-      subst (λ (cs : List Curve). sum_of cs ≤ (n * length d.curves)) (sym b.curves) (subst (λ (k : ℕ). sum_of (all_of b.pieces) ≤ (n * k)) c m)
+      let m = all_weight b.pieces
+      (λ i l. piece_weight t d i (curve d i).kind (get_or b.pieces i [])
+      (b.each i (omega (arith, l, c)))) in
+      subst (λ (cs : List Curve). sum_of cs ≤ (n * length d.curves)) (sym b.curves)
+      (subst (λ (k : ℕ). sum_of (all_of b.pieces) ≤ (n * k)) c m)

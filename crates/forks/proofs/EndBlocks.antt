@@ -27,7 +27,9 @@ below_true a b h = by (int_lt a b) refl
   where
     by : (t : Bool) → int_lt a b ≡ t → t ≡ true
     by true e = refl
-    by false e = let n : b ≤ℤ a = lt_z_no (subst (λ (t : Bool). T (not t)) (sym e) tt) in absurd (omega (arith, ints, h, n))
+    by false e =
+        let n : b ≤ℤ a = lt_z_no (subst (λ (t : Bool). T (not t)) (sym e) tt) in
+        absurd (omega (arith, ints, h, n))
 
 below_false : (a b : ℤ) → b ≤ℤ a → int_lt a b ≡ false
 below_false a b h = by (int_lt a b) refl
@@ -84,18 +86,25 @@ rest_at : (xs : List End) (s j : ℕ) (d : End) → j < length xs - s
 rest_at xs s j d l = get_or-take (length xs - s) (drop s xs) j d l ∙ get_or-drop s xs j d
 
 rest_size : (xs : List End) (s : ℕ) → length (take (length xs - s) (drop s xs)) ≡ length xs - s
-rest_size xs s = length-take-le (length xs - s) (drop s xs) (let e = length-drop s xs in omega (arith, e))
+rest_size xs s =
+    length-take-le (length xs - s) (drop s xs) (let e = length-drop s xs in omega (arith, e))
 
 rest_rises : (xs : List End) (s : ℕ) → IsRising xs → IsRising (take (length xs - s) (drop s xs))
 rest_rises xs s up i j d l m =
     let n = rest_size xs s in
     let k : j < length xs - s = omega (arith, m, n) in
-    subst (λ (a : End). a.key ≤ℤ (get_or (take (length xs - s) (drop s xs)) j d).key) (sym (rest_at xs s i d (omega (arith, l, k))))
-    (subst (λ (b : End). (get_or xs (s + i) d).key ≤ℤ b.key) (sym (rest_at xs s j d k)) (up (s + i) (s + j) d (omega (arith, l)) (omega (arith, k))))
+    subst (λ (a : End). a.key ≤ℤ (get_or (take (length xs - s) (drop s xs)) j d).key)
+    (sym (rest_at xs s i d (omega (arith, l, k))))
+    (subst (λ (b : End). (get_or xs (s + i) d).key ≤ℤ b.key) (sym (rest_at xs s j d k))
+    (up (s + i) (s + j) d (omega (arith, l)) (omega (arith, k))))
 
 module _ (xs : List End) (low high : ℤ) (s e : ℕ) (up : IsRising xs)
-    (start : IsPartitionedBy (begins_before low) xs → IsPartitionPoint (λ y. begins_before low y ≡ true) (λ y. begins_before low y ≡ false) xs s)
-    (end : IsPartitionedBy (begins_within high) (take (length xs - s) (drop s xs)) → IsPartitionPoint (λ y. begins_within high y ≡ true) (λ y. begins_within high y ≡ false) (take (length xs - s) (drop s xs)) e) where
+    (start : IsPartitionedBy (begins_before low) xs
+    → IsPartitionPoint (λ y. begins_before low y ≡ true)
+    (λ y. begins_before low y ≡ false) xs s)
+    (end : IsPartitionedBy (begins_within high) (take (length xs - s) (drop s xs))
+    → IsPartitionPoint (λ y. begins_within high y ≡ true) (λ y. begins_within high y ≡ false)
+    (take (length xs - s) (drop s xs)) e) where
   abbrev rest : List End
   rest = take (length xs - s) (drop s xs)
 
@@ -108,16 +117,22 @@ module _ (xs : List End) (low high : ℤ) (s e : ℕ) (up : IsRising xs)
       let from : s ≤ k = from_start ax in
       let n = rest_size xs s in
       let m : k - s < length xs - s = omega (arith, from, l) in
-      let is : get_or rest (k - s) item ≡ x = rest_at xs s (k - s) item m ∙ ap (λ (i : ℕ). get_or xs i item) (omega (arith, from)) in
-      let before : k - s < e = to_end from m is bx in
-      (k - s, let z = length-take-le e rest fits in omega (arith, z, before), get_or-take e rest (k - s) item before ∙ is ∙ at)
+      let is : get_or rest (k - s) item ≡ x = rest_at xs s (k - s) item m
+      ∙ ap (λ (i : ℕ). get_or xs i item) (omega (arith, from)) in
+      let before : k - s < e = to_end from m is bx in (
+        k - s,
+        let z = length-take-le e rest fits in
+            omega (arith, z, before),
+        get_or-take e rest (k - s) item before ∙ is ∙ at,
+      )
     where
       from_start : low ≤ℤ (get_or xs k item).key → s ≤ k
       from_start ax = by (cases_lt k s)
         where
           by : (k < s) ⊎ (s ≤ k) → s ≤ k
           by (inl h) =
-              let t = true_below (get_or xs k item).key low ((start (before_is_front xs low up)).0 k item (omega arith) h) in
+              let t = true_below (get_or xs k item).key low
+              ((start (before_is_front xs low up)).0 k item (omega arith) h) in
               absurd (omega (arith, ints, t, ax))
           by (inr h) = h
 
@@ -128,8 +143,10 @@ module _ (xs : List End) (low high : ℤ) (s e : ℕ) (up : IsRising xs)
           by : (k - s < e) ⊎ (e ≤ k - s) → k - s < e
           by (inl h) = h
           by (inr h) =
-              let f = (end (within_is_front rest high (rest_rises xs s up))).1 (k - s) item h (let n = rest_size xs s in omega (arith, m, n)) in
-              let t = true_below high (get_or rest (k - s) item).key (not_false (int_lt high (get_or rest (k - s) item).key) f) in
+              let f = (end (within_is_front rest high (rest_rises xs s up))).1 (k - s) item h
+              (let n = rest_size xs s in omega (arith, m, n)) in
+              let t = true_below high (get_or rest (k - s) item).key
+              (not_false (int_lt high (get_or rest (k - s) item).key) f) in
               let q : high <ℤ (get_or xs k item).key = subst (λ (y : End). high <ℤ y.key) is t in
               absurd (omega (arith, ints, q, bx))
 
@@ -148,17 +165,26 @@ pub added_both : (c : Curve) (number : ℕ) (before after : List End)
     → after ≡ ((before ++ end_of c.from number ∷ []) ++ end_of c.to number ∷ [])
     → AreAdded c number before after
 added_both c number before after e = subst (AreAdded c number before) (sym e) (record {
-  known = λ n l all. All-push (λ (e : End). e.number < n) (before ++ end_of c.from number ∷ []) (end_of c.to number) (All-push (λ (e : End). e.number < n) before (end_of c.from number) all l) l;
-  kept = λ x h. Contains-append_left (before ++ end_of c.from number ∷ []) (end_of c.to number ∷ []) x (Contains-append_left before (end_of c.from number ∷ []) x h);
+  known = λ n l all. All-push (λ (e : End). e.number < n) (before ++ end_of c.from number ∷ [])
+      (end_of c.to number)
+      (All-push (λ (e : End). e.number < n) before (end_of c.from number) all l) l;
+  kept = λ x h. Contains-append_left (before ++ end_of c.from number ∷ [])
+      (end_of c.to number ∷ []) x (Contains-append_left before (end_of c.from number ∷ []) x h);
   both = λ k. record {
-    from = Contains-append_left (before ++ end_of c.from number ∷ []) (end_of c.to number ∷ []) (end_of c.from number) (Contains-push before (end_of c.from number));
+    from = Contains-append_left (before ++ end_of c.from number ∷ []) (end_of c.to number ∷ [])
+        (end_of c.from number) (Contains-push before (end_of c.from number));
     to = Contains-push (before ++ end_of c.from number ∷ []) (end_of c.to number);
   };
 })
 
 pub added_none : (c : Curve) (number : ℕ) (before after : List End) → after ≡ before
     → (c.kind ≡ kind.HalfArc → ⊥) → AreAdded c number before after
-added_none c number before after e f = subst (AreAdded c number before) (sym e) (record { known = λ n l all. all; kept = λ x h. h; both = λ k. absurd (f k) })
+added_none c number before after e f =
+    subst (AreAdded c number before) (sym e) (record {
+      known = λ n l all. all;
+      kept = λ x h. h;
+      both = λ k. absurd (f k);
+    })
 
 pub one_more : (cs : List Curve) (k : ℕ) (c : Curve) (before after : List End)
     → AreEndsTo cs k before → k < length cs → c ≡ curve_at cs k → AreAdded c k before after
@@ -170,11 +196,18 @@ one_more cs k c before after h l e a = record {
   where
     by : (m : ℕ) → (curve_at cs m).kind ≡ kind.HalfArc → (m < k) ⊎ (k ≤ m) → m < k + 1
         → HasBoth (curve_at cs m) m after
-    by m q (inl n) lm = let x = h.whole m n q in record { from = a.kept (end_of (curve_at cs m).from m) x.from; to = a.kept (end_of (curve_at cs m).to m) x.to }
+    by m q (inl n) lm =
+        let x = h.whole m n q in
+        record {
+          from = a.kept (end_of (curve_at cs m).from m) x.from;
+          to = a.kept (end_of (curve_at cs m).to m) x.to;
+        }
     by m q (inr n) lm = at m q (omega (arith, n, lm))
       where
         here : HasBoth (curve_at cs k) k after
-        here = subst (λ (x : Curve). HasBoth x k after) e (a.both (subst (λ (j : ℕ). c.kind ≡ (curve_at cs j).kind) (omega (arith, n, lm)) (ap (λ (x : Curve). x.kind) e) ∙ q))
+        here = subst (λ (x : Curve). HasBoth x k after) e
+            (a.both (subst (λ (j : ℕ). c.kind ≡ (curve_at cs j).kind) (omega (arith, n, lm))
+            (ap (λ (x : Curve). x.kind) e) ∙ q))
 
         at : (m : ℕ) → (curve_at cs m).kind ≡ kind.HalfArc → m ≡ k → HasBoth (curve_at cs m) m after
         at m q f = subst (λ (j : ℕ). HasBoth (curve_at cs j) j after) (sym f) here
@@ -195,7 +228,9 @@ pub sorted_ends : (cs : List Curve) (k : ℕ) (xs ys : List End) → length cs �
     → IsPermutation xs ys → IsSortedByKey key_of_end int_cmp ys → AreEnds cs ys
 sorted_ends cs k xs ys l h p up = record {
   rising = λ i j d m n.
-      not_less (get_or ys i d).key (get_or ys j d).key (sorted_far (λ (x y : End). is_lt (int_cmp x.key y.key)) (ranks_by int_cmp_total key_of_end) ys up i j d (omega (arith, m)) n);
+      not_less (get_or ys i d).key (get_or ys j d).key
+      (sorted_far (λ (x y : End). is_lt (int_cmp x.key y.key))
+      (ranks_by int_cmp_total key_of_end) ys up i j d (omega (arith, m)) n);
   known = All-permutation (λ (e : End). e.number < length cs) xs ys p h.known;
   whole = λ m n q. let x = h.whole m (omega (arith, l, n)) q in record {
     from = Contains-permutation xs ys (end_of (curve_at cs m).from m) p x.from;

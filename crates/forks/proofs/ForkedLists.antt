@@ -49,15 +49,24 @@ alone_more t d k f h s = record {
     by : (i : ℕ) → i < k + 1 → (i < k) ⊎ (k ≤ i)
         → IsListed i f.straights.items ⊎ StandFor t d i (curve d i ∷ [])
     by i l (inl m) = h.whole i m
-    by i l (inr m) = inr (subst (λ (j : ℕ). StandFor t d j (curve d j ∷ [])) (omega (arith, l, m)) s)
+    by i l (inr m) =
+        inr (subst (λ (j : ℕ). StandFor t d j (curve d j ∷ [])) (omega (arith, l, m)) s)
 
 pub half_arc_alone : (t : ℤ) (d : Plan) (k : ℕ) → (curve d k).kind ≡ kind.HalfArc
     → StandFor t d k (curve d k ∷ [])
-half_arc_alone t d k e = subst (λ (x : CurveKind). StandForKind x t d k (curve d k ∷ [])) (sym e) refl
+half_arc_alone t d k e =
+    subst (λ (x : CurveKind). StandForKind x t d k (curve d k ∷ [])) (sym e) refl
 
 pub unbent_alone : (t : ℤ) (d : Plan) (k : ℕ) → (curve d k).kind ≡ kind.Straight
     → IsBendAt t d k true None → IsBendAt t d k false None → StandFor t d k (curve d k ∷ [])
-unbent_alone t d k e f l = subst (λ (x : CurveKind). StandForKind x t d k (curve d k ∷ [])) (sym e) (record { first = None; last = None; at_from = f; at_to = l; stand = refl })
+unbent_alone t d k e f l =
+    subst (λ (x : CurveKind). StandForKind x t d k (curve d k ∷ [])) (sym e) (record {
+      first = None;
+      last = None;
+      at_from = f;
+      at_to = l;
+      stand = refl;
+    })
 
 -- ---- a straight with a bend
 -- what a straight names stays where more parts follow
@@ -82,9 +91,11 @@ still_named t d ps qs f h = record {
       ∙ h.named);
 }
 
-module _ (t : ℤ) (d : Plan) (k : ℕ) (first last : Option Point) (f g : ForkedStraights) (s : Curve) (h : AreForkedTo t d k f)
+module _ (t : ℤ) (d : Plan) (k : ℕ) (first last : Option Point) (f g : ForkedStraights) (s : Curve)
+    (h : AreForkedTo t d k f)
     (there : k < length d.curves) (straight : (curve d k).kind ≡ kind.Straight) (is : s ≡ curve d k)
-    (at_from : IsBendAt t d k true first) (at_to : IsBendAt t d k false last) (bends : first ≡ None → last ≡ None → ⊥)
+    (at_from : IsBendAt t d k true first) (at_to : IsBendAt t d k false last) (bends : first ≡ None
+    → last ≡ None → ⊥)
     (drawn : IsDrawn d.window.low d.window.high (curve d k))
     (grown : g.parts.items ≡ f.parts.items ++ parts s first last) where
   abbrev ps : List Curve
@@ -99,7 +110,8 @@ module _ (t : ℤ) (d : Plan) (k : ℕ) (first last : Option Point) (f g : Forke
   size : length g.parts.items ≡ length ps + length qs
   size = ap length more ∙ length-append ps qs
 
-  module _ (x : Forked) (number : x.number ≡ k) (start : x.start ≡ length ps) (end : x.end ≡ length g.parts.items)
+  module _ (x : Forked) (number : x.number ≡ k) (start : x.start ≡ length ps)
+      (end : x.end ≡ length g.parts.items)
       (listed : g.straights.items ≡ f.straights.items ++ x ∷ []) where
     abbrev fs : List Forked
     fs = f.straights.items
@@ -136,10 +148,14 @@ module _ (t : ℤ) (d : Plan) (k : ℕ) (first last : Option Point) (f g : Forke
         }
 
     old_at : (m : ℕ) → m < length fs → number_at g.straights.items m ≡ number_at fs m
-    old_at m l = ap (λ (xs : List Forked). number_at xs m) listed ∙ ap (λ (y : Forked). y.number) (get_or_append_left fs (x ∷ []) (record { number = 0; start = 0; end = 0 }) m l)
+    old_at m l = ap (λ (xs : List Forked). number_at xs m) listed
+        ∙ ap (λ (y : Forked). y.number)
+        (get_or_append_left fs (x ∷ []) (record { number = 0; start = 0; end = 0 }) m l)
 
     new_at : number_at g.straights.items (length fs) ≡ k
-    new_at = ap (λ (xs : List Forked). number_at xs (length fs)) listed ∙ ap (λ (y : Forked). y.number) (get_or-append_seam fs x [] (record { number = 0; start = 0; end = 0 })) ∙ number
+    new_at = ap (λ (xs : List Forked). number_at xs (length fs)) listed
+        ∙ ap (λ (y : Forked). y.number)
+        (get_or-append_seam fs x [] (record { number = 0; start = 0; end = 0 })) ∙ number
 
     count : length g.straights.items ≡ length fs + 1
     count = ap length listed ∙ length-append fs (x ∷ [])
@@ -147,13 +163,19 @@ module _ (t : ℤ) (d : Plan) (k : ℕ) (first last : Option Point) (f g : Forke
     pub forked_more : AreForkedTo t d (k + 1) g
     forked_more = record {
       known = subst (All (IsForked t d g.parts.items)) (sym listed)
-          (All-push (IsForked t d g.parts.items) fs x (λ m y l. subst (λ (cs : List Curve). IsForked t d cs (get_or fs m y)) (sym more) (still_named t d ps qs (get_or fs m y) (h.known m y l))) itself);
+          (All-push (IsForked t d g.parts.items) fs x
+          (λ m y l. subst (λ (cs : List Curve). IsForked t d cs (get_or fs m y)) (sym more)
+          (still_named t d ps qs (get_or fs m y) (h.known m y l))) itself);
       before = subst (All (λ (y : Forked). y.number < k + 1)) (sym listed)
-          (All-push (λ (y : Forked). y.number < k + 1) fs x (λ m y l. let b = h.before m y l in omega (arith, b)) (omega (arith, number)));
+          (All-push (λ (y : Forked). y.number < k + 1) fs x (λ m y l. let b = h.before m y l in
+          omega (arith, b)) (omega (arith, number)));
       rising = λ m n l b. up m n l b (cases_lt n (length fs));
       whole = λ i l. by i l (cases_lt i k);
-      few = (let z = size in let n = h.few in let q = few_parts (curve d k) first last in omega (arith, z, n, q));
-      drawn = subst (All (IsPart d)) (sym more) (All-append (IsPart d) ps qs h.drawn (parts_drawn t d k straight first last at_from at_to drawn));
+      few = (let z = size in let n = h.few in let q = few_parts (curve d k) first last in
+          omega (arith, z, n, q));
+      drawn = subst (All (IsPart d)) (sym more)
+          (All-append (IsPart d) ps qs h.drawn
+          (parts_drawn t d k straight first last at_from at_to drawn));
     }
       where
         up : (m n : ℕ) → m < n → n < length g.straights.items → (n < length fs) ⊎ (length fs ≤ n)
@@ -177,7 +199,8 @@ module _ (t : ℤ) (d : Plan) (k : ℕ) (first last : Option Point) (f g : Forke
         by : (i : ℕ) → i < k + 1 → (i < k) ⊎ (k ≤ i)
             → IsListed i g.straights.items ⊎ StandFor t d i (curve d i ∷ [])
         by i l (inl m) = elim (h.whole i m) [ inl a ↦ inl (listed_still i a) | inr b ↦ inr b ]
-        by i l (inr m) = inl (length fs, (let z = count in omega (arith, z)), new_at ∙ omega (arith, l, m))
+        by i l (inr m) =
+            inl (length fs, (let z = count in omega (arith, z)), new_at ∙ omega (arith, l, m))
 
 -- ---- the next one
 pub first_next : (fs : List Forked) → IsNextAt 0 fs 0
@@ -193,7 +216,10 @@ module _ (i : ℕ) (fs : List Forked) (next : ℕ) (up : AreInOrder fs) (n : IsN
         where
           by : (m < next) ⊎ (next ≤ m) → number_at fs m < i + 1
           by (inl a) = let z = n.done m a c in omega (arith, z)
-          by (inr a) = let q : number_at fs next ≡ number_at fs m = ap (number_at fs) (omega (arith, a, b)) in omega (arith, q, at, e)
+          by (inr a) =
+              let q : number_at fs next ≡ number_at fs m = ap (number_at fs)
+              (omega (arith, a, b)) in
+              omega (arith, q, at, e)
 
       ahead : (m : ℕ) → next + 1 ≤ m → m < length fs → i + 1 ≤ number_at fs m
       ahead m b c = let u = up next m (omega (arith, b)) c in omega (arith, u, at, e)
@@ -213,7 +239,11 @@ module _ (i : ℕ) (fs : List Forked) (next : ℕ) (up : AreInOrder fs) (n : IsN
           by_size (number_at fs m) v (λ e. no_such (omega (arith, a, c)) (q ∙ e))
         where
           by_size : (z : ℕ) → i ≤ z → (z ≡ i → ⊥) → i + 1 ≤ z
-          by_size z v f = elim (cases_lt i z) [ inl l ↦ omega (arith, l) | inr l ↦ absurd (f (omega (arith, l, v))) ]
+          by_size z v f =
+              elim (cases_lt i z) [
+                | inl l ↦ omega (arith, l)
+                | inr l ↦ absurd (f (omega (arith, l, v)))
+              ]
 
   pub none_next : (next < length fs → number_at fs next ≡ i → ⊥) → IsNext i fs next None
   none_next no_such = (not_listed, record { done = done; ahead = other no_such })

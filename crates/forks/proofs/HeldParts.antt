@@ -42,12 +42,18 @@ box_more d ps k boxes new r a e h = subst (AreBoxes d ps (k + 1)) (sym e) (recor
 })
   where
     by : (i : ℕ) → i < k + 1 → (i < k) ⊎ (k ≤ i) → IsBoxOf d ps i (reach_of (boxes ++ r ∷ []) i)
-    by i l (inl m) = let s = a.size in subst (IsBoxOf d ps i) (sym (get_or_append_left boxes (r ∷ []) (reach_of [] 0) i (omega (arith, m, s)))) (a.each i m)
+    by i l (inl m) =
+        let s = a.size in
+        subst (IsBoxOf d ps i)
+        (sym (get_or_append_left boxes (r ∷ []) (reach_of [] 0) i (omega (arith, m, s))))
+        (a.each i m)
     by i l (inr m) =
         let s = a.size in
         let q : length boxes ≡ i = omega (arith, l, m, s) in
         let z : k ≡ i = omega (arith, l, m) in
-        subst (IsBoxOf d ps i) (sym (ap (λ (j : ℕ). reach_of (boxes ++ r ∷ []) j) (sym q) ∙ get_or-append_seam boxes r [] (reach_of [] 0)))
+        subst (IsBoxOf d ps i)
+        (sym (ap (λ (j : ℕ). reach_of (boxes ++ r ∷ []) j) (sym q)
+        ∙ get_or-append_seam boxes r [] (reach_of [] 0)))
         (subst (λ (j : ℕ). IsBoxOf d ps j r) z h)
 
 module _ (d : Plan) (ps : List Curve) where
@@ -72,15 +78,20 @@ module _ (d : Plan) (ps : List Curve) where
       in_part : InBox (box_of (reach_of boxes i)) (point held)
       in_part =
           let c = curve_at ps i in
-          straight_in_box (box_of (reach_of boxes i)) (point held) c.from c.to (place_point held) (box.from h.part_there) (box.to h.part_there)
-          (subst (λ (x : CurveKind). IsOnKind x c (point held)) (drawn i no_curve h.part_there).straight h.on)
+          straight_in_box (box_of (reach_of boxes i)) (point held) c.from c.to (place_point held)
+          (box.from h.part_there) (box.to h.part_there)
+          (subst (λ (x : CurveKind). IsOnKind x c (point held))
+          (drawn i no_curve h.part_there).straight h.on)
 
   -- ---- partners
   pub held_is : (n : ℕ) (hits : List Bool) → n ≡ length ps + length d.points
       → ArePartnered (HoldsAt d ps) n hits → AreHeld d ps hits
   held_is n hits e a = record {
     size = (let s = a.size in omega (arith, s, e));
-    each = λ m l. (λ h. found m l ((a.each m (omega (arith, l, e))).0 h), λ h. (a.each m (omega (arith, l, e))).1 (partner m l h));
+    each = λ m l. (
+      λ h. found m l ((a.each m (omega (arith, l, e))).0 h),
+      λ h. (a.each m (omega (arith, l, e))).1 (partner m l h),
+    );
   }
     where
       found : (m : ℕ) → m < length ps → HasPartner (HoldsAt d ps) n m → HoldsPoint d (curve_at ps m)
@@ -108,18 +119,21 @@ module _ (d : Plan) (ps : List Curve) where
 
   pub partners_held : (E : Type 0) (n : ℕ) (result : Result (Vec Bool Global) E)
       → n ≡ length ps + length d.points
-      → IfOk result (λ hits. ArePartnered (HoldsAt d ps) n hits.items) → IfOk result (λ held. AreHeld d ps held.items)
+      → IfOk result (λ hits. ArePartnered (HoldsAt d ps) n hits.items)
+      → IfOk result (λ held. AreHeld d ps held.items)
   partners_held E n (Ok hits) e a = held_is n hits.items e a
   partners_held E n (Err m) e a = tt
 
 -- ---- any of some parts
 pub held_any : (p : Bool → Bool) → p true ≡ true → p false ≡ false
     → (held : List Bool) (start end : ℕ) (r : Bool) → end ≤ length held
-    → IsAnyAnswer (λ y b. p y ≡ b) (take (end - start) (drop start held)) r → IsTrue r ↔ IsAnyHeld held start end
+    → IsAnyAnswer (λ y b. p y ≡ b) (take (end - start) (drop start held)) r
+    → IsTrue r ↔ IsAnyHeld held start end
 held_any p at_true at_false held start end r fits h = by r h
   where
     size : length (take (end - start) (drop start held)) ≡ end - start
-    size = length-take-le (end - start) (drop start held) (let n = length-drop start held in omega (arith, n, fits))
+    size = length-take-le (end - start) (drop start held) (let n = length-drop start held in
+        omega (arith, n, fits))
 
     at : (k : ℕ) (x : Bool) → k < end - start
         → get_or (take (end - start) (drop start held)) k x ≡ get_or held (start + k) x
@@ -157,7 +171,8 @@ held_any p at_true at_false held start end r fits h = by r h
             let k : m - start < end - start = omega (arith, b, c) in
             let s = size in
             let q : start + (m - start) ≡ m = omega (arith, b) in
-            let g : get_or held (start + (m - start)) false ≡ false = sym (at (m - start) false k) ∙ of_false _ (f (m - start) false (omega arith) (omega (arith, k, s))) in
+            let g : get_or held (start + (m - start)) false ≡ false = sym (at (m - start) false k)
+            ∙ of_false _ (f (m - start) false (omega arith) (omega (arith, k, s))) in
             differ (mark_of held m) e (ap (mark_of held) (sym q) ∙ g)
 
 -- ---- what stands for a straight
@@ -167,7 +182,8 @@ by_run d s None None cs n r = absurd (n refl refl)
 by_run d s None (Some b) cs n r = r
 by_run d s (Some b) last cs n r = r
 
-module _ (t : ℤ) (d : Plan) (ps : List Curve) (f : Forked) (h : IsForked t d ps f) (held : List Bool) (a : AreHeld d ps held) where
+module _ (t : ℤ) (d : Plan) (ps : List Curve) (f : Forked) (h : IsForked t d ps f)
+    (held : List Bool) (a : AreHeld d ps held) where
   abbrev s : Curve
   s = curve d f.number
 
@@ -177,16 +193,27 @@ module _ (t : ℤ) (d : Plan) (ps : List Curve) (f : Forked) (h : IsForked t d p
   size : length its ≡ f.end - f.start
   size =
       ap length (sym h.named)
-      ∙ length-take-le (f.end - f.start) (drop f.start ps) (let n = length-drop f.start ps in let m = h.fits in omega (arith, n, m))
+      ∙ length-take-le (f.end - f.start) (drop f.start ps) (let n = length-drop f.start ps in
+      let m = h.fits in omega (arith, n, m))
 
   at : (k : ℕ) (c : Curve) → k < f.end - f.start → get_or its k c ≡ get_or ps (f.start + k) c
-  at k c l = ap (λ (cs : List Curve). get_or cs k c) (sym h.named) ∙ get_or-take (f.end - f.start) (drop f.start ps) k c l ∙ get_or-drop f.start ps k c
+  at k c l = ap (λ (cs : List Curve). get_or cs k c) (sym h.named)
+      ∙ get_or-take (f.end - f.start) (drop f.start ps) k c l ∙ get_or-drop f.start ps k c
 
   stands : (cs : List Curve) → IsRun d s h.first h.last cs → StandFor t d f.number cs
-  stands cs r = subst (λ (x : CurveKind). StandForKind x t d f.number cs) (sym h.straight) (record { first = h.first; last = h.last; at_from = h.at_from; at_to = h.at_to; stand = by_run d s h.first h.last cs h.bends r })
+  stands cs r =
+      subst (λ (x : CurveKind). StandForKind x t d f.number cs) (sym h.straight)
+      (record {
+        first = h.first;
+        last = h.last;
+        at_from = h.at_from;
+        at_to = h.at_to;
+        stand = by_run d s h.first h.last cs h.bends r;
+      })
 
   pub held_stands : IsAnyHeld held f.start f.end → StandFor t d f.number (s ∷ [])
-  held_stands (m, b, c, e) = stands (s ∷ []) (inl (some ((a.each m (let z = h.fits in omega (arith, c, z))).0 e), refl))
+  held_stands (m, b, c, e) =
+      stands (s ∷ []) (inl (some ((a.each m (let z = h.fits in omega (arith, c, z))).0 e), refl))
     where
       some : HoldsPoint d (curve_at ps m) → HoldPoint d its
       some (j, l, on) =
@@ -196,14 +223,16 @@ module _ (t : ℤ) (d : Plan) (ps : List Curve) (f : Forked) (h : IsForked t d p
           record {
             c = curve_at ps m;
             j = j;
-            among = subst (λ (x : Curve). Has x its) (at (m - f.start) no_curve k ∙ ap (curve_at ps) q) (has_at its (m - f.start) no_curve (omega (arith, k, z)));
+            among = subst (λ (x : Curve). Has x its) (at (m - f.start) no_curve k
+                ∙ ap (curve_at ps) q) (has_at its (m - f.start) no_curve (omega (arith, k, z)));
             there = l;
             on = on;
           }
 
   pub free_stands : (IsAnyHeld held f.start f.end → ⊥)
       → StandFor t d f.number (take (f.end - f.start) (drop f.start ps))
-  free_stands none = stands (take (f.end - f.start) (drop f.start ps)) (inr (λ p. none (some p), h.named))
+  free_stands none =
+      stands (take (f.end - f.start) (drop f.start ps)) (inr (λ p. none (some p), h.named))
     where
       some : HoldPoint d its → IsAnyHeld held f.start f.end
       some p =
@@ -211,9 +240,14 @@ module _ (t : ℤ) (d : Plan) (ps : List Curve) (f : Forked) (h : IsForked t d p
           let z = size in
           let m : k < f.end - f.start = omega (arith, l, z) in
           let b : f.start + k < length ps = (let y = h.fits in omega (arith, m, y)) in
-          let q : curve_at ps (f.start + k) ≡ p.c = same_curve ps (f.start + k) no_curve p.c b ∙ sym (at k p.c m) ∙ e in (
+          let q : curve_at ps (f.start + k) ≡ p.c = same_curve ps (f.start + k) no_curve p.c b
+          ∙ sym (at k p.c m) ∙ e in (
             f.start + k,
             omega arith,
             omega (arith, m),
-            (a.each (f.start + k) b).1 (p.j, p.there, subst (λ (x : Curve). IsOn x (point (object d p.j))) (sym q) p.on),
+            (a.each (f.start + k) b).1 (
+              p.j,
+              p.there,
+              subst (λ (x : Curve). IsOn x (point (object d p.j))) (sym q) p.on,
+            ),
           )

@@ -35,8 +35,10 @@ run_size d s first last cs n (inr (h, e)) =
 stand_size : (d : Plan) (s : Curve) (first last : Option Point) (cs : List Curve)
     → StandBy d s first last cs → OneOrMore s cs
 stand_size d s None None cs e = inl e
-stand_size d s None (Some b) cs h = run_size d s None (Some b) cs (λ e f. let x : Some b ≡ None = f in cc) h
-stand_size d s (Some b) last cs h = run_size d s (Some b) last cs (λ e f. let x : Some b ≡ None = e in cc) h
+stand_size d s None (Some b) cs h =
+    run_size d s None (Some b) cs (λ e f. let x : Some b ≡ None = f in cc) h
+stand_size d s (Some b) last cs h =
+    run_size d s (Some b) last cs (λ e f. let x : Some b ≡ None = e in cc) h
 
 piece_size : (t : ℤ) (d : Plan) (i : ℕ) (k : CurveKind) (cs : List Curve) → StandForKind k t d i cs
     → OneOrMore (curve d i) cs
@@ -65,7 +67,9 @@ same_curves [] [] e f n = refl
 same_curves [] (c ∷ cs) e f n = absurd (omega (arith, e))
 same_curves (ps ∷ rest) [] e f n = absurd (omega (arith, e))
 same_curves (ps ∷ rest) (c ∷ cs) e f n =
-    by_one (f 0 (omega arith)) (at_least rest cs (omega (arith, e)) (λ i l. f (suc i) (omega (arith, l)))) (λ m. same_curves rest cs (omega (arith, e)) (λ i l. f (suc i) (omega (arith, l))) m)
+    by_one (f 0 (omega arith))
+    (at_least rest cs (omega (arith, e)) (λ i l. f (suc i) (omega (arith, l))))
+    (λ m. same_curves rest cs (omega (arith, e)) (λ i l. f (suc i) (omega (arith, l))) m)
   where
     both : (ps rs : List Curve) (c : Curve) (cs : List Curve) → ps ≡ c ∷ [] → rs ≡ cs
         → ps ++ rs ≡ c ∷ cs
@@ -77,14 +81,18 @@ same_curves (ps ∷ rest) (c ∷ cs) e f n =
         let z = length-append ps (all_of rest) in
         let o = ap length p in
         both ps (all_of rest) c cs p (g (omega (arith, z, o, n)))
-    by_one (inr t) l g = let z = length-append ps (all_of rest) in absurd (omega (arith, z, t, n, l))
+    by_one (inr t) l g =
+        let z = length-append ps (all_of rest) in absurd (omega (arith, z, t, n, l))
 
 pub nothing_bent : (t : ℤ) (d g : Plan) (origin : List ℕ) → IsBentOf t d g origin
     → length g.curves ≡ length d.curves → g ≡ d
 nothing_bent t d g origin b e =
     let c = b.count in
     let z = ap length b.curves in
-    plan_is g d b.window (b.curves ∙ same_curves b.pieces d.curves c (λ i l. piece_size t d i (curve d i).kind (get_or b.pieces i []) (b.each i (omega (arith, l, c)))) (omega (arith, c, z, e))) b.points
+    plan_is g d b.window (b.curves
+    ∙ same_curves b.pieces d.curves c
+    (λ i l. piece_size t d i (curve d i).kind (get_or b.pieces i [])
+    (b.each i (omega (arith, l, c)))) (omega (arith, c, z, e))) b.points
 
 -- ---- straights alone
 no_half_arc : (d : Plan) (k : ℕ) → (curve d k).kind ≡ kind.Straight
@@ -94,7 +102,8 @@ no_half_arc d k e f = let x : kind.Straight ≡ kind.HalfArc = sym e ∙ f in di
     differ : kind.Straight ≡ kind.HalfArc → ⊥
     differ x = cc
 
-module _ (t : ℤ) (d : Plan) (all : (i : ℕ) → i < length d.curves → (curve d i).kind ≡ kind.Straight) where
+module _ (t : ℤ) (d : Plan) (all : (i : ℕ) → i < length d.curves
+    → (curve d i).kind ≡ kind.Straight) where
   no_bend : (i : ℕ) (a : Bool) (b : Point) → IsBendAt t d i a (Some b) → ⊥
   no_bend i a b (k, z, l) = no_half_arc d k (all k z.there) z.zone.half_arc
 
@@ -120,6 +129,8 @@ module _ (t : ℤ) (d : Plan) (all : (i : ℕ) → i < length d.curves → (curv
   pub straights_stay : (g : Plan) (origin : List ℕ) → IsBentOf t d g origin → g ≡ d
   straights_stay g origin b =
       let c = b.count in
-      let m = as_many b.pieces (λ i l. one_each i (curve d i).kind (get_or b.pieces i []) (b.each i (omega (arith, l, c)))) in
+      let m = as_many b.pieces
+      (λ i l. one_each i (curve d i).kind (get_or b.pieces i [])
+      (b.each i (omega (arith, l, c)))) in
       let e = ap length b.curves in
       nothing_bent t d g origin b (omega (arith, c, m, e))

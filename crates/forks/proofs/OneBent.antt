@@ -15,7 +15,8 @@ no_smaller : (i j : ℕ) (P : Type 0) → (i < j → ⊥) → (j < i → ⊥) �
 no_smaller zero zero P f g k = k refl
 no_smaller zero (suc j) P f g k = absurd (f (omega arith))
 no_smaller (suc i) zero P f g k = absurd (g (omega arith))
-no_smaller (suc i) (suc j) P f g k = no_smaller i j P (λ l. f (omega (arith, l))) (λ l. g (omega (arith, l))) (λ e. k (ap suc e))
+no_smaller (suc i) (suc j) P f g k =
+    no_smaller i j P (λ l. f (omega (arith, l))) (λ l. g (omega (arith, l))) (λ e. k (ap suc e))
 
 pub same_bend : (t : ℤ) (d : Plan) (i : ℕ) (a : Bool) (x y : Option Point) → IsBendAt t d i a x
     → IsBendAt t d i a y → x ≡ y
@@ -46,7 +47,9 @@ same_kind kind.HalfArc t d i cs ds e f = e ∙ sym f
 same_kind kind.Straight t d i cs ds h k =
     let a = same_bend t d i true h.first k.first h.at_from k.at_from in
     let b = same_bend t d i false h.last k.last h.at_to k.at_to in
-    same_stand d (curve d i) k.first k.last cs ds (subst (λ (x : Option Point). StandBy d (curve d i) x k.last cs) a (subst (λ (y : Option Point). StandBy d (curve d i) h.first y cs) b h.stand)) k.stand
+    same_stand d (curve d i) k.first k.last cs ds
+    (subst (λ (x : Option Point). StandBy d (curve d i) x k.last cs) a
+    (subst (λ (y : Option Point). StandBy d (curve d i) h.first y cs) b h.stand)) k.stand
 
 pub same_pieces : (t : ℤ) (d : Plan) (i : ℕ) (cs ds : List Curve) → StandFor t d i cs
     → StandFor t d i ds → cs ≡ ds
@@ -57,7 +60,9 @@ same_lists : (xs ys : List (List Curve)) → length xs ≡ length ys
 same_lists [] [] e f = refl
 same_lists [] (y ∷ ys) e f = absurd (omega (arith, e))
 same_lists (x ∷ xs) [] e f = absurd (omega (arith, e))
-same_lists (x ∷ xs) (y ∷ ys) e f = both x y xs ys (f 0 (omega arith)) (same_lists xs ys (omega (arith, e)) (λ i l. f (suc i) (omega (arith, l))))
+same_lists (x ∷ xs) (y ∷ ys) e f =
+    both x y xs ys (f 0 (omega arith))
+    (same_lists xs ys (omega (arith, e)) (λ i l. f (suc i) (omega (arith, l))))
   where
     both : (x y : List Curve) (xs ys : List (List Curve)) → x ≡ y → xs ≡ ys → x ∷ xs ≡ y ∷ ys
     both x y xs ys e f = cc
@@ -71,6 +76,7 @@ one_bent t d g h os ps a b =
     let e : a.pieces ≡ b.pieces = same_lists a.pieces b.pieces (a.count ∙ sym b.count) (λ i l.
     let m : i < length d.curves = (let c = a.count in omega (arith, l, c)) in
     same_pieces t d i (get_or a.pieces i []) (get_or b.pieces i []) (a.each i m) (b.each i m)) in (
-      plan_is g h (a.window ∙ sym b.window) (a.curves ∙ ap all_of e ∙ sym b.curves) (a.points ∙ sym b.points),
+      plan_is g h (a.window ∙ sym b.window) (a.curves ∙ ap all_of e ∙ sym b.curves) (a.points
+          ∙ sym b.points),
       a.origins ∙ ap (numbers_of 0) e ∙ sym b.origins,
     )

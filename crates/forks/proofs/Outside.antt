@@ -17,7 +17,8 @@ abbrev Below : ℤ → ℤ → ℤ → Type 0
 Below t d v = (t ≤ℤ pos 0) ⊎ (int_div_euclid t d <ℤ v)
 
 more : (d n : ℤ) → d *ℤ (n +ℤ pos 1) ≡ (d *ℤ n) +ℤ d
-more d n = ring (times (at 0) (plus (at 1) (num (pos 1)))) (plus (times (at 0) (at 1)) (at 0)) (vars (d ∷ n ∷ [])) refl
+more d n = ring (times (at 0) (plus (at 1) (num (pos 1)))) (plus (times (at 0) (at 1)) (at 0))
+    (vars (d ∷ n ∷ [])) refl
 
 below_product : (t d v : ℤ) → pos 0 <ℤ d → pos 0 <ℤ v → Below t d v → t <ℤ (d *ℤ v)
 below_product t d v h k (inl l) = let p = product_positive d v h k in omega (arith, ints, l, p)
@@ -42,7 +43,10 @@ below_is t d v h k = (below_product t d v h k, product_below t d v h)
 minus_times : (k : ℕ) (v : ℤ) → pos (suc k) *ℤ v ≡ pos 0 -ℤ (negsuc k *ℤ v)
 minus_times k v =
     let q : negsuc k ≡ pos 0 -ℤ pos (suc k) = omega (arith, ints) in
-    let e : (pos 0 -ℤ pos (suc k)) *ℤ v ≡ pos 0 -ℤ (pos (suc k) *ℤ v) = ring (times (minus (num (pos 0)) (at 0)) (at 1)) (minus (num (pos 0)) (times (at 0) (at 1))) (vars (pos (suc k) ∷ v ∷ [])) refl in
+    let e : (pos 0 -ℤ pos (suc k)) *ℤ v
+    ≡ pos 0 -ℤ (pos (suc k) *ℤ v) =
+    ring (times (minus (num (pos 0)) (at 0)) (at 1)) (minus (num (pos 0)) (times (at 0) (at 1)))
+    (vars (pos (suc k) ∷ v ∷ [])) refl in
     let f : negsuc k *ℤ v ≡ pos 0 -ℤ (pos (suc k) *ℤ v) = ap (λ (z : ℤ). z *ℤ v) q ∙ e in
     omega (arith, ints, f)
 
@@ -66,7 +70,12 @@ module _ (p r v : ℤ) (some : pos 0 <ℤ v) where
 abbrev Weighed : HalfArc → Point → ℤ
 Weighed h q = (circle_x h *ℤ (q.x -ℤ h.from.x)) +ℤ (circle_y h *ℤ (q.y -ℤ h.from.y))
 
-pub leads_out : ((h : HalfArc) (q : Point) → pos 0 <ℤ bend h → (pos 0 <ℤ power h (point q)) ↔ (Weighed h q <ℤ (bend h *ℤ square h.from q)))
-    → ((h : HalfArc) (q : Point) → bend h <ℤ pos 0 → (pos 0 <ℤ power h (point q)) ↔ ((bend h *ℤ square h.from q) <ℤ Weighed h q))
-    → (h : HalfArc) (q : Point) → HasCircle h → pos 0 <ℤ square h.from q → LeadsOut h q ↔ (pos 0 <ℤ power h (point q))
-leads_out left right h q c some = by_turn (power h (point q)) (Weighed h q) (square h.from q) some (bend h) c.bent (left h q) (right h q)
+pub leads_out : ((h : HalfArc) (q : Point) → pos 0 <ℤ bend h
+    → (pos 0 <ℤ power h (point q)) ↔ (Weighed h q <ℤ (bend h *ℤ square h.from q)))
+    → ((h : HalfArc) (q : Point) → bend h <ℤ pos 0
+    → (pos 0 <ℤ power h (point q)) ↔ ((bend h *ℤ square h.from q) <ℤ Weighed h q))
+    → (h : HalfArc) (q : Point) → HasCircle h → pos 0 <ℤ square h.from q
+    → LeadsOut h q ↔ (pos 0 <ℤ power h (point q))
+leads_out left right h q c some =
+    by_turn (power h (point q)) (Weighed h q) (square h.from q) some (bend h) c.bent (left h q)
+    (right h q)

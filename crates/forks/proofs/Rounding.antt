@@ -21,16 +21,19 @@ times_neg : (m x : ℕ) → pos m *ℤ negsuc x ≡ (pos 0 -ℤ (pos m *ℤ pos 
 times_neg m x =
     let q : negsuc x ≡ (pos 0 -ℤ pos x) -ℤ pos 1 = omega (arith, ints) in
     ap (λ (z : ℤ). pos m *ℤ z) q
-    ∙ ring (times (at 0) (minus (minus (num (pos 0)) (at 1)) (num (pos 1)))) (minus (minus (num (pos 0)) (times (at 0) (at 1))) (at 0)) (vars (pos m ∷ pos x ∷ [])) refl
+    ∙ ring (times (at 0) (minus (minus (num (pos 0)) (at 1)) (num (pos 1))))
+    (minus (minus (num (pos 0)) (times (at 0) (at 1))) (at 0)) (vars (pos m ∷ pos x ∷ [])) refl
 
 pub div_down : (n r : ℤ) → pos 0 <ℤ r → IsRoundedDown r n (int_div_euclid n r)
 div_down n (negsuc k) h = absurd (omega (arith, ints, h))
 div_down n (pos zero) h = absurd (omega (arith, ints, h))
 div_down (pos a) (pos (suc k)) h =
-    let d = down_pos a (suc k) (suc k * (a / suc k)) (a % suc k) (div-add-mod a (suc k)) (mod-lt a (omega arith)) in
+    let d = down_pos a (suc k) (suc k * (a / suc k)) (a % suc k) (div-add-mod a (suc k))
+    (mod-lt a (omega arith)) in
     record { most = d.0; least = d.1 }
 div_down (negsuc a) (pos (suc k)) h =
-    let d = down_neg a (suc k) (suc k * (a / suc k)) (a % suc k) (pos (suc k) *ℤ negsuc (a / suc k)) (div-add-mod a (suc k)) (mod-lt a (omega arith)) (times_neg (suc k) (a / suc k)) in
+    let d = down_neg a (suc k) (suc k * (a / suc k)) (a % suc k) (pos (suc k) *ℤ negsuc (a / suc k))
+    (div-add-mod a (suc k)) (mod-lt a (omega arith)) (times_neg (suc k) (a / suc k)) in
     record { most = d.0; least = d.1 }
 
 small_pos : (a m k : ℕ) → 256 ≤ k → a < 256 * m → a / k < m + 1

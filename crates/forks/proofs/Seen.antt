@@ -24,18 +24,26 @@ seen_has law c p h s = by_same s.same
   where
     by_same : (h ≡ arc c) ⊎ (h ≡ from_other_end (arc c)) → HasCircle h ↔ HasCircle (arc c)
     by_same (inl e) = subst (λ (k : HalfArc). HasCircle h ↔ HasCircle k) e ((λ x. x), (λ x. x))
-    by_same (inr e) = let w = law (arc c) in ((λ x. w.1 (subst HasCircle e x)), (λ x. subst HasCircle (sym e) (w.0 x)))
+    by_same (inr e) =
+        let w = law (arc c) in
+        ((λ x. w.1 (subst HasCircle e x)), (λ x. subst HasCircle (sym e) (w.0 x)))
 
 -- the circle of the half arc as it stands, and from its other end
 pub seen_from : Either → (c : Curve) (p : Point) (o : Option Circle) → c.from ≡ p
     → IsCircleOf o c.from c.to c.third → IsSeenCircle c p o
 seen_from law c p None e n = λ h s x. n ((seen_has law c p h s).0 x)
-seen_from law c p (Some k) e q = record { begins = ap (λ (h : HalfArc). h.from) q ∙ e; same = inl q }
+seen_from law c p (Some k) e q = record {
+  begins = ap (λ (h : HalfArc). h.from) q ∙ e;
+  same = inl q;
+}
 
 pub seen_back : Either → (c : Curve) (p : Point) (o : Option Circle) → c.to ≡ p
     → IsCircleOf o c.to c.from c.third → IsSeenCircle c p o
 seen_back law c p None e n = λ h s x. n ((law (arc c)).0 ((seen_has law c p h s).0 x))
-seen_back law c p (Some k) e q = record { begins = ap (λ (h : HalfArc). h.from) q ∙ e; same = inr q }
+seen_back law c p (Some k) e q = record {
+  begins = ap (λ (h : HalfArc). h.from) q ∙ e;
+  same = inr q;
+}
 
 pub other_end : (c : Curve) (p : Point) → IsEndOf c p → (c.from ≡ p → ⊥) → c.to ≡ p
 other_end c p (inl e) n = absurd (n e)
@@ -58,8 +66,14 @@ pub shared : (c s : Curve) (f t : Bool) → (IsTrue f ↔ IsEndOf c s.from)
     → (IsTrue t ↔ IsEndOf c s.to) → (f ≡ t → ⊥) → SharesEnd c s f
 shared c s true true f t n = absurd (n refl)
 shared c s false false f t n = absurd (n refl)
-shared c s true false f t n = record { near = f.0 refl; far = λ e. let x : IsTrue false = t.1 e in cc }
-shared c s false true f t n = record { near = t.0 refl; far = λ e. let x : IsTrue false = f.1 e in cc }
+shared c s true false f t n = record {
+  near = f.0 refl;
+  far = λ e. let x : IsTrue false = t.1 e in cc;
+}
+shared c s false true f t n = record {
+  near = t.0 refl;
+  far = λ e. let x : IsTrue false = f.1 e in cc;
+}
 
 pub either_end : (c : Curve) (p : Point) (f t : Bool) → (IsTrue f ↔ (c.from ≡ p))
     → (IsTrue t ↔ (c.to ≡ p)) → f ≡ false → IsTrue t ↔ IsEndOf c p

@@ -15,7 +15,10 @@ use Rattle.plane.proofs.Algebra.Laws.{product_comm, square_nonnegative}
 use Rattle.forks.specs.Zones.{across, is_left, signed, toward}
 
 pub near_wide : (a b : ℤ) → IsNear (2 ^ 26) a b → IsNear (2 ^ 40) a b
-near_wide a b h = record { above = omega (arith, ints, h.above); below = omega (arith, ints, h.below) }
+near_wide a b h = record {
+  above = omega (arith, ints, h.above);
+  below = omega (arith, ints, h.below);
+}
 
 pub within_same : (m : ℕ) (p q : ℤ) → p ≡ q → IsWithin m q → IsWithin m p
 within_same m p q e h = subst (IsWithin m) (sym e) h
@@ -23,15 +26,22 @@ within_same m p q e h = subst (IsWithin m) (sym e) h
 pub dot_within : (a b x y r : ℤ) → IsWithin (2 ^ 80) a → IsWithin (2 ^ 80) b → IsWithin (2 ^ 40) x
     → IsWithin (2 ^ 40) y → r ≡ (a *ℤ x) +ℤ (b *ℤ y) → IsWithin (2 ^ 122) r
 dot_within a b x y r ha hb hx hy e =
-    within_same (2 ^ 122) r _ e (within_more (2 ^ 120 + 2 ^ 120) (2 ^ 122) _ (omega arith) (within_sum (2 ^ 120) (2 ^ 120) _ _ (within_product (2 ^ 80) (2 ^ 40) a x ha hx) (within_product (2 ^ 80) (2 ^ 40) b y hb hy)))
+    within_same (2 ^ 122) r _ e
+    (within_more (2 ^ 120 + 2 ^ 120) (2 ^ 122) _ (omega arith)
+    (within_sum (2 ^ 120) (2 ^ 120) _ _ (within_product (2 ^ 80) (2 ^ 40) a x ha hx)
+    (within_product (2 ^ 80) (2 ^ 40) b y hb hy)))
 
 pub det_within : (x y a b r : ℤ) → IsWithin (2 ^ 40) x → IsWithin (2 ^ 40) y → IsWithin (2 ^ 80) a
     → IsWithin (2 ^ 80) b → r ≡ (x *ℤ b) -ℤ (y *ℤ a) → IsWithin (2 ^ 122) r
 det_within x y a b r hx hy ha hb e =
-    within_same (2 ^ 122) r _ e (within_more (2 ^ 120 + 2 ^ 120) (2 ^ 122) _ (omega arith) (within_difference (2 ^ 120) (2 ^ 120) _ _ (within_product (2 ^ 40) (2 ^ 80) x b hx hb) (within_product (2 ^ 40) (2 ^ 80) y a hy ha)))
+    within_same (2 ^ 122) r _ e
+    (within_more (2 ^ 120 + 2 ^ 120) (2 ^ 122) _ (omega arith)
+    (within_difference (2 ^ 120) (2 ^ 120) _ _ (within_product (2 ^ 40) (2 ^ 80) x b hx hb)
+    (within_product (2 ^ 40) (2 ^ 80) y a hy ha)))
 
 pub sum_of_squares : (x y r : ℤ) → r ≡ (x *ℤ x) +ℤ (y *ℤ y) → pos 0 ≤ℤ r
-sum_of_squares x y r e = let a = square_nonnegative x in let b = square_nonnegative y in omega (arith, ints, e, a, b)
+sum_of_squares x y r e =
+    let a = square_nonnegative x in let b = square_nonnegative y in omega (arith, ints, e, a, b)
 
 one_part : (a b : ℤ) → a -ℤ (b *ℤ pos 1) ≡ a -ℤ b
 one_part a b = let e : b *ℤ pos 1 ≡ b = omega (arith, ints) in omega (arith, ints, e)
@@ -41,7 +51,9 @@ pub ahead_is : (s q m : Point) (dx dy wx wy r : ℤ) → dx ≡ m.x -ℤ s.x →
 ahead_is s q m dx dy wx wy r a b f g e =
     let x : dx ≡ m.x -ℤ (s.x *ℤ pos 1) = a ∙ sym (one_part m.x s.x) in
     let y : dy ≡ m.y -ℤ (s.y *ℤ pos 1) = b ∙ sym (one_part m.y s.y) in
-    e ∙ both (dx *ℤ wx) (wx *ℤ dx) (dy *ℤ wy) (wy *ℤ dy) (product_comm dx wx) (product_comm dy wy) ∙ parts wx wy dx dy (q.x -ℤ s.x) (q.y -ℤ s.y) (m.x -ℤ (s.x *ℤ pos 1)) (m.y -ℤ (s.y *ℤ pos 1)) f g x y
+    e ∙ both (dx *ℤ wx) (wx *ℤ dx) (dy *ℤ wy) (wy *ℤ dy) (product_comm dx wx) (product_comm dy wy)
+    ∙ parts wx wy dx dy (q.x -ℤ s.x) (q.y -ℤ s.y) (m.x -ℤ (s.x *ℤ pos 1))
+    (m.y -ℤ (s.y *ℤ pos 1)) f g x y
   where
     both : (a b c d : ℤ) → a ≡ b → c ≡ d → a +ℤ c ≡ b +ℤ d
     both a b c d e f = cc

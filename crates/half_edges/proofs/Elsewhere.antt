@@ -10,7 +10,8 @@ use Rattle.half_edges.proofs.Extending.{pair_length}
 pub star_stays : (old new : HalfEdges) (around other : List ℕ) → IsLinked old new around
     → IsStar old other → IsStar new other
 star_stays old new around other linked star =
-    let og : (h : ℕ) → get_or new.origin h 0 ≡ get_or old.origin h 0 = λ h. ap (λ (xs : List ℕ). get_or xs h 0) linked.origins in
+    let og : (h : ℕ) → get_or new.origin h 0
+    ≡ get_or old.origin h 0 = λ h. ap (λ (xs : List ℕ). get_or xs h 0) linked.origins in
     let long : size new ≡ size old = linked.links.next_length in
     record {
       filled = star.filled;
@@ -24,25 +25,35 @@ pub turned_elsewhere : (old new : HalfEdges) (around : List ℕ) (h : ℕ) → I
     → IsLinked old new around
     → get_or old.origin h 0 ≢ get_or old.origin (get_or around 0 0) 0 → turned new h ≡ turned old h
 turned_elsewhere old new around h star linked ne =
-    linked.links.next_stays (twin_of h) (λ k l e. ne (ap (λ j. get_or old.origin j 0) (twin_same _ _ e) ∙ star.start k l))
+    linked.links.next_stays (twin_of h)
+    (λ k l e. ne (ap (λ j. get_or old.origin j 0) (twin_same _ _ e) ∙ star.start k l))
 
 -- a star of another vertex has its half-edges at that vertex
 elsewhere : (m : HalfEdges) (around other : List ℕ) → IsStar m other
     → get_or m.origin (get_or other 0 0) 0 ≢ get_or m.origin (get_or around 0 0) 0
-    → (k : ℕ) → k < length other → get_or m.origin (get_or other k 0) 0 ≢ get_or m.origin (get_or around 0 0) 0
+    → (k : ℕ) → k < length other
+    → get_or m.origin (get_or other k 0) 0 ≢ get_or m.origin (get_or around 0 0) 0
 elsewhere m around other star ne k l e = ne (sym (star.start k l) ∙ e)
 
 pub loose_elsewhere : (old new : HalfEdges) (around other : List ℕ) → IsStar old around
     → IsLinked old new around → IsStar old other
-    → get_or old.origin (get_or other 0 0) 0 ≢ get_or old.origin (get_or around 0 0) 0 → IsLoose old other → IsLoose new other
+    → get_or old.origin (get_or other 0 0) 0 ≢ get_or old.origin (get_or around 0 0) 0
+    → IsLoose old other → IsLoose new other
 loose_elsewhere old new around other star linked there ne loose =
-    record { alone = λ k l. turned_elsewhere old new around _ star linked (elsewhere old around other there ne k l) ∙ loose.alone k l }
+    record {
+      alone = λ k l. turned_elsewhere old new around _ star linked
+          (elsewhere old around other there ne k l) ∙ loose.alone k l;
+    }
 
 pub turns_elsewhere : (old new : HalfEdges) (around other : List ℕ) → IsStar old around
     → IsLinked old new around → IsStar old other
-    → get_or old.origin (get_or other 0 0) 0 ≢ get_or old.origin (get_or around 0 0) 0 → TurnsThrough old other → TurnsThrough new other
+    → get_or old.origin (get_or other 0 0) 0 ≢ get_or old.origin (get_or around 0 0) 0
+    → TurnsThrough old other → TurnsThrough new other
 turns_elsewhere old new around other star linked there ne through =
-    record { turns = λ k l. turned_elsewhere old new around _ star linked (elsewhere old around other there ne k l) ∙ through.turns k l }
+    record {
+      turns = λ k l. turned_elsewhere old new around _ star linked
+          (elsewhere old around other there ne k l) ∙ through.turns k l;
+    }
 
 pub unlinked_none : (n : ℕ) → IsUnlinked (without_edges n)
 unlinked_none n = record { alone = λ h l. absurd (omega arith) }

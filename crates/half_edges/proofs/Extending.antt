@@ -68,11 +68,16 @@ mesh_extended m low high mesh lo hi apart room =
     let og1 : get_or og (n + 1) 0 ≡ low = pair_second m.origin n _ _ mesh.origins in
     let fc0 : get_or fc n 0 ≡ 0 = pair_first m.face n _ _ mesh.faces in
     let fc1 : get_or fc (n + 1) 0 ≡ 0 = pair_second m.face n _ _ mesh.faces in
-    let nxb : (h : ℕ) → h < n → get_or nx h 0 ≡ get_or m.next h 0 = λ h l. pair_before m.next n _ _ h refl l in
-    let pvb : (h : ℕ) → h < n → get_or pv h 0 ≡ get_or m.prev h 0 = λ h l. pair_before m.prev n _ _ h mesh.prevs l in
-    let ogb : (h : ℕ) → h < n → get_or og h 0 ≡ get_or m.origin h 0 = λ h l. pair_before m.origin n _ _ h mesh.origins l in
-    let fcb : (h : ℕ) → h < n → get_or fc h 0 ≡ get_or m.face h 0 = λ h l. pair_before m.face n _ _ h mesh.faces l in
-    let each : (P : ℕ → Type 0) → ((h : ℕ) → h < n → P h) → P n → P (n + 1) → (h : ℕ) → h < length nx → P h =
+    let nxb : (h : ℕ) → h < n → get_or nx h 0
+    ≡ get_or m.next h 0 = λ h l. pair_before m.next n _ _ h refl l in
+    let pvb : (h : ℕ) → h < n → get_or pv h 0
+    ≡ get_or m.prev h 0 = λ h l. pair_before m.prev n _ _ h mesh.prevs l in
+    let ogb : (h : ℕ) → h < n → get_or og h 0
+    ≡ get_or m.origin h 0 = λ h l. pair_before m.origin n _ _ h mesh.origins l in
+    let fcb : (h : ℕ) → h < n → get_or fc h 0
+    ≡ get_or m.face h 0 = λ h l. pair_before m.face n _ _ h mesh.faces l in
+    let each : (P : ℕ → Type 0) → ((h : ℕ) → h < n → P h) → P n → P (n + 1) → (h : ℕ)
+    → h < length nx → P h =
     λ P below here there h l. below_pair P n below here there h (rw long at l) in
     record {
       pairs = rw long (let even = mesh.pairs in omega arith);
@@ -81,17 +86,24 @@ mesh_extended m low high mesh lo hi apart room =
       origins = pair_length m.origin n _ _ mesh.origins ∙ sym long;
       faces = pair_length m.face n _ _ mesh.faces ∙ sym long;
       next_within = each (λ (h : ℕ). get_or nx h 0 < length nx)
-          (λ h l. let w = mesh.next_within h l in rw (nxb h l, long) (omega arith)) (rw (nx0, long) (omega arith)) (rw (nx1, long) (omega arith));
+          (λ h l. let w = mesh.next_within h l in
+          rw (nxb h l, long) (omega arith)) (rw (nx0, long) (omega arith))
+          (rw (nx1, long) (omega arith));
       prev_within = each (λ (h : ℕ). get_or pv h 0 < length nx)
-          (λ h l. let w = mesh.prev_within h l in rw (pvb h l, long) (omega arith)) (rw (pv0, long) (omega arith)) (rw (pv1, long) (omega arith));
+          (λ h l. let w = mesh.prev_within h l in
+          rw (pvb h l, long) (omega arith)) (rw (pv0, long) (omega arith))
+          (rw (pv1, long) (omega arith));
       origin_within = each (λ (h : ℕ). get_or og h 0 < m.vertices)
           (λ h l. rw (ogb h l) (mesh.origin_within h l)) (rw og0 hi) (rw og1 lo);
       next_prev = each (λ (h : ℕ). get_or nx (get_or pv h 0) 0 ≡ h)
-          (λ h l. rw (pvb h l) (nxb _ (mesh.prev_within h l) ∙ mesh.next_prev h l)) (rw pv0 nx1) (rw pv1 nx0);
+          (λ h l. rw (pvb h l) (nxb _ (mesh.prev_within h l) ∙ mesh.next_prev h l)) (rw pv0 nx1)
+          (rw pv1 nx0);
       prev_next = each (λ (h : ℕ). get_or pv (get_or nx h 0) 0 ≡ h)
-          (λ h l. rw (nxb h l) (pvb _ (mesh.next_within h l) ∙ mesh.prev_next h l)) (rw nx0 pv1) (rw nx1 pv0);
+          (λ h l. rw (nxb h l) (pvb _ (mesh.next_within h l) ∙ mesh.prev_next h l)) (rw nx0 pv1)
+          (rw nx1 pv0);
       joined = each (λ (h : ℕ). get_or og (get_or nx h 0) 0 ≡ get_or og (twin_of h) 0)
-          (λ h l. rw (nxb h l) (ogb _ (mesh.next_within h l) ∙ (mesh.joined h l ∙ sym (ogb _ (twin_within n h mesh.pairs l)))))
+          (λ h l. rw (nxb h l) (ogb _ (mesh.next_within h l)
+          ∙ (mesh.joined h l ∙ sym (ogb _ (twin_within n h mesh.pairs l)))))
           (rw (nx0, up) refl) (rw (nx1, down) refl);
       ends = each (λ (h : ℕ). get_or og (twin_of h) 0 ≢ get_or og h 0)
           (λ h l e. mesh.ends h l (sym (ogb _ (twin_within n h mesh.pairs l)) ∙ (e ∙ ogb h l)))
@@ -99,15 +111,24 @@ mesh_extended m low high mesh lo hi apart room =
           (λ e. apart (sym og1 ∙ (sym e ∙ (ap (λ (k : ℕ). get_or og k 0) down ∙ og0))));
       one_face = record {
         same = each (λ (h : ℕ). get_or fc (get_or nx h 0) 0 ≡ get_or fc h 0)
-            (λ h l. rw (nxb h l) (fcb _ (mesh.next_within h l) ∙ (mesh.one_face.same h l ∙ sym (fcb h l))))
+            (λ h l. rw (nxb h l) (fcb _ (mesh.next_within h l)
+            ∙ (mesh.one_face.same h l ∙ sym (fcb h l))))
             (rw nx0 (fc1 ∙ sym fc0)) (rw nx1 (fc0 ∙ sym fc1));
       };
     }
 
 pub mesh_added : (m : HalfEdges) (low high down up : ℕ) (next prev origin face : List ℕ)
-    → IsMesh m → low < m.vertices → high < m.vertices → low ≢ high → edge_count m < 2 ^ 31 - 1 → down ≡ size m → up ≡ down + 1
-    → next ≡ m.next ++ up ∷ down ∷ [] → prev ≡ m.prev ++ up ∷ down ∷ [] → origin ≡ m.origin ++ high ∷ low ∷ [] → face ≡ m.face ++ 0 ∷ 0 ∷ []
-    → IsMesh (record { vertices = m.vertices; next = next; prev = prev; origin = origin; face = face })
+    → IsMesh m → low < m.vertices → high < m.vertices → low ≢ high → edge_count m < 2 ^ 31 - 1
+    → down ≡ size m → up ≡ down + 1
+    → next ≡ m.next ++ up ∷ down ∷ [] → prev ≡ m.prev ++ up ∷ down ∷ []
+    → origin ≡ m.origin ++ high ∷ low ∷ [] → face ≡ m.face ++ 0 ∷ 0 ∷ []
+    → IsMesh (record {
+      vertices = m.vertices;
+      next = next;
+      prev = prev;
+      origin = origin;
+      face = face;
+    })
 mesh_added m low high down up next prev origin face mesh lo hi apart room de ue ne pe oe fe =
     let even = mesh.pairs in
     rw (ne, pe, oe, fe, ue, de) (mesh_extended m low high mesh lo hi apart (omega arith))
@@ -115,4 +136,5 @@ mesh_added m low high down up next prev origin face mesh lo hi apart room de ue 
 pub unset_added : (m : HalfEdges) (x y : ℕ) (next face : List ℕ) → m.face ≡ replicate (size m) 0
     → next ≡ m.next ++ x ∷ y ∷ [] → face ≡ m.face ++ 0 ∷ 0 ∷ []
     → face ≡ replicate (length next) 0
-unset_added m x y next face old ne fe = rw (fe, ne, old, pair_length m.next (size m) x y refl) (replicate-append-replicate (size m) 2 0)
+unset_added m x y next face old ne fe =
+    rw (fe, ne, old, pair_length m.next (size m) x y refl) (replicate-append-replicate (size m) 2 0)

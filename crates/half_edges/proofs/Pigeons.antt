@@ -24,17 +24,24 @@ pub record HasTwins (f : ℕ → ℕ) (n : ℕ) : Type 0 where
 pub pigeons : (n : ℕ) (f : ℕ → ℕ) → ((k : ℕ) → k < suc n → f k < n) → HasTwins f (suc n)
 pigeons zero f small = absurd (let l = small 0 (omega arith) in omega arith)
 pigeons (suc n) f small = elim (found f (suc n) (f (suc n))) [
-  | inl w ↦ record { one = w.0; other = suc n; ordered = w.1.0; within = omega arith; same = sym w.1.1 }
+  | inl w ↦ record {
+    one = w.0;
+    other = suc n;
+    ordered = w.1.0;
+    within = omega arith;
+    same = sym w.1.1;
+  }
   | inr far ↦
       let x = f (suc n) in
       let top : x < suc n = small (suc n) (omega arith) in
       let t = pigeons n (λ k. redirect n x (f k)) (λ k l.
       let s : f k < suc n = small k (omega arith) in
       elim (cases_eq (f k) n) [
-        | inl e ↦ let ne = far k l in let r = redirect_hit n x (f k) e in rw r (elim (cases_eq x n) [
-          | inl d ↦ absurd (ne (d ∙ sym e))
-          | inr d ↦ omega arith
-        ])
+        | inl e ↦ let ne = far k l in let r = redirect_hit n x (f k) e in
+            rw r (elim (cases_eq x n) [
+              | inl d ↦ absurd (ne (d ∙ sym e))
+              | inr d ↦ omega arith
+            ])
         | inr ne ↦ let r = redirect_miss n x (f k) ne in rw r (omega arith)
       ]) in
       let i = t.one in
@@ -49,10 +56,14 @@ pigeons (suc n) f small = elim (found f (suc n) (f (suc n))) [
         same = elim (cases_eq (f i) n) [
           | inl e ↦ elim (cases_eq (f j) n) [
             | inl d ↦ e ∙ sym d
-            | inr d ↦ absurd (far j within (sym (redirect_hit n x (f i) e) ∙ (t.same ∙ redirect_miss n x (f j) d)))
+            | inr d ↦ absurd
+                (far j within (sym (redirect_hit n x (f i) e)
+                ∙ (t.same ∙ redirect_miss n x (f j) d)))
           ]
           | inr e ↦ elim (cases_eq (f j) n) [
-            | inl d ↦ absurd (far i (omega arith) (sym (redirect_hit n x (f j) d) ∙ (sym t.same ∙ redirect_miss n x (f i) e)))
+            | inl d ↦ absurd
+                (far i (omega arith) (sym (redirect_hit n x (f j) d)
+                ∙ (sym t.same ∙ redirect_miss n x (f i) e)))
             | inr d ↦ sym (redirect_miss n x (f i) e) ∙ (t.same ∙ redirect_miss n x (f j) d)
           ]
         ];

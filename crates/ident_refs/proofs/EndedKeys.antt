@@ -17,24 +17,32 @@ after_step : (bytes key : List ℕ) (rest : Option (List ℕ))
 after_step bytes key None = refl
 after_step bytes key (Some more) = ap Some (append_assoc bytes (with_end key) more)
 
-pub ended_more : (keys : List (Option (List ℕ))) (numbers : List ℕ) (i d : ℕ) (old new key : List ℕ) (all : Option (List ℕ))
+pub ended_more : (keys : List (Option (List ℕ))) (numbers : List ℕ) (i d : ℕ) (old new key : List ℕ)
+    (all : Option (List ℕ))
     → i < length numbers
     → Some key ≡ numbered_key keys (get_or numbers i d) → new ≡ old ++ with_end key
-    → ended_after old (all_ended (drop i (map (numbered_key keys) numbers))) ≡ all → ended_after new (all_ended (drop (i + 1) (map (numbered_key keys) numbers))) ≡ all
+    → ended_after old (all_ended (drop i (map (numbered_key keys) numbers))) ≡ all
+    → ended_after new (all_ended (drop (i + 1) (map (numbered_key keys) numbers))) ≡ all
 ended_more keys numbers i d old new key all lt k e inv =
     let rest = all_ended (drop (i + 1) (map (numbered_key keys) numbers)) in
     ap (λ (b : List ℕ). ended_after b rest) e
     ∙ after_step old key rest
     ∙ ap (λ (o : Option (List ℕ)). ended_after old (and_ended o rest)) k
-    ∙ ap (λ (ks : List (Option (List ℕ))). ended_after old (all_ended ks)) (sym (split (numbered_key keys) i numbers (get_or numbers i d) lt (got_again numbers i d lt)).0)
+    ∙ ap (λ (ks : List (Option (List ℕ))). ended_after old (all_ended ks))
+    (sym (split (numbered_key keys) i numbers (get_or numbers i d) lt
+    (got_again numbers i d lt)).0)
     ∙ inv
 
-pub none_ended : (keys : List (Option (List ℕ))) (numbers : List ℕ) (i d : ℕ) (old : List ℕ) (all : Option (List ℕ))
+pub none_ended : (keys : List (Option (List ℕ))) (numbers : List ℕ) (i d : ℕ) (old : List ℕ)
+    (all : Option (List ℕ))
     → i < length numbers → None ≡ numbered_key keys (get_or numbers i d)
     → ended_after old (all_ended (drop i (map (numbered_key keys) numbers))) ≡ all → None ≡ all
 none_ended keys numbers i d old all lt k inv =
-    ap (λ (o : Option (List ℕ)). ended_after old (and_ended o (all_ended (drop (i + 1) (map (numbered_key keys) numbers))))) k
-    ∙ ap (λ (ks : List (Option (List ℕ))). ended_after old (all_ended ks)) (sym (split (numbered_key keys) i numbers (get_or numbers i d) lt (got_again numbers i d lt)).0)
+    ap (λ (o : Option (List ℕ)). ended_after old
+    (and_ended o (all_ended (drop (i + 1) (map (numbered_key keys) numbers))))) k
+    ∙ ap (λ (ks : List (Option (List ℕ))). ended_after old (all_ended ks))
+    (sym (split (numbered_key keys) i numbers (get_or numbers i d) lt
+    (got_again numbers i d lt)).0)
     ∙ inv
 
 -- bytes that are a key
@@ -43,12 +51,15 @@ pub key_longer : (old new more : List ℕ) → new ≡ old ++ more → key_in ol
 key_longer [] new more e h = absurd cc
 key_longer (b ∷ old) new more e h = ap key_in e ∙ ap Some (sym e)
 
-pub all_joined : (keys : List (Option (List ℕ))) (numbers : List ℕ) (i : ℕ) (bytes : List ℕ) (all : Option (List ℕ))
+pub all_joined : (keys : List (Option (List ℕ))) (numbers : List ℕ) (i : ℕ) (bytes : List ℕ)
+    (all : Option (List ℕ))
     → length numbers ≤ i → key_in bytes ≡ Some bytes
-    → ended_after bytes (all_ended (drop i (map (numbered_key keys) numbers))) ≡ all → key_in bytes ≡ all
+    → ended_after bytes (all_ended (drop i (map (numbered_key keys) numbers))) ≡ all
+    → key_in bytes ≡ all
 all_joined keys numbers i bytes all le h inv =
     h ∙ ap Some (sym (append-nil bytes))
-    ∙ ap (λ (ks : List (Option (List ℕ))). ended_after bytes (all_ended ks)) (sym (dropped numbers i le))
+    ∙ ap (λ (ks : List (Option (List ℕ))). ended_after bytes (all_ended ks))
+    (sym (dropped numbers i le))
     ∙ inv
   where
     dropped : (ns : List ℕ) (i : ℕ) → length ns ≤ i → drop i (map (numbered_key keys) ns) ≡ []

@@ -27,13 +27,15 @@ use Rattle.ident_refs.proofs.Injective.{AreFit, AreFitCorners, IsFit, AllFit}
 
 fit_read : (bytes : List ℕ) (scale : ℕ) (r : Result ℤ DecimalFault) → Reads bytes scale r
     → FitsSigned w64 (value_or_zero r)
-fit_read bytes scale (Ok v) h = let b = value_is_short bytes scale v h in fits_in w64 v (omega (arith, ints, b))
+fit_read bytes scale (Ok v) h =
+    let b = value_is_short bytes scale v h in fits_in w64 v (omega (arith, ints, b))
 fit_read bytes scale (Err NotNumber) h = fits_in w64 (pos 0) (omega (arith, ints))
 fit_read bytes scale (Err TooLong) h = fits_in w64 (pos 0) (omega (arith, ints))
 fit_read bytes scale (Err MoreDecimals) h = fits_in w64 (pos 0) (omega (arith, ints))
 
 units_fit : (limits : Limits) (word : List ℕ) → FitsSigned w64 (units limits word)
-units_fit limits word = fit_read word limits.scale (scaled_of word limits.scale) (reads word limits.scale)
+units_fit limits word =
+    fit_read word limits.scale (scaled_of word limits.scale) (reads word limits.scale)
 
 numbers_fit : (ls : List Limits) (ws : List (List ℕ)) → AreFit (numbers_on ls ws)
 numbers_fit [] ws = tt
@@ -72,12 +74,18 @@ FitsList (Some vs) = AllFit vs
 
 form_fit : (codes : Codes) (form : Form) (words : List (List ℕ))
     → FitsIfAny (form_value codes form words)
-form_fit codes form words = elim (is_none (field_fault form codes words)) as (λ b. FitsIfAny (cond b (Some (key_value (value_of form words))) None)) [ true ↦ value_fit form words | false ↦ tt ]
+form_fit codes form words =
+    elim (is_none (field_fault form codes words)) as
+    (λ b. FitsIfAny (cond b (Some (key_value (value_of form words))) None))
+    [ true ↦ value_fit form words | false ↦ tt ]
 
 columns_fit : (codes : Codes) (cs : List Column) (words : List (List ℕ))
     → FitIfAny (columns_values codes cs words)
 columns_fit codes [] words = tt
-columns_fit codes (c ∷ cs) words = (form_fit codes c.form (take (width c.form) words), columns_fit codes cs (drop (width c.form) words))
+columns_fit codes (c ∷ cs) words = (
+  form_fit codes c.form (take (width c.form) words),
+  columns_fit codes cs (drop (width c.form) words),
+)
 
 corners_fit : (l : LineForm) (vs : List Vertex) → AreFitCorners (map (key_vertex_of l) vs)
 corners_fit l [] = tt
@@ -85,7 +93,10 @@ corners_fit l (v ∷ vs) = (numbers_fit (line_axes l) v.fields, corners_fit l vs
 
 line_fit : (role : Role) (l : LineForm) (vs : List Vertex) → FitsIfAny (line_value role l vs)
 line_fit role l [] = tt
-line_fit role l (v ∷ vs) = elim (is_sound_stroke role l (v ∷ vs)) as (λ b. FitsIfAny (cond b (Some (Vertices (map (key_vertex_of l) (v ∷ vs)))) None)) [ true ↦ corners_fit l (v ∷ vs) | false ↦ tt ]
+line_fit role l (v ∷ vs) =
+    elim (is_sound_stroke role l (v ∷ vs)) as
+    (λ b. FitsIfAny (cond b (Some (Vertices (map (key_vertex_of l) (v ∷ vs)))) None))
+    [ true ↦ corners_fit l (v ∷ vs) | false ↦ tt ]
 
 lines_fit : (role : Role) (ls : List LineForm) (ss : List (List Vertex))
     → FitIfAny (lines_values role ls ss)
@@ -110,11 +121,15 @@ and_fit (Some v) (Some vs) f g = (f, g)
 
 values_fit : (os : List (Option Value)) (ps : List ℕ) → FitIfAny os → FitsList (values_at os ps)
 values_fit os [] f = tt
-values_fit os (p ∷ ps) f = and_fit (slice_index_or os p None) (values_at os ps) (fit_at os p f) (values_fit os ps f)
+values_fit os (p ∷ ps) f =
+    and_fit (slice_index_or os p None) (values_at os ps) (fit_at os p f) (values_fit os ps f)
 
 pub demand_fit : (codes : Codes) (t : Table) (list : List ℕ) (r : Row)
     → FitsList (ident_values codes t list r)
-demand_fit codes t list r = elim (is_counted t r) as (λ b. FitsList (cond b (values_at (row_values codes t r) list) None)) [
-  | true ↦ values_fit (row_values codes t r) list (both_fit _ _ (columns_fit codes t.columns (drop 1 r.fields)) (lines_fit t.role t.lines r.strokes))
-  | false ↦ tt
-]
+demand_fit codes t list r =
+    elim (is_counted t r) as (λ b. FitsList (cond b (values_at (row_values codes t r) list) None)) [
+      | true ↦ values_fit (row_values codes t r) list
+          (both_fit _ _ (columns_fit codes t.columns (drop 1 r.fields))
+          (lines_fit t.role t.lines r.strokes))
+      | false ↦ tt
+    ]

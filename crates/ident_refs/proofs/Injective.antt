@@ -33,8 +33,10 @@ ended_apart [] (zero ∷ v) a b e = absurd cc
 ended_apart [] (suc n ∷ v) a b e = absurd (let h = (heads 0 (suc n) _ _ e).0 in omega (arith, h))
 ended_apart (zero ∷ w) [] a b e = absurd cc
 ended_apart (suc n ∷ w) [] a b e = absurd (let h = (heads (suc n) 0 _ _ e).0 in omega (arith, h))
-ended_apart (zero ∷ w) (suc n ∷ v) a b e = absurd (let h = (heads 0 (suc n) _ _ e).0 in omega (arith, h))
-ended_apart (suc n ∷ w) (zero ∷ v) a b e = absurd (let h = (heads (suc n) 0 _ _ e).0 in omega (arith, h))
+ended_apart (zero ∷ w) (suc n ∷ v) a b e =
+    absurd (let h = (heads 0 (suc n) _ _ e).0 in omega (arith, h))
+ended_apart (suc n ∷ w) (zero ∷ v) a b e =
+    absurd (let h = (heads (suc n) 0 _ _ e).0 in omega (arith, h))
 ended_apart (zero ∷ w) (zero ∷ v) a b e =
     let r = ended_apart w v a b (heads 1 1 _ _ (heads 0 0 _ _ e).1).1 in
     (ap (λ (x : List ℕ). 0 ∷ x) r.0, r.1)
@@ -62,13 +64,16 @@ unfolding number_code
 number_back m n f g e =
     let p : of_z w64 m < 2 ^ 64 = (let u = Fits-of_z f in search rules) in
     let q : of_z w64 n < 2 ^ 64 = (let u = Fits-of_z g in search rules) in
-    let h : of_z w64 m ≡ of_z w64 n = sym (from_be_bytes-to_be_bytes_8 (of_z w64 m) p) ∙ (ap (from_be_bytes w64) e ∙ from_be_bytes-to_be_bytes_8 (of_z w64 n) q) in
+    let h : of_z w64 m ≡ of_z w64 n = sym (from_be_bytes-to_be_bytes_8 (of_z w64 m) p)
+    ∙ (ap (from_be_bytes w64) e ∙ from_be_bytes-to_be_bytes_8 (of_z w64 n) q) in
     sym (to_z-of_z f) ∙ (ap (to_z w64) h ∙ to_z-of_z g)
 
 number_apart : (m n : ℤ) (a b : List ℕ) → FitsSigned w64 m → FitsSigned w64 n
     → number_code m ++ a ≡ number_code n ++ b → (m ≡ n) × (a ≡ b)
 unfolding number_code
-number_apart m n a b f g e = let r = bytes_apart 8 (cast_unsigned w64 m) (cast_unsigned w64 n) a b e in (number_back m n f g r.0, r.1)
+number_apart m n a b f g e =
+    let r = bytes_apart 8 (cast_unsigned w64 m) (cast_unsigned w64 n) a b e in
+    (number_back m n f g r.0, r.1)
 
 numbers_back : (ms ns : List ℤ) → AreFit ms → AreFit ns → numbers_code ms ≡ numbers_code ns
     → ms ≡ ns
@@ -87,7 +92,9 @@ numbers_apart [] [] a b f g l e = (refl, e)
 numbers_apart [] (n ∷ ns) a b f g l e = absurd (omega (arith, l))
 numbers_apart (m ∷ ms) [] a b f g l e = absurd (omega (arith, l))
 numbers_apart (m ∷ ms) (n ∷ ns) a b f g l e =
-    let r = number_apart m n (numbers_code ms ++ a) (numbers_code ns ++ b) f.0 g.0 (sym (append_assoc (number_code m) (numbers_code ms) a) ∙ (e ∙ append_assoc (number_code n) (numbers_code ns) b)) in
+    let r = number_apart m n (numbers_code ms ++ a) (numbers_code ns ++ b) f.0 g.0
+    (sym (append_assoc (number_code m) (numbers_code ms) a)
+    ∙ (e ∙ append_assoc (number_code n) (numbers_code ns) b)) in
     let s = numbers_apart ms ns a b f.1 g.1 (omega (arith, l)) r.1 in
     (ap (λ (x : ℤ). x ∷ ms) r.0 ∙ ap (λ (xs : List ℤ). n ∷ xs) s.0, s.1)
 
@@ -115,7 +122,8 @@ corners_back (c ∷ cs) [] f g e = absurd cc
 corners_back (c ∷ cs) (d ∷ ds) f g e =
     let k = heads (kind_code c.kind) (kind_code d.kind) _ _ e in
     let l = heads (length c.numbers) (length d.numbers) _ _ k.1 in
-    let n = numbers_apart c.numbers d.numbers (key_vertices_code cs) (key_vertices_code ds) f.0 g.0 l.0 l.1 in
+    let n = numbers_apart c.numbers d.numbers (key_vertices_code cs)
+    (key_vertices_code ds) f.0 g.0 l.0 l.1 in
     let s = corners_back cs ds f.1 g.1 n.1 in
     ap (λ (x : Kind). key_vertex x c.numbers ∷ cs) (kind_back c.kind d.kind k.0)
     ∙ ap (λ (x : List ℤ). key_vertex d.kind x ∷ cs) n.0
@@ -143,13 +151,16 @@ value_back (Bytes a) (Bytes b) f g e = ap Bytes (heads 1 1 _ _ e).1
 value_back (Bytes a) (Vertices ds) f g e = absurd cc
 value_back (Vertices cs) (Numbers ns) f g e = absurd cc
 value_back (Vertices cs) (Bytes b) f g e = absurd cc
-value_back (Vertices cs) (Vertices ds) f g e = ap Vertices (corners_back cs ds f g (heads 2 2 _ _ e).1)
+value_back (Vertices cs) (Vertices ds) f g e =
+    ap Vertices (corners_back cs ds f g (heads 2 2 _ _ e).1)
 
 -- ---- lists of values
 part_apart : (v w : Value) (a b : List ℕ) → IsFit v → IsFit w → part_code v ++ a ≡ part_code w ++ b
     → (v ≡ w) × (a ≡ b)
 part_apart v w a b f g e =
-    let r = ended_apart (value_code v) (value_code w) a b (sym (append_assoc (flat_map byte_code (value_code v)) _ a) ∙ (e ∙ append_assoc (flat_map byte_code (value_code w)) _ b)) in
+    let r = ended_apart (value_code v) (value_code w) a b
+    (sym (append_assoc (flat_map byte_code (value_code v)) _ a)
+    ∙ (e ∙ append_assoc (flat_map byte_code (value_code w)) _ b)) in
     (value_back v w f g r.0, r.1)
 
 not_ended : (w a : List ℕ) → [] ≡ with_end w ++ a → ⊥
@@ -181,7 +192,8 @@ list_back (v ∷ []) (w ∷ []) f g e = ap (λ (x : Value). x ∷ []) (value_bac
 list_back (v ∷ []) (w ∷ x ∷ ws) f g e = absurd (not_three v _ e)
 list_back (v ∷ y ∷ vs) [] f g e = parts_back (v ∷ y ∷ vs) [] f g (heads 3 3 _ _ e).1
 list_back (v ∷ y ∷ vs) (w ∷ []) f g e = absurd (not_three w _ (sym e))
-list_back (v ∷ y ∷ vs) (w ∷ x ∷ ws) f g e = parts_back (v ∷ y ∷ vs) (w ∷ x ∷ ws) f g (heads 3 3 _ _ e).1
+list_back (v ∷ y ∷ vs) (w ∷ x ∷ ws) f g e =
+    parts_back (v ∷ y ∷ vs) (w ∷ x ∷ ws) f g (heads 3 3 _ _ e).1
 
 -- ---- equal values
 int_same : (m n : ℤ) → int_eq m n ≡ is_same m n
@@ -215,23 +227,28 @@ corner_tells c d = (
       let k : c.kind ≡ d.kind = (kind_tells c.kind d.kind).0 b.0 in
       let n : c.numbers ≡ d.numbers = (numbers_tell c.numbers d.numbers).0 b.1 in
       ap (λ (x : Kind). key_vertex x c.numbers) k ∙ ap (λ (x : List ℤ). key_vertex d.kind x) n,
-  λ e. ap (λ (x : KeyVertex). is_same_vertex c x) (sym e) ∙ (ap (λ (b : Bool). b && pointwise is_same c.numbers c.numbers) ((kind_tells c.kind c.kind).1 refl) ∙ (numbers_tell c.numbers c.numbers).1 refl),
+  λ e. ap (λ (x : KeyVertex). is_same_vertex c x) (sym e)
+      ∙ (ap (λ (b : Bool). b && pointwise is_same c.numbers c.numbers)
+      ((kind_tells c.kind c.kind).1 refl) ∙ (numbers_tell c.numbers c.numbers).1 refl),
 )
   where
     key_vertex : Kind → List ℤ → KeyVertex
     key_vertex k n = record { kind = k; numbers = n }
 
 value_tells : (v w : Value) → Decides (is_same_value v w) (v ≡ w)
-value_tells (Numbers ms) (Numbers ns) = (λ e. ap Numbers ((numbers_tell ms ns).0 e), λ e. (numbers_tell ms ns).1 cc)
+value_tells (Numbers ms) (Numbers ns) =
+    (λ e. ap Numbers ((numbers_tell ms ns).0 e), λ e. (numbers_tell ms ns).1 cc)
 value_tells (Numbers ms) (Bytes b) = (λ e. absurd cc, λ e. absurd cc)
 value_tells (Numbers ms) (Vertices ds) = (λ e. absurd cc, λ e. absurd cc)
 value_tells (Bytes a) (Numbers ns) = (λ e. absurd cc, λ e. absurd cc)
-value_tells (Bytes a) (Bytes b) = (λ e. ap Bytes ((bytes_eq-Decides a b).0 e), λ e. (bytes_eq-Decides a b).1 cc)
+value_tells (Bytes a) (Bytes b) =
+    (λ e. ap Bytes ((bytes_eq-Decides a b).0 e), λ e. (bytes_eq-Decides a b).1 cc)
 value_tells (Bytes a) (Vertices ds) = (λ e. absurd cc, λ e. absurd cc)
 value_tells (Vertices cs) (Numbers ns) = (λ e. absurd cc, λ e. absurd cc)
 value_tells (Vertices cs) (Bytes b) = (λ e. absurd cc, λ e. absurd cc)
 value_tells (Vertices cs) (Vertices ds) =
-    let t : Decides (pointwise is_same_vertex cs ds) (cs ≡ ds) = slice_eq-Decides corner_tells cs ds (pointwise is_same_vertex cs ds) refl in
+    let t : Decides (pointwise is_same_vertex cs ds) (cs ≡ ds) = slice_eq-Decides corner_tells cs ds
+    (pointwise is_same_vertex cs ds) refl in
     (λ e. ap Vertices (t.0 e), λ e. t.1 cc)
 
 values_tell : (vs ws : List Value) → Decides (pointwise is_same_value vs ws) (vs ≡ ws)
@@ -246,5 +263,7 @@ both_ways false false f g = refl
 pub keys_tell : (vs ws : List Value) → AllFit vs → AllFit ws
     → pointwise is_same_value vs ws ≡ pointwise nat_eq (list_code vs) (list_code ws)
 keys_tell vs ws f g = both_ways _ _
-    (λ e. (bytes_eq-Decides (list_code vs) (list_code ws)).1 (ap list_code ((values_tell vs ws).0 e)))
-    (λ e. (values_tell vs ws).1 (list_back vs ws f g ((bytes_eq-Decides (list_code vs) (list_code ws)).0 e)))
+    (λ e. (bytes_eq-Decides (list_code vs) (list_code ws)).1
+    (ap list_code ((values_tell vs ws).0 e)))
+    (λ e. (values_tell vs ws).1
+    (list_back vs ws f g ((bytes_eq-Decides (list_code vs) (list_code ws)).0 e)))

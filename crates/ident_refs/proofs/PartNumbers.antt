@@ -11,31 +11,40 @@ use Rattle.ident_refs.proofs.SharedSteps.{one_more, picked_grown}
 
 -- parts that stay at their numbers
 abbrev pub Stay : List (Option ℕ) → List (Option ℕ) → Type 0
-Stay old new = (numbers : List ℕ) → All (λ n. n < length old) numbers → picked new numbers ≡ picked old numbers
+Stay old new = (numbers : List ℕ) → All (λ n. n < length old) numbers
+    → picked new numbers ≡ picked old numbers
 
 pub stay_more : (old new : List (Option ℕ)) (part : Option ℕ) → new ≡ old ++ part ∷ []
     → Stay old new
-stay_more old new part e numbers h = ap (λ (l : List (Option ℕ)). picked l numbers) e ∙ picked_grown old part (length old) numbers refl h
+stay_more old new part e numbers h =
+    ap (λ (l : List (Option ℕ)). picked l numbers) e
+    ∙ picked_grown old part (length old) numbers refl h
 
 pub still_below : (n m : ℕ) (numbers : List ℕ) → n ≤ m → All (λ j. j < n) numbers
     → All (λ j. j < m) numbers
-still_below n m numbers le h i d lt = let a : get_or numbers i d < n = h i d lt in omega (arith, a, le)
+still_below n m numbers le h i d lt =
+    let a : get_or numbers i d < n = h i d lt in omega (arith, a, le)
 
 pub stay_on : (a b c : List (Option ℕ)) → length a ≤ length b → Stay a b → Stay b c → Stay a c
-stay_on a b c le g h numbers within = h numbers (still_below (length a) (length b) numbers le within) ∙ g numbers within
+stay_on a b c le g h numbers within =
+    h numbers (still_below (length a) (length b) numbers le within) ∙ g numbers within
 
 pub all_added : {X : Type 0} (P : X → Type 0) (xs : List X) (x : X) → All P xs → P x
     → All P (xs ++ x ∷ [])
 all_added P [] x h p zero d lt = p
 all_added P [] x h p (suc i) d lt = absurd (omega (arith, lt))
 all_added P (y ∷ xs) x h p zero d lt = h 0 d (omega arith)
-all_added P (y ∷ xs) x h p (suc i) d lt = all_added P xs x (λ j e l. h (suc j) e (omega (arith, l))) p i d (omega (arith, lt))
+all_added P (y ∷ xs) x h p (suc i) d lt =
+    all_added P xs x (λ j e l. h (suc j) e (omega (arith, l))) p i d (omega (arith, lt))
 
 -- ---- the numbers of one list
-pub places_step : (places : List ℕ) (i d : ℕ) (old new : List (Option ℕ)) (numbers more : List ℕ) (n : ℕ)
+pub places_step : (places : List ℕ) (i d : ℕ) (old new : List (Option ℕ)) (numbers more : List ℕ)
+    (n : ℕ)
     → i < length places
-    → more ≡ numbers ++ n ∷ [] → Stay old new → picked_one new n ≡ Some (get_or places i d) ∷ [] → All (λ j. j < length old) numbers
-    → picked old numbers ≡ map Some (take i places) → picked new more ≡ map Some (take (i + 1) places)
+    → more ≡ numbers ++ n ∷ [] → Stay old new → picked_one new n ≡ Some (get_or places i d) ∷ []
+    → All (λ j. j < length old) numbers
+    → picked old numbers ≡ map Some (take i places)
+    → picked new more ≡ map Some (take (i + 1) places)
 places_step places i d old new numbers more n lt e stay own within inv =
     let front = map Some (take i places) in
     ap (picked new) e ∙ one_more new numbers n
@@ -64,4 +73,5 @@ pub numbered_more : (old new : List (Option ℕ)) (kept more : List CodeList) (l
     → AreNumbered old kept → IsNumbered new l → AreNumbered new more
 numbered_more old new kept more l e le stay h own =
     subst (λ (ls : List CodeList). AreNumbered new ls) (sym e)
-    (all_added (IsNumbered new) kept l (λ i d lt. one_stays old new (get_or kept i d) le stay (h i d lt)) own)
+    (all_added (IsNumbered new) kept l
+    (λ i d lt. one_stays old new (get_or kept i d) le stay (h i d lt)) own)

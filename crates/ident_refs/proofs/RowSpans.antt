@@ -24,8 +24,10 @@ rows_same : (keys more : List (Option (List ℕ))) (spans : List RowSpan)
     → AreSpans (length keys) spans → rows_in (keys ++ more) spans ≡ rows_in keys spans
 rows_same keys more [] h = refl
 rows_same keys more (s ∷ spans) h =
-    ap (λ (ks : List (Option (List ℕ))). ks ∷ rows_in (keys ++ more) spans) (span_same keys more s (h 0 s (omega arith)))
-    ∙ ap (λ (rows : List (List (Option (List ℕ)))). span_keys keys s ∷ rows) (rows_same keys more spans (λ i d lt. h (suc i) d (omega (arith, lt))))
+    ap (λ (ks : List (Option (List ℕ))). ks ∷ rows_in (keys ++ more) spans)
+    (span_same keys more s (h 0 s (omega arith)))
+    ∙ ap (λ (rows : List (List (Option (List ℕ)))). span_keys keys s ∷ rows)
+    (rows_same keys more spans (λ i d lt. h (suc i) d (omega (arith, lt))))
 
 -- the keys of the new row
 own_keys : (keys more : List (Option (List ℕ))) (s : RowSpan) → s.start ≡ length keys
@@ -43,8 +45,10 @@ row_spanned old new more spans next s e k h b d =
     ap (λ (l : List RowSpan). rows_in new l) k
     ∙ map-append (span_keys new) spans (s ∷ [])
     ∙ ap (λ (l : List (Option (List ℕ))). rows_in l spans ++ span_keys l s ∷ []) e
-    ∙ ap (λ (rows : List (List (Option (List ℕ)))). rows ++ span_keys (old ++ more) s ∷ []) (rows_same old more spans h)
-    ∙ ap (λ (row : List (Option (List ℕ))). rows_in old spans ++ row ∷ []) (own_keys old more s b (d ∙ ap (λ (l : List (Option (List ℕ))). length l) e))
+    ∙ ap (λ (rows : List (List (Option (List ℕ)))). rows ++ span_keys (old ++ more) s ∷ [])
+    (rows_same old more spans h)
+    ∙ ap (λ (row : List (Option (List ℕ))). rows_in old spans ++ row ∷ [])
+    (own_keys old more s b (d ∙ ap (λ (l : List (Option (List ℕ))). length l) e))
 
 pub spans_wider : (n m : ℕ) (spans : List RowSpan) → n ≤ m → AreSpans n spans → AreSpans m spans
 spans_wider n m spans le h i d lt =
@@ -55,17 +59,25 @@ spans_wider n m spans le h i d lt =
 pub spans_more : (n m : ℕ) (spans next : List RowSpan) (s : RowSpan) → n ≤ m → AreSpans n spans
     → next ≡ spans ++ s ∷ [] → s.start ≤ s.end → s.end ≤ m → AreSpans m next
 spans_more n m spans next s le h e low high =
-    subst (λ (l : List RowSpan). AreSpans m l) (sym e) (all_added (IsSpan m) spans s (spans_wider n m spans le h) (record { ordered = low; within = high }))
+    subst (λ (l : List RowSpan). AreSpans m l) (sym e)
+    (all_added (IsSpan m) spans s (spans_wider n m spans le h) (record {
+      ordered = low;
+      within = high;
+    }))
 
 -- ---- the key of each row, one after another
-pub keys_more : (f : List (Option (List ℕ)) → Option (List ℕ)) (all : List (Option (List ℕ))) (spans : List RowSpan) (i : ℕ) (s : RowSpan) (old new : List (Option (List ℕ))) (key : Option (List ℕ))
+pub keys_more : (f : List (Option (List ℕ)) → Option (List ℕ)) (all : List (Option (List ℕ)))
+    (spans : List RowSpan) (i : ℕ) (s : RowSpan) (old new : List (Option (List ℕ)))
+    (key : Option (List ℕ))
     → i < length spans → s ≡ get_or spans i s → new ≡ old ++ key ∷ [] → key ≡ f (span_keys all s)
     → old ≡ map f (rows_in all (take i spans)) → new ≡ map f (rows_in all (take (i + 1) spans))
 keys_more f all spans i s old new key lt at e k inv =
     let front = map f (rows_in all (take i spans)) in
     e ∙ ap (λ (l : List (Option (List ℕ))). l ++ key ∷ []) inv
-    ∙ ap (λ (x : Option (List ℕ)). front ++ x ∷ []) (k ∙ ap (λ (x : RowSpan). f (span_keys all x)) at)
-    ∙ sym (ap (map f) (map_more (span_keys all) spans i s lt) ∙ map-append f (rows_in all (take i spans)) (span_keys all (get_or spans i s) ∷ []))
+    ∙ ap (λ (x : Option (List ℕ)). front ++ x ∷ []) (k
+    ∙ ap (λ (x : RowSpan). f (span_keys all x)) at)
+    ∙ sym (ap (map f) (map_more (span_keys all) spans i s lt)
+    ∙ map-append f (rows_in all (take i spans)) (span_keys all (get_or spans i s) ∷ []))
 
 -- ---- the last keys of a row that are none are left out
 got_more : (keys : List (Option (List ℕ))) (a : ℕ)
@@ -77,9 +89,11 @@ got_more (key ∷ keys) (suc a) = got_more keys a
 
 pub none_more : (keys new : List (Option (List ℕ))) (key : Option (List ℕ)) (count : ℕ)
     → new ≡ keys ++ key ∷ [] → key ≡ None
-    → ((a : ℕ) → count ≤ a → numbered_key keys a ≡ None) → (a : ℕ) → count ≤ a → numbered_key new a ≡ None
+    → ((a : ℕ) → count ≤ a → numbered_key keys a ≡ None) → (a : ℕ) → count ≤ a
+    → numbered_key new a ≡ None
 none_more keys new key count e n h a le =
-    ap (λ (l : List (Option (List ℕ))). numbered_key l a) (e ∙ ap (λ (k : Option (List ℕ)). keys ++ k ∷ []) n) ∙ got_more keys a ∙ h a le
+    ap (λ (l : List (Option (List ℕ))). numbered_key l a) (e
+    ∙ ap (λ (k : Option (List ℕ)). keys ++ k ∷ []) n) ∙ got_more keys a ∙ h a le
 
 pub none_beyond : (keys : List (Option (List ℕ))) (count : ℕ) → length keys ≤ count → (a : ℕ)
     → count ≤ a → numbered_key keys a ≡ None
@@ -87,7 +101,8 @@ none_beyond [] count le zero below = refl
 none_beyond [] count le (suc a) below = refl
 none_beyond (key ∷ keys) count le zero below = absurd (omega (arith, le, below))
 none_beyond (key ∷ keys) zero le (suc a) below = absurd (omega (arith, le))
-none_beyond (key ∷ keys) (suc count) le (suc a) below = none_beyond keys count (omega (arith, le)) a (omega (arith, below))
+none_beyond (key ∷ keys) (suc count) le (suc a) below =
+    none_beyond keys count (omega (arith, le)) a (omega (arith, below))
 
 pub cut_same : (keys : List (Option (List ℕ))) (count : ℕ)
     → ((a : ℕ) → count ≤ a → numbered_key keys a ≡ None) → (a : ℕ)
@@ -99,4 +114,5 @@ cut_same keys zero h a = nothing a ∙ sym (h a (omega arith))
     nothing (suc a) = refl
 cut_same [] (suc count) h a = refl
 cut_same (key ∷ keys) (suc count) h zero = refl
-cut_same (key ∷ keys) (suc count) h (suc a) = cut_same keys count (λ b le. h (suc b) (omega (arith, le))) a
+cut_same (key ∷ keys) (suc count) h (suc a) =
+    cut_same keys count (λ b le. h (suc b) (omega (arith, le))) a

@@ -6,7 +6,8 @@ use Rattle.ident_refs.specs.ValueViews.{value_view}
 use Rattle.ident_refs.specs.ListValues.{Value}
 
 pub same_answer : {E : Type 0} (r : Result (Option CodeValue) E) (a b : Option Value) → a ≡ b
-    → IfOk r (λ (v : Option CodeValue). option_map value_view v ≡ a) → IfOk r (λ (v : Option CodeValue). option_map value_view v ≡ b)
+    → IfOk r (λ (v : Option CodeValue). option_map value_view v ≡ a)
+    → IfOk r (λ (v : Option CodeValue). option_map value_view v ≡ b)
 same_answer (Ok v) a b e h = h ∙ e
 same_answer (Err x) a b e h = h
 

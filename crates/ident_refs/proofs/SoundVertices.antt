@@ -26,7 +26,8 @@ both_true false b h = absurd (grind arith)
 pub clean_front : (l : LineForm) (vs : List Vertex) (v : Vertex) (ws : List Vertex) → vs ≡ v ∷ ws
     → are_clean l vs ≡ true → (vertex_fault l v.fields ≡ None) × (are_clean l ws ≡ true)
 clean_front l vs v ws e h =
-    let b = both_true (is_clean l v) (are_clean l ws) (subst (λ (us : List Vertex). are_clean l us ≡ true) e h) in
+    let b = both_true (is_clean l v) (are_clean l ws)
+    (subst (λ (us : List Vertex). are_clean l us ≡ true) e h) in
     (unbroken (vertex_fault l v.fields) _ b.0, b.1)
 
 pub sound_clean : (role : Role) (l : LineForm) (vs : List Vertex) → is_sound_stroke role l vs ≡ true
@@ -43,7 +44,8 @@ pub corner_read : (l : LineForm) (v : Vertex) (lent : List (List ℕ)) (ns : Lis
     → ◌≡◌ {A = KeyVertex} (record { kind = v.kind; numbers = ns }) (key_vertex_of l v)
 corner_read l v lent ns e r =
     let n = same_value (vertex_fault l lent) (numbers_on (line_axes l) lent) ns r in
-    ap (λ (m : List ℤ). the_corner v.kind m) (n ∙ ap (λ (fs : List (List ℕ)). numbers_on (line_axes l) fs) e)
+    ap (λ (m : List ℤ). the_corner v.kind m) (n
+    ∙ ap (λ (fs : List (List ℕ)). numbers_on (line_axes l) fs) e)
   where
     the_corner : Kind → List ℤ → KeyVertex
     the_corner k m = record { kind = k; numbers = m }
@@ -56,7 +58,9 @@ never (Some g) f a e h = cc
 pub never_at : (l : LineForm) (fields lent : List (List ℕ)) (f : ValueFault)
     → vertex_fault l fields ≡ None → lent ≡ fields
     → Err f ≡ reading (vertex_fault l lent) (numbers_on (line_axes l) lent) → ⊥
-never_at l fields lent f e s h = never (vertex_fault l lent) f (numbers_on (line_axes l) lent) (ap (λ (fs : List (List ℕ)). vertex_fault l fs) s ∙ e) h
+never_at l fields lent f e s h =
+    never (vertex_fault l lent) f (numbers_on (line_axes l) lent)
+    (ap (λ (fs : List (List ℕ)). vertex_fault l fs) s ∙ e) h
 
 -- ---- columns
 pub value_ok : (o : Option ValueFault) (a v : FieldValue) → Ok v ≡ reading o a

@@ -24,7 +24,8 @@ pub record IsSpan (codes : Codes) (cs : List Column) (n p : ℕ) (s : Span) : Ty
   pub wide : s.end ≡ s.start + width s.form
   pub high : s.end ≤ n + widths cs
   pub value : (words : List (List ℕ))
-      → slice_index_or (columns_values codes cs words) p None ≡ form_value codes s.form (take (width s.form) (drop (s.start - n) words))
+      → slice_index_or (columns_values codes cs words) p None
+      ≡ form_value codes s.form (take (width s.form) (drop (s.start - n) words))
 
 abbrev pub Spanned : Codes → List Column → ℕ → ℕ → Option Span → Type 0
 Spanned codes cs n p None = ⊤
@@ -41,7 +42,9 @@ under codes c cs n p (Some s) h = record {
   wide = h.wide;
   high = let l = h.high in omega (arith, l);
   value = λ words. h.value (drop (width c.form) words)
-      ∙ ap (λ (ws : List (List ℕ)). form_value codes s.form (take (width s.form) ws)) (drop_more (s.start - (n + width c.form)) (width c.form) (s.start - n) words (let l = h.low in omega (arith, l)));
+      ∙ ap (λ (ws : List (List ℕ)). form_value codes s.form (take (width s.form) ws))
+      (drop_more (s.start - (n + width c.form)) (width c.form) (s.start - n) words
+      (let l = h.low in omega (arith, l)));
 }
 
 pub spanned : (codes : Codes) (n : ℕ) (cs : List Column) (p : ℕ)
@@ -51,14 +54,18 @@ spanned codes n (c ∷ cs) zero = record {
   low = omega arith;
   wide = refl;
   high = omega arith;
-  value = λ words. let e : 0 ≡ n - n = omega arith in ap (λ (d : ℕ). form_value codes c.form (take (width c.form) (drop d words))) e;
+  value = λ words. let e : 0 ≡ n - n = omega arith in
+      ap (λ (d : ℕ). form_value codes c.form (take (width c.form) (drop d words))) e;
 }
-spanned codes n (c ∷ cs) (suc p) = under codes c cs n p (slice_get (spans_from (n + width c.form) cs) p) (spanned codes (n + width c.form) cs p)
+spanned codes n (c ∷ cs) (suc p) =
+    under codes c cs n p (slice_get (spans_from (n + width c.form) cs) p)
+    (spanned codes (n + width c.form) cs p)
 
 pub columns_values_length : (codes : Codes) (cs : List Column) (words : List (List ℕ))
     → length (columns_values codes cs words) ≡ length cs
 columns_values_length codes [] words = refl
-columns_values_length codes (c ∷ cs) words = ap suc (columns_values_length codes cs (drop (width c.form) words))
+columns_values_length codes (c ∷ cs) words =
+    ap suc (columns_values_length codes cs (drop (width c.form) words))
 
 pub spans_length : (n : ℕ) (cs : List Column) → length (spans_from n cs) ≡ length cs
 spans_length n [] = refl
@@ -88,7 +95,8 @@ width_most model.HAlignment = omega arith
 width_most model.VAlignment = omega arith
 width_most (model.Reference k) = omega arith
 
-pub spans_step : (i : ℕ) (columns : List CodeColumn) (c : CodeColumn) (start w : ℕ) (spans new all : List Span)
+pub spans_step : (i : ℕ) (columns : List CodeColumn) (c : CodeColumn) (start w : ℕ)
+    (spans new all : List Span)
     → i < length columns → c ≡ get_or columns i c → w ≡ width (form_of c.form)
     → new ≡ spans ++ record { form = form_of c.form; start = start; end = start + w } ∷ []
     → spans ++ spans_from start (drop i (columns_view columns)) ≡ all
@@ -98,25 +106,34 @@ spans_step i columns c start w spans new all lt at v n inv =
     let rest = drop (i + 1) (columns_view columns) in
     ap (λ (l : List Span). l ++ spans_from (start + w) rest) n
     ∙ append_assoc spans _ _
-    ∙ ap (λ (u : ℕ). spans ++ record { form = form_of c.form; start = start; end = start + u } ∷ spans_from (start + u) rest) v
+    ∙ ap (λ (u : ℕ). spans ++ record {
+      form = form_of c.form;
+      start = start;
+      end = start + u;
+    } ∷ spans_from (start + u) rest) v
     ∙ ap (λ (cs : List Column). spans ++ spans_from start cs) (sym s.0) ∙ inv
 
 pub widths_step : (i : ℕ) (columns : List CodeColumn) (c : CodeColumn) (start w all : ℕ)
     → i < length columns → c ≡ get_or columns i c → w ≡ width (form_of c.form)
-    → start + widths (drop i (columns_view columns)) ≡ all → (start + w) + widths (drop (i + 1) (columns_view columns)) ≡ all
+    → start + widths (drop i (columns_view columns)) ≡ all
+    → (start + w) + widths (drop (i + 1) (columns_view columns)) ≡ all
 widths_step i columns c start w all lt at v inv =
     let s = ap widths (split column_view i columns c lt at).0 in
     omega (arith, s, v, inv)
 
 -- ---- values at places
 -- the span of the code at a place
-pub span_here : (codes : Codes) (columns : List Column) (spans : List CodeSpan) (p : ℕ) (s : CodeSpan)
+pub span_here : (codes : Codes) (columns : List Column) (spans : List CodeSpan) (p : ℕ)
+    (s : CodeSpan)
     → map span_view spans ≡ spans_from 1 columns
     → p < length spans → s ≡ get_or spans p s → IsSpan codes columns 1 p (span_view s)
 span_here codes columns spans p s e lt at =
-    let got : slice_get (spans_from 1 columns) p ≡ Some (span_view s) = ap (λ (l : List Span). slice_get l p) (sym e) ∙ got_mapped span_view spans p s lt at in
+    let got : slice_get (spans_from 1 columns) p
+    ≡ Some (span_view s) = ap (λ (l : List Span). slice_get l p) (sym e)
+    ∙ got_mapped span_view spans p s lt at in
     subst (Spanned codes columns 1 p) got (spanned codes 1 columns p)
 
 pub spans_count : (columns : List Column) (spans : List CodeSpan)
     → map span_view spans ≡ spans_from 1 columns → length spans ≡ length columns
-spans_count columns spans e = sym (length-map spans span_view) ∙ ap (λ (l : List Span). length l) e ∙ spans_length 1 columns
+spans_count columns spans e = sym (length-map spans span_view) ∙ ap (λ (l : List Span). length l) e
+    ∙ spans_length 1 columns

@@ -32,10 +32,13 @@ by_lt {P} a b f g = of (nat_lt a b) refl
 
 -- ---- what the machine gives is the first fault
 front_is : (all p : List Tok) (k : ℕ) → all ≡ p ++ drop k all → p ≡ take k all
-front_is all p k e = append_cancel_right p (take k all) (drop k all) (sym e ∙ sym (take-append-drop k all))
+front_is all p k e =
+    append_cancel_right p (take k all) (drop k all) (sym e ∙ sym (take-append-drop k all))
 
 not_all : (all : List Tok) (k : ℕ) (t : Tok) (r : List Tok) → drop k all ≡ t ∷ r → k < length all
-not_all all k t r e = by_lt k (length all) (λ (h : k < length all). h) (λ (h : length all ≤ k). let f = drop_all k all h in absurd (cc))
+not_all all k t r e =
+    by_lt k (length all) (λ (h : k < length all). h)
+    (λ (h : length all ≤ k). let f = drop_all k all h in absurd (cc))
 
 pub first_fault : (all : List Tok) (f : fault.SyntaxFault)
     → IsReportedBy all (run all (start 32 ∷ [])) f → IsFirstFault all f
@@ -47,7 +50,8 @@ first_fault all (faults.At c None) h = of (run all (start 32 ∷ [])) refl h
     of whole e h = absurd h
     of (stopped d v) e h = absurd h
     of short e h =
-        let s = fault_stands all (code_of c) [] (subst (λ (o : Outcome). StopsAt o (code_of c) []) (sym e) (h, refl)) in
+        let s = fault_stands all (code_of c) []
+        (subst (λ (o : Outcome). StopsAt o (code_of c) []) (sym e) (h, refl)) in
         let q : s.0 ≡ all = sym (s.1 ∙ append-nil s.0) in
         subst (λ (p : List Tok). IsFault p [] × IsFaultCode p [] (code_of c)) q (s.2, s.3)
 first_fault all (faults.At c (Some k)) h = of (run all (start 32 ∷ [])) refl h
@@ -57,17 +61,24 @@ first_fault all (faults.At c (Some k)) h = of (run all (start 32 ∷ [])) refl h
     of whole e h = absurd h
     of short e h = absurd h
     of (stopped d v) e h =
-        let s = fault_stands all (code_of c) (drop k all) (subst (λ (o : Outcome). StopsAt o (code_of c) (drop k all)) (sym e) (sym h.0, h.1)) in
+        let s = fault_stands all (code_of c) (drop k all)
+        (subst (λ (o : Outcome). StopsAt o (code_of c) (drop k all)) (sym e) (sym h.0, h.1)) in
         let b = stop_of all (start 32 ∷ []) d v e in
         let q = front_is all s.0 k s.1 in
-        let n = not_all all k b.at b.behind (sym h.1 ∙ b.is) in
-        (n, subst (λ (p : List Tok). IsFault p (drop k all)) q s.2, subst (λ (p : List Tok). IsFaultCode p (drop k all) (code_of c)) q s.3)
+        let n = not_all all k b.at b.behind (sym h.1 ∙ b.is) in (
+          n,
+          subst (λ (p : List Tok). IsFault p (drop k all)) q s.2,
+          subst (λ (p : List Tok). IsFaultCode p (drop k all) (code_of c)) q s.3,
+        )
 
 -- a token behind a whole model
 pub trailing : (all v : List Tok) (t : Tok) (r : List Tok) (m : ModelSyntax) (f : fault.SyntaxFault)
     → v ≡ t ∷ r → IsTransfer 32 m all v → IsFaultAt all v wants.Other f → IsFirstFault all f
 trailing all v t r m f e x h =
-    first_fault all f (subst (λ (o : Outcome). IsReportedBy all o f) (sym (transfer_drives 32 m all v x [])) (subst (λ (w : List Tok). IsFaultAt all w wants.Other f → IsReportedBy all (run w []) f) (sym e) (told t f) h))
+    first_fault all f
+    (subst (λ (o : Outcome). IsReportedBy all o f) (sym (transfer_drives 32 m all v x []))
+    (subst (λ (w : List Tok). IsFaultAt all w wants.Other f → IsReportedBy all (run w []) f)
+    (sym e) (told t f) h))
   where
     told : (t : Tok) (f : fault.SyntaxFault) → IsFaultAt all (t ∷ r) wants.Other f
         → IsReportedBy all (run (t ∷ r) []) f
@@ -77,7 +88,8 @@ trailing all v t r m f e x h =
 
 -- ---- a model has no fault
 pub begins_before : (p q : List Tok) → Begins (p ++ q) → Begins p
-begins_before p q (more, m, x) = (q ++ more, m, subst (λ (w : List Tok). Spells m w) (append_assoc p q more) x)
+begins_before p q (more, m, x) =
+    (q ++ more, m, subst (λ (w : List Tok). Spells m w) (append_assoc p q more) x)
 
 abbrev At : List Tok → ℕ → Type 0
 At all k = (t : Tok) × (r : List Tok) × (all ≡ take k all ++ (t ∷ r)) × (drop k all ≡ t ∷ r)
@@ -89,8 +101,13 @@ at : (all : List Tok) (k : ℕ) → k < length all → At all k
 at all k h = of (drop k all) refl
   where
     of : (d : List Tok) → drop k all ≡ d → At all k
-    of [] e = let f = take-append-drop k all in let g : take k all ≡ all = sym (append-nil (take k all)) ∙ sym (ap (λ (z : List Tok). take k all ++ z) e) ∙ f in absurd (shorter all k h g)
-    of (t ∷ r) e = (t, r, sym (take-append-drop k all) ∙ ap (λ (z : List Tok). take k all ++ z) e, e)
+    of [] e =
+        let f = take-append-drop k all in
+        let g : take k all ≡ all = sym (append-nil (take k all))
+        ∙ sym (ap (λ (z : List Tok). take k all ++ z) e) ∙ f in
+        absurd (shorter all k h g)
+    of (t ∷ r) e =
+        (t, r, sym (take-append-drop k all) ∙ ap (λ (z : List Tok). take k all ++ z) e, e)
 
 at_fault : (p d : List Tok) (t : Tok) (r : List Tok) → d ≡ t ∷ r → IsFault p d
     → Begins (p ++ (t ∷ [])) → ⊥
@@ -107,13 +124,20 @@ never_all : (all : List Tok) (k : ℕ) → k < length all → IsFault (take k al
     → Begins all → ⊥
 never_all all k h f b =
     let a = at all k h in
-    at_fault (take k all) (drop k all) a.0 a.1 a.3 f (begins_before (take k all ++ (a.0 ∷ [])) a.1 (subst Begins (a.2 ∙ one_more (take k all) a.1 a.0) b))
+    at_fault (take k all) (drop k all) a.0 a.1 a.3 f
+    (begins_before (take k all ++ (a.0 ∷ [])) a.1
+    (subst Begins (a.2 ∙ one_more (take k all) a.1 a.0) b))
 
 pub no_model : (all : List Tok) (f : fault.SyntaxFault) (m : ModelSyntax) → IsFirstFault all f
     → Spells m all → f ≡ faults.Memory
 no_model all faults.Memory m h x = refl
 no_model all (faults.At c None) m h x = absurd (h.0.1 m x)
-no_model all (faults.At c (Some k)) m h x = absurd (never_all all k h.0 h.1 ([], m, subst (λ (w : List Tok). Spells m w) (sym (append-nil all)) x))
+no_model all (faults.At c (Some k)) m h x =
+    absurd (never_all all k h.0 h.1 (
+      [],
+      m,
+      subst (λ (w : List Tok). Spells m w) (sym (append-nil all)) x,
+    ))
 
 -- ---- only one
 unique : (P : Code → Type 0) (cs : List Code) (c d : Code) → IsFirst P cs c → IsFirst P cs d → c ≡ d
@@ -159,16 +183,22 @@ not_before all k l h g f b =
     let a = at all k g in
     let n = l - suc k in
     let q : l ≡ k + suc n = omega arith in
-    let e = ap (λ (l : ℕ). take l all) q ∙ take-add k (suc n) all ∙ ap (λ (d : List Tok). take k all ++ take (suc n) d) a.3 ∙ one_more (take k all) (take n a.1) a.0 in
-    at_fault (take k all) (drop k all) a.0 a.1 a.3 f (begins_before (take k all ++ (a.0 ∷ [])) (take (l - suc k) a.1) (subst Begins e b))
+    let e = ap (λ (l : ℕ). take l all) q ∙ take-add k (suc n) all
+    ∙ ap (λ (d : List Tok). take k all ++ take (suc n) d) a.3
+    ∙ one_more (take k all) (take n a.1) a.0 in
+    at_fault (take k all) (drop k all) a.0 a.1 a.3 f
+    (begins_before (take k all ++ (a.0 ∷ [])) (take (l - suc k) a.1) (subst Begins e b))
 
 pub same_fault : (all : List Tok) (f g : fault.SyntaxFault) → (f ≡ faults.Memory → ⊥)
     → (g ≡ faults.Memory → ⊥) → IsFirstFault all f → IsFirstFault all g → f ≡ g
 same_fault all faults.Memory g m n h k = absurd (m refl)
 same_fault all (faults.At c a) faults.Memory m n h k = absurd (n refl)
-same_fault all (faults.At c None) (faults.At d None) m n h k = ap (λ (c : code.SyntaxCode). faults.At c None) (same_code c d (h.1 ∙ sym k.1))
-same_fault all (faults.At c None) (faults.At d (Some l)) m n h k = absurd (never_all all l k.0 k.1 h.0.0)
-same_fault all (faults.At c (Some i)) (faults.At d None) m n h k = absurd (never_all all i h.0 h.1 k.0.0)
+same_fault all (faults.At c None) (faults.At d None) m n h k =
+    ap (λ (c : code.SyntaxCode). faults.At c None) (same_code c d (h.1 ∙ sym k.1))
+same_fault all (faults.At c None) (faults.At d (Some l)) m n h k =
+    absurd (never_all all l k.0 k.1 h.0.0)
+same_fault all (faults.At c (Some i)) (faults.At d None) m n h k =
+    absurd (never_all all i h.0 h.1 k.0.0)
 same_fault all (faults.At c (Some i)) (faults.At d (Some l)) m n h k = of (h.0) (k.0)
   where
     begins_at : (j : ℕ) → j < length all → IsFault (take j all) (drop j all) → Begins (take j all)
@@ -178,9 +208,14 @@ same_fault all (faults.At c (Some i)) (faults.At d (Some l)) m n h k = of (h.0) 
         → IsFaultCode (take l all) (drop l all) (code_of d)
         → faults.At c (Some i) ≡ faults.At d (Some l)
     at_one i l e g h =
-        let q = same_code c d (code_unique (take l all) (drop l all) (code_of c) (code_of d) (subst (λ (i : ℕ). IsFaultCode (take i all) (drop i all) (code_of c)) e g) h) in
-        ap (λ (i : ℕ). faults.At c (Some i)) e ∙ ap (λ (c : code.SyntaxCode). faults.At c (Some l)) q
+        let q = same_code c d
+        (code_unique (take l all) (drop l all) (code_of c) (code_of d)
+        (subst (λ (i : ℕ). IsFaultCode (take i all) (drop i all) (code_of c)) e g) h) in
+        ap (λ (i : ℕ). faults.At c (Some i)) e
+        ∙ ap (λ (c : code.SyntaxCode). faults.At c (Some l)) q
 
     of : i < length all → l < length all → faults.At c (Some i) ≡ faults.At d (Some l)
     of p q = by_lt i l (λ (x : i < l). absurd (not_before all i l x p h.1 (begins_at l q k.1)))
-        (λ (x : l ≤ i). by_lt l i (λ (y : l < i). absurd (not_before all l i y q k.1 (begins_at i p h.1))) (λ (y : i ≤ l). at_one i l (omega arith) h.2 k.2))
+        (λ (x : l ≤ i). by_lt l i
+        (λ (y : l < i). absurd (not_before all l i y q k.1 (begins_at i p h.1)))
+        (λ (y : i ≤ l). at_one i l (omega arith) h.2 k.2))

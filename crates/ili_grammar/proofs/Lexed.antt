@@ -45,7 +45,10 @@ sign_digits _ minus = refl
 
 fraction_digits : (ds : List ℕ) → digits (fraction ds) ≤ length ds
 fraction_digits [] = omega arith
-fraction_digits (d ∷ ds) = let e : digits (46 ∷ d ∷ ds) ≡ digits (d ∷ ds) = digits_append (46 ∷ []) (d ∷ ds) ∙ none (digits (d ∷ ds)) in omega (arith, e, count_by-le-length is_ascii_digit (d ∷ ds))
+fraction_digits (d ∷ ds) =
+    let e : digits (46 ∷ d ∷ ds) ≡ digits (d ∷ ds) = digits_append (46 ∷ []) (d ∷ ds)
+    ∙ none (digits (d ∷ ds)) in
+    omega (arith, e, count_by-le-length is_ascii_digit (d ∷ ds))
   where
     none : (n : ℕ) → 0 + n ≡ n
     none n = omega arith
@@ -59,7 +62,9 @@ behind_sign _ xs minus = refl
 behind_digits : (whole xs : List ℕ) → AllPass is_ascii_digit whole
     → decimals (whole ++ xs) ≡ decimals xs
 behind_digits [] xs all = refl
-behind_digits (b ∷ bs) xs all = rw (no_stop b (All-head (λ x. is_ascii_digit x ≡ true) b bs all)) (behind_digits bs xs (All-tail (λ x. is_ascii_digit x ≡ true) b bs all))
+behind_digits (b ∷ bs) xs all =
+    rw (no_stop b (All-head (λ x. is_ascii_digit x ≡ true) b bs all))
+    (behind_digits bs xs (All-tail (λ x. is_ascii_digit x ≡ true) b bs all))
   where
     no_stop : (b : ℕ) → is_ascii_digit b ≡ true → nat_eq b 46 ≡ false
     no_stop b e = grind (arith, nat_tests)
@@ -75,9 +80,20 @@ number_short : (bytes : List ℕ) (n : IsNumber bytes) → IsShort n → is_shor
 number_short bytes n s =
     let tail = n.whole ++ fraction n.decimals in
     let all : digits bytes ≡ digits n.sign + (digits n.whole + digits (fraction n.decimals)) =
-    ap digits n.made ∙ digits_append n.sign tail ∙ ap (λ (k : ℕ). digits n.sign + k) (digits_append n.whole (fraction n.decimals)) in
-    let behind : decimals bytes ≡ length n.decimals = ap decimals n.made ∙ behind_sign n.sign tail n.signed ∙ behind_digits n.whole (fraction n.decimals) n.digits ∙ of_fraction n.decimals in
-    both_true (le_true (digits bytes) 18 (omega (arith, all, sign_digits n.sign n.signed, count_by-le-length is_ascii_digit n.whole, fraction_digits n.decimals, s.all)))
+    ap digits n.made ∙ digits_append n.sign tail
+    ∙ ap (λ (k : ℕ). digits n.sign + k) (digits_append n.whole (fraction n.decimals)) in
+    let behind : decimals bytes ≡ length n.decimals = ap decimals n.made
+    ∙ behind_sign n.sign tail n.signed ∙ behind_digits n.whole (fraction n.decimals) n.digits
+    ∙ of_fraction n.decimals in
+    both_true (le_true (digits bytes) 18
+    (omega (
+      arith,
+      all,
+      sign_digits n.sign n.signed,
+      count_by-le-length is_ascii_digit n.whole,
+      fraction_digits n.decimals,
+      s.all,
+    )))
     (le_true (decimals bytes) 9 (omega (arith, behind, s.behind)))
 
 hex_short : (bytes : List ℕ) → IsHex bytes → length bytes ≤ 4
@@ -86,7 +102,9 @@ hex_short bytes h = let e = ap (length {A = ℕ}) h.made in omega (arith, e, h.f
 -- ---- all tokens
 token_short : (text : List ℕ) (t : Token) → IsTaken (drop t.from text) t.kind (t.upto - t.from)
     → is_short_token text t ≡ true
-token_short text t h = both_true (number (same_kind grammar.number (kind_of t.kind)) refl) (hex (same_kind grammar.hex (kind_of t.kind)) refl)
+token_short text t h =
+    both_true (number (same_kind grammar.number (kind_of t.kind)) refl)
+    (hex (same_kind grammar.hex (kind_of t.kind)) refl)
   where
     short : HasFewDigits kind.Number (bytes_of text t) → is_short (bytes_of text t) ≡ true
     short (n, s) = number_short (bytes_of text t) n s
@@ -103,10 +121,13 @@ token_short text t h = both_true (number (same_kind grammar.number (kind_of t.ki
     hex false q = refl
     hex true q =
         let k = kinds_differ t.kind kind.Hex (sym (same_is grammar.hex (kind_of t.kind) q)) in
-        le_true (length (bytes_of text t)) 4 (hex_short (bytes_of text t) (subst (λ (k : Kind). IsToken k (bytes_of text t)) k h.longest.stands.token))
+        le_true (length (bytes_of text t)) 4
+        (hex_short (bytes_of text t)
+        (subst (λ (k : Kind). IsToken k (bytes_of text t)) k h.longest.stands.token))
 
 pub short_tokens : (text : List ℕ) (ts : List Token) → AreLongest text ts → are_short text ts ≡ true
 short_tokens text [] all = refl
 short_tokens text (t ∷ ts) all =
     let P : Token → Type 0 = λ t. IsTaken (drop t.from text) t.kind (t.upto - t.from) in
-    both_true (token_short text t (All-head P t ts all)) (short_tokens text ts (All-tail P t ts all))
+    both_true (token_short text t (All-head P t ts all))
+    (short_tokens text ts (All-tail P t ts all))

@@ -22,7 +22,8 @@ and_elements [] es = es
 and_elements (d ∷ ds) es = and_element d (and_elements ds es)
 
 abbrev pub ElementsFrom : ℕ → List Element → List Tok → List Tok → Type 0
-ElementsFrom d ds w v = (es : Elements) (r : List Tok) → IsElements d es v r → IsElements d (and_elements ds es) w r
+ElementsFrom d ds w v = (es : Elements) (r : List Tok) → IsElements d es v r
+    → IsElements d (and_elements ds es) w r
 
 no_more : (ds : List Element) → and_elements ds no_elements ≡ elements_in ds
 no_more [] = refl
@@ -42,23 +43,36 @@ pub elements_start : (d : ℕ) (w : List Tok) → ElementsFrom d [] w w
 elements_start d w es r x = x
 
 -- behind an element and a comma
-pub elements_on : (d : ℕ) (olds news : List stored.Element) (e : stored.Element) (w v u r : List Tok) (i : Info)
+pub elements_on : (d : ℕ) (olds news : List stored.Element) (e : stored.Element)
+    (w v u r : List Tok) (i : Info)
     → news ≡ olds ++ e ∷ [] → ElementsFrom d (map element_of olds) w v
-    → IsElement d (element_of e) v u → u ≡ tok comma i ∷ r → ElementsFrom d (map element_of news) w r
+    → IsElement d (element_of e) v u → u ≡ tok comma i ∷ r
+    → ElementsFrom d (map element_of news) w r
 elements_on d olds news e w v u r i q h x p es z y =
-    subst (λ (ds : List Element). IsElements d (and_elements ds es) w z) (sym (ap (map element_of) q ∙ map_push element_of olds e))
-    (subst (λ (t : Elements). IsElements d t w z) (sym (one_more (map element_of olds) (element_of e) es))
-    (h (and_element (element_of e) es) z (more_elements d i (element_of e) es v r z (subst (λ (u : List Tok). IsElement d (element_of e) v u) p x) y)))
+    subst (λ (ds : List Element). IsElements d (and_elements ds es) w z)
+    (sym (ap (map element_of) q ∙ map_push element_of olds e))
+    (subst (λ (t : Elements). IsElements d t w z)
+    (sym (one_more (map element_of olds) (element_of e) es))
+    (h (and_element (element_of e) es) z
+    (more_elements d i (element_of e) es v r z
+    (subst (λ (u : List Tok). IsElement d (element_of e) v u) p x) y)))
 
 -- behind the last one
-pub elements_end : (d : ℕ) (olds news : List stored.Element) (e : stored.Element) (w v u r : List Tok) (i : Info)
+pub elements_end : (d : ℕ) (olds news : List stored.Element) (e : stored.Element)
+    (w v u r : List Tok) (i : Info)
     → news ≡ olds ++ e ∷ [] → ElementsFrom d (map element_of olds) w v
-    → IsElement d (element_of e) v u → u ≡ tok right_paren i ∷ r → IsElements d (elements_of news) w r
+    → IsElement d (element_of e) v u → u ≡ tok right_paren i ∷ r
+    → IsElements d (elements_of news) w r
 elements_end d olds news e w v u r i q h x p =
-    let all : elements_of news ≡ and_elements (map element_of olds) (and_element (element_of e) no_elements) =
-    ap elements_in (ap (map element_of) q ∙ map_push element_of olds e) ∙ sym (no_more (map element_of olds ++ element_of e ∷ [])) ∙ one_more (map element_of olds) (element_of e) no_elements in
+    let all : elements_of news ≡ and_elements (map element_of olds)
+    (and_element (element_of e) no_elements) =
+    ap elements_in (ap (map element_of) q ∙ map_push element_of olds e)
+    ∙ sym (no_more (map element_of olds ++ element_of e ∷ []))
+    ∙ one_more (map element_of olds) (element_of e) no_elements in
     subst (λ (t : Elements). IsElements d t w r) (sym all)
-    (h (and_element (element_of e) no_elements) r (last_element d i (element_of e) v r (subst (λ (u : List Tok). IsElement d (element_of e) v u) p x)))
+    (h (and_element (element_of e) no_elements) r
+    (last_element d i (element_of e) v r
+    (subst (λ (u : List Tok). IsElement d (element_of e) v u) p x)))
 
 -- ---- parts
 pub parts_read : (d e : ℕ) (es : Elements) (w l r : List Tok) (i : Info) → d ≡ suc e
@@ -66,17 +80,23 @@ pub parts_read : (d e : ℕ) (es : Elements) (w l r : List Tok) (i : Info) → d
     → IsElement d (an_element (ident n) es) (tok name n ∷ w) r
 parts_read d e es w l r i p q x n =
     subst (λ (d : ℕ). IsElement d (an_element (ident n) es) (tok name n ∷ w) r) (sym p)
-    (subst (λ (w : List Tok). IsElement (suc e) (an_element (ident n) es) (tok name n ∷ w) r) (sym q) (node (suc e) n es (tok left_paren i ∷ l) r (enumeration e i es l r x)))
+    (subst (λ (w : List Tok). IsElement (suc e) (an_element (ident n) es) (tok name n ∷ w) r)
+    (sym q) (node (suc e) n es (tok left_paren i ∷ l) r (enumeration e i es l r x)))
 
-pub element_read : (d : ℕ) (e : stored.Element) (x : Ident) (es : Elements) (w v r : List Tok) (i : Info)
+pub element_read : (d : ℕ) (e : stored.Element) (x : Ident) (es : Elements) (w v r : List Tok)
+    (i : Info)
     → element_of e ≡ an_element x es → x ≡ ident i → w ≡ tok name i ∷ v
-    → ((n : Info) → IsElement d (an_element (ident n) es) (tok name n ∷ v) r) → IsElement d (element_of e) w r
+    → ((n : Info) → IsElement d (an_element (ident n) es) (tok name n ∷ v) r)
+    → IsElement d (element_of e) w r
 element_read d e x es w v r i p q f h =
-    subst (λ (z : Element). IsElement d z w r) (sym (p ∙ ap (λ (x : Ident). an_element x es) q)) (subst (λ (w : List Tok). IsElement d (an_element (ident i) es) w r) (sym f) (h i))
+    subst (λ (z : Element). IsElement d z w r) (sym (p ∙ ap (λ (x : Ident). an_element x es) q))
+    (subst (λ (w : List Tok). IsElement d (an_element (ident i) es) w r) (sym f) (h i))
 
 pub parts_none : (d : ℕ) (es : List stored.Element) (w : List Tok) → es ≡ [] → (n : Info)
     → IsElement d (an_element (ident n) (elements_of es)) (tok name n ∷ w) w
-parts_none d es w q n = subst (λ (es : List stored.Element). IsElement d (an_element (ident n) (elements_of es)) (tok name n ∷ w) w) (sym q) (leaf d n w)
+parts_none d es w q n =
+    subst (λ (es : List stored.Element). IsElement d (an_element (ident n) (elements_of es))
+    (tok name n ∷ w) w) (sym q) (leaf d n w)
 
 -- ---- results
 pub if_ok : {A E : Type 0} (P Q : A → Type 0) (x : Result A E) → ((a : A) → P a → Q a) → IfOk x P

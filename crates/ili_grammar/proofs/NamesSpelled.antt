@@ -47,11 +47,13 @@ list_rest _ _ _ (more_names n i l w r d) s = list_rest l w r d s.1
 
 lists_rest : (ls : List (List Ident)) (w r : List Tok) → IsLists ls w r → Named w → Named r
 lists_rest _ _ _ (no_list r) s = s
-lists_rest _ _ _ (more_lists i l ls w u r d e) s = lists_rest ls u r e (list_rest l w (tok semicolon i ∷ u) d s)
+lists_rest _ _ _ (more_lists i l ls w u r d e) s =
+    lists_rest ls u r e (list_rest l w (tok semicolon i ∷ u) d s)
 
 idents_rest : (ls : List (List Ident)) (w r : List Tok) → IsIdents ls w r → Named w → Named r
 idents_rest _ _ _ (no_ident i j r) s = s
-idents_rest _ _ _ (idents i j l ls w u r d e) s = lists_rest ls u r e (list_rest l w (tok semicolon j ∷ u) d s)
+idents_rest _ _ _ (idents i j l ls w u r d e) s =
+    lists_rest ls u r e (list_rest l w (tok semicolon j ∷ u) d s)
 
 maybe_idents_rest : (ls : List (List Ident)) (w r : List Tok) → IsMaybeIdents ls w r → Named w
     → Named r
@@ -73,7 +75,9 @@ overlap_rest _ _ _ (no_overlap r) s = s
 overlap_rest _ _ _ (overlap i j k n r) s = s
 
 line_rest : (l : LineHead) (w r : List Tok) → IsLine l w r → Named w → Named r
-line_rest _ _ _ (line i j k v a b o w u x r f g d) s = overlap_rest o x r d (base_rest u x g (forms_rest a b w (tok (word VERTEX) k ∷ tok name v ∷ u) f s).1)
+line_rest _ _ _ (line i j k v a b o w u x r f g d) s =
+    overlap_rest o x r d
+    (base_rest u x g (forms_rest a b w (tok (word VERTEX) k ∷ tok name v ∷ u) f s).1)
 
 mutual
   enumeration_rest : (d : ℕ) (es : Elements) (w r : List Tok) → IsEnumeration d es w r → Named w
@@ -81,8 +85,10 @@ mutual
   enumeration_rest _ _ _ _ (enumeration d i es w r x) s = elements_rest d es w r x s
 
   elements_rest : (d : ℕ) (es : Elements) (w r : List Tok) → IsElements d es w r → Named w → Named r
-  elements_rest _ _ _ _ (last_element d i e w r x) s = element_rest d e w (tok right_paren i ∷ r) x s
-  elements_rest _ _ _ _ (more_elements d i e es w u r x y) s = elements_rest d es u r y (element_rest d e w (tok comma i ∷ u) x s)
+  elements_rest _ _ _ _ (last_element d i e w r x) s =
+      element_rest d e w (tok right_paren i ∷ r) x s
+  elements_rest _ _ _ _ (more_elements d i e es w u r x y) s =
+      elements_rest d es u r y (element_rest d e w (tok comma i ∷ u) x s)
 
   element_rest : (d : ℕ) (e : Element) (w r : List Tok) → IsElement d e w r → Named w → Named r
   element_rest _ _ _ _ (leaf d n r) s = s.1
@@ -110,21 +116,29 @@ mutual
   type_rest _ _ _ _ (valignment d t r) s = s
   type_rest _ _ _ _ (of_elements d es w r x) s = enumeration_rest d es w r x s
   type_rest _ _ _ _ (polyline d t l w r x) s = line_rest l w r x s
-  type_rest _ _ _ _ (surface d t l as_ is w u r x y) s = line_attributes_rest d as_ is u r y (line_rest l w u x s)
-  type_rest _ _ _ _ (area d t l as_ is w u r x y) s = line_attributes_rest d as_ is u r y (line_rest l w u x s)
+  type_rest _ _ _ _ (surface d t l as_ is w u r x y) s =
+      line_attributes_rest d as_ is u r y (line_rest l w u x s)
+  type_rest _ _ _ _ (area d t l as_ is w u r x y) s =
+      line_attributes_rest d as_ is u r y (line_rest l w u x s)
 
   line_attributes_rest : (d : ℕ) (as_ : Attributes) (is : List (List Ident)) (w r : List Tok)
       → IsLineAttributes d as_ is w r → Named w → Named r
   line_attributes_rest _ _ _ _ _ (no_line_attributes d r) s = s
-  line_attributes_rest _ _ _ _ _ (line_attributes d i j k as_ is w u r x y) s = maybe_idents_rest is u (tok (word END) k ∷ r) y (attributes_named d as_ w u x s).1
+  line_attributes_rest _ _ _ _ _ (line_attributes d i j k as_ is w u r x y) s =
+      maybe_idents_rest is u (tok (word END) k ∷ r) y (attributes_named d as_ w u x s).1
 
   attributes_named : (d : ℕ) (as_ : Attributes) (w r : List Tok) → IsAttributes d as_ w r → Named w
       → AreNamed as_ × Named r
   attributes_named _ _ _ _ (no_attribute d r) s = (tt, s)
   attributes_named _ _ _ _ (more_attributes d _ as_ w u r (mandatory d2 n i k c w2 u2 u3 x e) y) s =
-      let q = attributes_named d as_ u r y (explained_rest u2 (tok semicolon k ∷ u) e (content_rest d c w2 u2 x s.1)) in ((s.0, q.0), q.1)
-  attributes_named _ _ _ _ (more_attributes d _ as_ w u r (optional d2 n i j k c w2 u2 u3 x e) y) s =
-      let q = attributes_named d as_ u r y (explained_rest u2 (tok semicolon k ∷ u) e (content_rest d c w2 u2 x s.1)) in ((s.0, q.0), q.1)
+      let q = attributes_named d as_ u r y
+      (explained_rest u2 (tok semicolon k ∷ u) e (content_rest d c w2 u2 x s.1)) in
+      ((s.0, q.0), q.1)
+  attributes_named _ _ _ _ (more_attributes d _ as_ w u r (optional d2 n i j k c w2 u2 u3 x e) y)
+      s =
+      let q = attributes_named d as_ u r y
+      (explained_rest u2 (tok semicolon k ∷ u) e (content_rest d c w2 u2 x s.1)) in
+      ((s.0, q.0), q.1)
 
   content_rest : (d : ℕ) (c : Content) (w r : List Tok) → IsContent d c w r → Named w → Named r
   content_rest _ _ _ _ (value d t w r x) s = type_rest d t w r x s
@@ -134,7 +148,8 @@ mutual
 domains_rest : (L : ℕ) (ds : List DomainSyntax) (w r : List Tok) → IsDomains L ds w r → Named w
     → Named r
 domains_rest L _ _ _ (no_domain r) s = s
-domains_rest L _ _ _ (more_domains n i k t ds w u v r x y z) s = domains_rest L ds v r z (explained_rest u (tok semicolon k ∷ v) y (type_rest L t w u x s.1))
+domains_rest L _ _ _ (more_domains n i k t ds w u v r x y z) s =
+    domains_rest L ds v r z (explained_rest u (tok semicolon k ∷ v) y (type_rest L t w u x s.1))
 
 maybe_domains_rest : (L : ℕ) (ds : List DomainSyntax) (w r : List Tok) → IsMaybeDomains L ds w r
     → Named w → Named r
@@ -144,13 +159,16 @@ maybe_domains_rest L _ _ _ (with_domains i ds w r x) s = domains_rest L ds w r x
 table_named : (L : ℕ) (o : Bool) (t : TableSyntax) (w r : List Tok) → IsTable L o t w r → Named w
     → IsNamedTable t × Named r
 table_named L o _ _ _ (table i n j k m p as_ is w u r x y e) s =
-    let q = attributes_named L as_ w u x s.1 in
-    (record { name = s.0; attributes = q.0 }, (idents_rest is u (tok (word END) k ∷ tok name m ∷ tok semicolon p ∷ r) y q.1).1)
+    let q = attributes_named L as_ w u x s.1 in (
+      record { name = s.0; attributes = q.0 },
+      (idents_rest is u (tok (word END) k ∷ tok name m ∷ tok semicolon p ∷ r) y q.1).1,
+    )
 
 body_named : (L : ℕ) (ds : List DomainSyntax) (ts : List TableSyntax) (w r : List Tok)
     → IsBody L ds ts w r → Named w → All IsNamedTable ts × Named r
 body_named L _ _ _ _ (no_part r) s = (All-nil IsNamedTable, s)
-body_named L _ _ _ _ (and_domains i ds es ts w u r x y) s = body_named L es ts u r y (domains_rest L ds w u x s)
+body_named L _ _ _ _ (and_domains i ds es ts w u r x y) s =
+    body_named L es ts u r y (domains_rest L ds w u x s)
 body_named L _ _ _ _ (and_table ds t ts w u r x y) s =
     let p = table_named L false t w u x s in
     let q = body_named L ds ts u r y p.1 in (All-cons IsNamedTable t ts p.0 q.0, q.1)
@@ -174,8 +192,11 @@ topics_named L _ _ _ (and_optional_topic i t ts w u r x y) s =
 
 pub all_named : (L : ℕ) (m : ModelSyntax) (w r : List Tok) → IsTransfer L m w r → Named w
     → All IsNamedTopic m.topics
-all_named L _ _ _ (transfer a n b c d e f g h m os ds ts cs w u v x r p (a_model i n2 k m2 q ds2 ts2 w2 u2 r2 y z e2) t1 t2) s =
-    topics_named L ts u2 (tok (word END) k ∷ tok name m2 ∷ tok period q ∷ r2) z (maybe_domains_rest L ds w2 u2 y (maybe_domains_rest L os w u p s.1).1)
+all_named L _ _ _
+    (transfer a n b c d e f g h m os ds ts cs w u v x r p
+    (a_model i n2 k m2 q ds2 ts2 w2 u2 r2 y z e2) t1 t2) s =
+    topics_named L ts u2 (tok (word END) k ∷ tok name m2 ∷ tok period q ∷ r2) z
+    (maybe_domains_rest L ds w2 u2 y (maybe_domains_rest L os w u p s.1).1)
 
 -- ---- the tokens of a text
 token_named : (k : kind.Kind) (i : Info) (r : List Tok) → IsToken k i.text → Named r
@@ -204,7 +225,9 @@ named_behind : (bytes : List ℕ) (p : Option Token) (ts : List Token) → AreLo
 named_behind bytes p [] h = tt
 named_behind bytes p (t ∷ ts) h =
     let P : Token → Type 0 = λ t. IsTaken (drop t.from bytes) t.kind (t.upto - t.from) in
-    token_named t.kind (info_of bytes p t) (toks_behind bytes (Some t) ts) (All-head P t ts h).longest.stands.token (named_behind bytes (Some t) ts (All-tail P t ts h))
+    token_named t.kind (info_of bytes p t) (toks_behind bytes (Some t) ts)
+    (All-head P t ts h).longest.stands.token
+    (named_behind bytes (Some t) ts (All-tail P t ts h))
 
 pub tokens_named : (bytes : List ℕ) (ts : List Token) → AreLongest bytes ts → Named (toks bytes ts)
 unfolding toks

@@ -214,4 +214,6 @@ pub stuck_word : (all w u : List Tok) (n : ℕ) (k : keyword.Keyword) (f : fault
     → (k ≡ keywords.Coord2 → ⊥) → (k ≡ keywords.Coord3 → ⊥) → (k ≡ keywords.Dim1 → ⊥)
     → (k ≡ keywords.Dim2 → ⊥) → (k ≡ keywords.Radians → ⊥) → (k ≡ keywords.Grads → ⊥)
     → (k ≡ keywords.Degrees → ⊥) → IsFaultAt all w wants.Other f → Refuses all w (a_type n ∷ []) f
-stuck_word all w u n k fault (i, q) m a b c d e f g h x = stops all w (a_type n) wants.Other fault (type_asks n) (subst (Stuck (a_type n) wants.Other) (sym q) (no_step n k i m a b c d e f g h, no_limit n k)) x
+stuck_word all w u n k fault (i, q) m a b c d e f g h x =
+    stops all w (a_type n) wants.Other fault (type_asks n)
+    (subst (Stuck (a_type n) wants.Other) (sym q) (no_step n k i m a b c d e f g h, no_limit n k)) x

@@ -11,14 +11,17 @@ use Rattle.std.proofs.Math.Nat.{pow-suc}
 use Rattle.std.specs.Char.{is_ascii_digit}
 
 ten_more : (i m : ℕ) → 10 ^ i ≤ 10 ^ (m + i)
-ten_more i zero = let e : i ≡ 0 + i = omega arith in subst (λ (n : ℕ). 10 ^ i ≤ 10 ^ n) e (omega arith)
+ten_more i zero =
+    let e : i ≡ 0 + i = omega arith in subst (λ (n : ℕ). 10 ^ i ≤ 10 ^ n) e (omega arith)
 ten_more i (suc m) =
     let h = ten_more i m in
     let e : suc (m + i) ≡ suc m + i = omega arith in
     subst (λ (n : ℕ). 10 ^ i ≤ 10 ^ n) e (rw (pow-suc 10 (m + i)) (omega arith))
 
 ten_less : (k m : ℕ) → k ≤ m → 10 ^ k ≤ 10 ^ m
-ten_less k m h = let e : (m - k) + k ≡ m = omega arith in subst (λ (n : ℕ). 10 ^ k ≤ 10 ^ n) e (ten_more k (m - k))
+ten_less k m h =
+    let e : (m - k) + k ≡ m = omega arith in
+    subst (λ (n : ℕ). 10 ^ k ≤ 10 ^ n) e (ten_more k (m - k))
 
 digits_cons : (b : ℕ) (bs : List ℕ)
     → count_by is_ascii_digit (b ∷ bs) ≡ cond (is_ascii_digit b) 1 0 + count_by is_ascii_digit bs
@@ -44,19 +47,29 @@ read_less (b ∷ bs) n k h = of (λ m l g. read_less bs m l g) (is_ascii_digit b
 
     of : ((m l : ℕ) → m < 10 ^ l → read_from m bs < 10 ^ (l + count_by is_ascii_digit bs))
         → (t : Bool) → is_ascii_digit b ≡ t
-        → read_from (cond t ((n * 10) + (b - 48)) n) bs < 10 ^ (k + count_by is_ascii_digit (b ∷ bs))
+        → read_from (cond t ((n * 10) + (b - 48)) n) bs < 10 ^
+        (k + count_by is_ascii_digit (b ∷ bs))
     of more true e =
-        let c : (k + count_by is_ascii_digit (b ∷ bs)) ≡ suc k + count_by is_ascii_digit bs = let d = digits_cons b bs in let f = one e in omega (arith, d, f) in
-        subst (λ (m : ℕ). read_from ((n * 10) + (b - 48)) bs < 10 ^ m) (sym c) (more ((n * 10) + (b - 48)) (suc k) (rw (pow-suc 10 k) (omega (arith, less b e, h))))
+        let c : (k + count_by is_ascii_digit (b ∷ bs))
+        ≡ suc k + count_by is_ascii_digit bs = let d = digits_cons b bs in
+        let f = one e in omega (arith, d, f) in
+        subst (λ (m : ℕ). read_from ((n * 10) + (b - 48)) bs < 10 ^ m) (sym c)
+        (more ((n * 10) + (b - 48)) (suc k) (rw (pow-suc 10 k) (omega (arith, less b e, h))))
     of more false e =
-        let c : (k + count_by is_ascii_digit (b ∷ bs)) ≡ k + count_by is_ascii_digit bs = let d = digits_cons b bs in let f = none e in omega (arith, d, f) in
+        let c : (k + count_by is_ascii_digit (b ∷ bs))
+        ≡ k + count_by is_ascii_digit bs = let d = digits_cons b bs in
+        let f = none e in omega (arith, d, f) in
         subst (λ (m : ℕ). read_from n bs < 10 ^ m) (sym c) (more n k h)
 
 pub small_number : (bs : List ℕ) → count_by is_ascii_digit bs ≤ 18 → nat_abs (signed bs) < 10 ^ 18
 small_number bs h = of (starts_with nat_eq bs (codes "-"))
   where
     less : read_from 0 bs < 10 ^ 18
-    less = omega (arith, read_less bs 0 0 (omega arith), ten_less (0 + count_by is_ascii_digit bs) 18 (omega (arith, h)))
+    less = omega (
+      arith,
+      read_less bs 0 0 (omega arith),
+      ten_less (0 + count_by is_ascii_digit bs) 18 (omega (arith, h)),
+    )
 
     minus : (n : ℕ) → n < 10 ^ 18 → nat_abs (neg_ℤ (pos n)) < 10 ^ 18
     minus zero l = l

@@ -66,11 +66,13 @@ list_rest _ _ _ (more_names n i l w r d) s = list_rest l w r d s
 
 lists_rest : (ls : List (List Ident)) (w r : List Tok) → IsLists ls w r → Small w → Small r
 lists_rest _ _ _ (no_list r) s = s
-lists_rest _ _ _ (more_lists i l ls w u r d e) s = lists_rest ls u r e (list_rest l w (tok semicolon i ∷ u) d s)
+lists_rest _ _ _ (more_lists i l ls w u r d e) s =
+    lists_rest ls u r e (list_rest l w (tok semicolon i ∷ u) d s)
 
 idents_rest : (ls : List (List Ident)) (w r : List Tok) → IsIdents ls w r → Small w → Small r
 idents_rest _ _ _ (no_ident i j r) s = s
-idents_rest _ _ _ (idents i j l ls w u r d e) s = lists_rest ls u r e (list_rest l w (tok semicolon j ∷ u) d s)
+idents_rest _ _ _ (idents i j l ls w u r d e) s =
+    lists_rest ls u r e (list_rest l w (tok semicolon j ∷ u) d s)
 
 maybe_idents_rest : (ls : List (List Ident)) (w r : List Tok) → IsMaybeIdents ls w r → Small w
     → Small r
@@ -94,7 +96,9 @@ overlap_small _ _ _ (overlap i j k n r) s = both s.this s.rest
 
 line_small : (l : LineHead) (w r : List Tok) → IsLine l w r → Small w
     → And (IfSome l.overlap IsSmall) (Small r)
-line_small _ _ _ (line i j k v a b o w u x r f g d) s = overlap_small o x r d (base_rest u x g (forms_rest a b w (tok (word VERTEX) k ∷ tok name v ∷ u) f s))
+line_small _ _ _ (line i j k v a b o w u x r f g d) s =
+    overlap_small o x r d
+    (base_rest u x g (forms_rest a b w (tok (word VERTEX) k ∷ tok name v ∷ u) f s))
 
 mutual
   enumeration_rest : (d : ℕ) (es : Elements) (w r : List Tok) → IsEnumeration d es w r → Small w
@@ -102,8 +106,10 @@ mutual
   enumeration_rest _ _ _ _ (enumeration d i es w r x) s = elements_rest d es w r x s
 
   elements_rest : (d : ℕ) (es : Elements) (w r : List Tok) → IsElements d es w r → Small w → Small r
-  elements_rest _ _ _ _ (last_element d i e w r x) s = element_rest d e w (tok right_paren i ∷ r) x s
-  elements_rest _ _ _ _ (more_elements d i e es w u r x y) s = elements_rest d es u r y (element_rest d e w (tok comma i ∷ u) x s)
+  elements_rest _ _ _ _ (last_element d i e w r x) s =
+      element_rest d e w (tok right_paren i ∷ r) x s
+  elements_rest _ _ _ _ (more_elements d i e es w u r x y) s =
+      elements_rest d es u r y (element_rest d e w (tok comma i ∷ u) x s)
 
   element_rest : (d : ℕ) (e : Element) (w r : List Tok) → IsElement d e w r → Small w → Small r
   element_rest _ _ _ _ (leaf d n r) s = s
@@ -117,9 +123,14 @@ mutual
   type_small : (d : ℕ) (t : TypeSyntax) (w r : List Tok) → IsType d t w r → Small w
       → And (IsSmallType t) (Small r)
   type_small _ _ _ _ (named d n r) s = both tt s
-  type_small _ _ _ _ (coord2 d t a b g h r) s = both ((s.this, s.rest.rest.this), (s.rest.this, s.rest.rest.rest.this)) s.rest.rest.rest.rest
+  type_small _ _ _ _ (coord2 d t a b g h r) s =
+      both ((s.this, s.rest.rest.this), (s.rest.this, s.rest.rest.rest.this)) s.rest.rest.rest.rest
   type_small _ _ _ _ (coord3 d t a b c g h j r) s =
-      both ((s.this, s.rest.rest.rest.this), (s.rest.this, s.rest.rest.rest.rest.this), (s.rest.rest.this, s.rest.rest.rest.rest.rest.this)) s.rest.rest.rest.rest.rest.rest
+      both (
+        (s.this, s.rest.rest.rest.this),
+        (s.rest.this, s.rest.rest.rest.rest.this),
+        (s.rest.rest.this, s.rest.rest.rest.rest.rest.this),
+      ) s.rest.rest.rest.rest.rest.rest
   type_small _ _ _ _ (dim1 d t a b r) s = both (s.this, s.rest.this) s.rest.rest
   type_small _ _ _ _ (dim2 d t a b r) s = both (s.this, s.rest.this) s.rest.rest
   type_small _ _ _ _ (radians d t a b r) s = both (s.this, s.rest.this) s.rest.rest
@@ -131,24 +142,37 @@ mutual
   type_small _ _ _ _ (halignment d t r) s = both tt s
   type_small _ _ _ _ (valignment d t r) s = both tt s
   type_small _ _ _ _ (of_elements d es w r x) s = both tt (enumeration_rest d es w r x s)
-  type_small _ _ _ _ (polyline d t l w r x) s = let p = line_small l w r x s in both (p.this, tt) p.rest
-  type_small _ _ _ _ (surface d t l as_ is w u r x y) s = let p = line_small l w u x s in let q = line_attributes_small d as_ is u r y p.rest in both (p.this, q.this) q.rest
-  type_small _ _ _ _ (area d t l as_ is w u r x y) s = let p = line_small l w u x s in let q = line_attributes_small d as_ is u r y p.rest in both (p.this, q.this) q.rest
+  type_small _ _ _ _ (polyline d t l w r x) s =
+      let p = line_small l w r x s in both (p.this, tt) p.rest
+  type_small _ _ _ _ (surface d t l as_ is w u r x y) s =
+      let p = line_small l w u x s in
+      let q = line_attributes_small d as_ is u r y p.rest in both (p.this, q.this) q.rest
+  type_small _ _ _ _ (area d t l as_ is w u r x y) s =
+      let p = line_small l w u x s in
+      let q = line_attributes_small d as_ is u r y p.rest in both (p.this, q.this) q.rest
 
   line_attributes_small : (d : ℕ) (as_ : Attributes) (is : List (List Ident)) (w r : List Tok)
       → IsLineAttributes d as_ is w r → Small w → And (AreSmallAttributes as_) (Small r)
   line_attributes_small _ _ _ _ _ (no_line_attributes d r) s = both tt s
-  line_attributes_small _ _ _ _ _ (line_attributes d i j k as_ is w u r x y) s = let p = attributes_small d as_ w u x s in both p.this (maybe_idents_rest is u (tok (word END) k ∷ r) y p.rest)
+  line_attributes_small _ _ _ _ _ (line_attributes d i j k as_ is w u r x y) s =
+      let p = attributes_small d as_ w u x s in
+      both p.this (maybe_idents_rest is u (tok (word END) k ∷ r) y p.rest)
 
   attributes_small : (d : ℕ) (as_ : Attributes) (w r : List Tok) → IsAttributes d as_ w r → Small w
       → And (AreSmallAttributes as_) (Small r)
   attributes_small _ _ _ _ (no_attribute d r) s = both tt s
-  attributes_small _ _ _ _ (more_attributes d a as_ w u r x y) s = let p = attribute_small d a w u x s in let q = attributes_small d as_ u r y p.rest in both (p.this, q.this) q.rest
+  attributes_small _ _ _ _ (more_attributes d a as_ w u r x y) s =
+      let p = attribute_small d a w u x s in
+      let q = attributes_small d as_ u r y p.rest in both (p.this, q.this) q.rest
 
   attribute_small : (d : ℕ) (a : AttributeSyntax) (w r : List Tok) → IsAttribute d a w r → Small w
       → And (IsSmallAttribute a) (Small r)
-  attribute_small _ _ _ _ (mandatory d n i k c w u r x y) s = let p = content_small d c w u x s in both p.this (explained_rest u (tok semicolon k ∷ r) y p.rest)
-  attribute_small _ _ _ _ (optional d n i j k c w u r x y) s = let p = content_small d c w u x s in both p.this (explained_rest u (tok semicolon k ∷ r) y p.rest)
+  attribute_small _ _ _ _ (mandatory d n i k c w u r x y) s =
+      let p = content_small d c w u x s in
+      both p.this (explained_rest u (tok semicolon k ∷ r) y p.rest)
+  attribute_small _ _ _ _ (optional d n i j k c w u r x y) s =
+      let p = content_small d c w u x s in
+      both p.this (explained_rest u (tok semicolon k ∷ r) y p.rest)
 
   content_small : (d : ℕ) (c : Content) (w r : List Tok) → IsContent d c w r → Small w
       → And (IsSmallContent c) (Small r)
@@ -172,7 +196,8 @@ maybe_domains_small L _ _ _ (with_domains i ds w r x) s = domains_small L ds w r
 table_small : (L : ℕ) (o : Bool) (t : TableSyntax) (w r : List Tok) → IsTable L o t w r → Small w
     → And (IsSmallTable t) (Small r)
 table_small L o _ _ _ (table i n j k m p as_ is w u r x y e) s =
-    let q = attributes_small L as_ w u x s in both q.this (idents_rest is u (tok (word END) k ∷ tok name m ∷ tok semicolon p ∷ r) y q.rest)
+    let q = attributes_small L as_ w u x s in
+    both q.this (idents_rest is u (tok (word END) k ∷ tok name m ∷ tok semicolon p ∷ r) y q.rest)
 
 record SmallBody (ds : List DomainSyntax) (ts : List TableSyntax) (r : List Tok) : Type 0 where
   domains : All IsSmallDomain ds
@@ -181,36 +206,54 @@ record SmallBody (ds : List DomainSyntax) (ts : List TableSyntax) (r : List Tok)
 
 body_small : (L : ℕ) (ds : List DomainSyntax) (ts : List TableSyntax) (w r : List Tok)
     → IsBody L ds ts w r → Small w → SmallBody ds ts r
-body_small L _ _ _ _ (no_part r) s = record { domains = All-nil IsSmallDomain; tables = All-nil IsSmallTable; rest = s }
+body_small L _ _ _ _ (no_part r) s =
+    record { domains = All-nil IsSmallDomain; tables = All-nil IsSmallTable; rest = s }
 body_small L _ _ _ _ (and_domains i ds es ts w u r x y) s =
     let p = domains_small L ds w u x s in
     let q = body_small L es ts u r y p.rest in
-    record { domains = All-append IsSmallDomain ds es p.this q.domains; tables = q.tables; rest = q.rest }
+    record {
+      domains = All-append IsSmallDomain ds es p.this q.domains;
+      tables = q.tables;
+      rest = q.rest;
+    }
 body_small L _ _ _ _ (and_table ds t ts w u r x y) s =
     let p = table_small L false t w u x s in
     let q = body_small L ds ts u r y p.rest in
-    record { domains = q.domains; tables = All-cons IsSmallTable t ts p.this q.tables; rest = q.rest }
+    record {
+      domains = q.domains;
+      tables = All-cons IsSmallTable t ts p.this q.tables;
+      rest = q.rest;
+    }
 body_small L _ _ _ _ (and_optional_table i ds t ts w u r x y) s =
     let p = table_small L true t w u x s in
     let q = body_small L ds ts u r y p.rest in
-    record { domains = q.domains; tables = All-cons IsSmallTable t ts p.this q.tables; rest = q.rest }
+    record {
+      domains = q.domains;
+      tables = All-cons IsSmallTable t ts p.this q.tables;
+      rest = q.rest;
+    }
 
 topic_small : (L : ℕ) (t : TopicSyntax) (w r : List Tok) → IsTopic L t w r → Small w
     → And (IsSmallTopic t) (Small r)
 topic_small L _ _ _ (topic i n j k m p ds ts w r x e) s =
-    let q = body_small L ds ts w (tok (word END) k ∷ tok name m ∷ tok period p ∷ r) x s in both (q.domains, q.tables) q.rest
+    let q = body_small L ds ts w (tok (word END) k ∷ tok name m ∷ tok period p ∷ r) x s in
+    both (q.domains, q.tables) q.rest
 
 topics_small : (L : ℕ) (ts : List TopicSyntax) (w r : List Tok) → IsTopics L ts w r → Small w
     → And (All IsSmallTopic ts) (Small r)
 topics_small L _ _ _ (no_topic r) s = both (All-nil IsSmallTopic) s
 topics_small L _ _ _ (and_topic t ts w u r x y) s =
-    let p = topic_small L t w u x s in let q = topics_small L ts u r y p.rest in both (All-cons IsSmallTopic t ts p.this q.this) q.rest
+    let p = topic_small L t w u x s in
+    let q = topics_small L ts u r y p.rest in both (All-cons IsSmallTopic t ts p.this q.this) q.rest
 topics_small L _ _ _ (and_optional_topic i t ts w u r x y) s =
-    let p = topic_small L t w u x s in let q = topics_small L ts u r y p.rest in both (All-cons IsSmallTopic t ts p.this q.this) q.rest
+    let p = topic_small L t w u x s in
+    let q = topics_small L ts u r y p.rest in both (All-cons IsSmallTopic t ts p.this q.this) q.rest
 
 pub numbers_small : (L : ℕ) (m : ModelSyntax) (w r : List Tok) → IsTransfer L m w r → Small w
     → AreNumbersSmall m
-numbers_small L _ _ _ (transfer a n b c d e f g h m os ds ts cs w u v x r p (a_model i n2 k m2 q ds2 ts2 w2 u2 r2 y z e2) t1 t2) s =
+numbers_small L _ _ _
+    (transfer a n b c d e f g h m os ds ts cs w u v x r p
+    (a_model i n2 k m2 q ds2 ts2 w2 u2 r2 y z e2) t1 t2) s =
     let o = maybe_domains_small L os w u p s in
     let i = maybe_domains_small L ds w2 u2 y o.rest in
     let j = topics_small L ts u2 (tok (word END) k ∷ tok name m2 ∷ tok period q ∷ r2) z i.rest in
@@ -240,17 +283,21 @@ value_in_range d _ _ (by_number c i e) h = of (has 45 i.text || has 46 i.text) e
 value_in_range d _ _ (by_hex c i e) h = in_range_is (read_hex 0 (drop 2 i.text)) c e
 
 codes_are : (cs : Codes) (w r : List Tok) → IsCodes cs w r → AreCodes cs
-codes_are _ _ _ (codes b u c t i j k w r v (undefined u1 c1 t1 i1 j1 k1 w1 r1 v1 n1 (continue c2 t2 x i2 j2 k2 l2 m2 p2 r2 v2 n2 n3 d2))) = record {
-  blank = value_in_range 95 b t v (omega arith, omega arith);
-  undefined = value_in_range 64 u t1 v1 (omega arith, omega arith);
-  continued = value_in_range 92 c t2 v2 (omega arith, omega arith);
-  undefined_differs = n1;
-  continued_differs = (n2, n3);
-}
+codes_are _ _ _
+    (codes b u c t i j k w r v
+    (undefined u1 c1 t1 i1 j1 k1 w1 r1 v1 n1 (continue c2 t2 x i2 j2 k2 l2 m2 p2 r2 v2 n2 n3 d2))) =
+    record {
+      blank = value_in_range 95 b t v (omega arith, omega arith);
+      undefined = value_in_range 64 u t1 v1 (omega arith, omega arith);
+      continued = value_in_range 92 c t2 v2 (omega arith, omega arith);
+      undefined_differs = n1;
+      continued_differs = (n2, n3);
+    }
 
 pub codes_differ : (L : ℕ) (m : ModelSyntax) (w r : List Tok) → IsTransfer L m w r
     → AreCodes m.codes
-codes_differ L _ _ _ (transfer a n b c d e f g h m os ds ts cs w u v x r p q t1 t2) = codes_are cs x r t2
+codes_differ L _ _ _ (transfer a n b c d e f g h m os ds ts cs w u v x r p q t1 t2) =
+    codes_are cs x r t2
 
 -- ---- the tokens of a text
 token_small : (k : kind.Kind) (i : Info) (r : List Tok) → (k ≡ kinds.Number → IsSmall (decimal i))
@@ -285,13 +332,17 @@ small_behind : (bytes : List ℕ) (p : Option Token) (ts : List Token) → are_s
 small_behind bytes p [] h = tt
 small_behind bytes p (t ∷ ts) h =
     let q = and_parts (is_short_token bytes t) (are_short bytes ts) h in
-    token_small t.kind (info_of bytes p t) (toks_behind bytes (Some t) ts) (number_here q.0) (small_behind bytes (Some t) ts q.1)
+    token_small t.kind (info_of bytes p t) (toks_behind bytes (Some t) ts) (number_here q.0)
+    (small_behind bytes (Some t) ts q.1)
   where
     number_here : is_short_token bytes t ≡ true → t.kind ≡ kinds.Number
         → IsSmall (decimal (info_of bytes p t))
     number_here e k =
-        let s = (and_parts (cond (same_kind number (kind_of t.kind)) (is_short (bytes_of bytes t)) true) _ e).0 in
-        short_small (bytes_of bytes t) (subst (λ (k : kind.Kind). cond (same_kind number (kind_of k)) (is_short (bytes_of bytes t)) true ≡ true) k s)
+        let s = (and_parts
+        (cond (same_kind number (kind_of t.kind)) (is_short (bytes_of bytes t)) true) _ e).0 in
+        short_small (bytes_of bytes t)
+        (subst (λ (k : kind.Kind). cond (same_kind number (kind_of k))
+        (is_short (bytes_of bytes t)) true ≡ true) k s)
 
 pub tokens_small : (bytes : List ℕ) (ts : List Token) → are_short bytes ts ≡ true
     → Small (toks bytes ts)
@@ -301,7 +352,8 @@ tokens_small bytes ts h = small_behind bytes None ts h
 pub limits_kept : (bytes : List ℕ) (ts : List Token) (m : ModelSyntax) → length ts ≤ 4194304
     → AreLongest bytes ts → Spells m (toks bytes ts) → IsWithinLimits m
 limits_kept bytes ts m f h x = record {
-  numbers = numbers_small 32 m (toks bytes ts) [] x (tokens_small bytes ts (short_tokens bytes ts h));
+  numbers = numbers_small 32 m (toks bytes ts) [] x
+      (tokens_small bytes ts (short_tokens bytes ts h));
   names = omega (arith, f, names_fit 32 m (toks bytes ts) [] x, length-toks bytes ts);
   named = all_named 32 m (toks bytes ts) [] x (tokens_named bytes ts h);
   codes = codes_differ 32 m (toks bytes ts) [] x;

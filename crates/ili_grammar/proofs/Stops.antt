@@ -28,11 +28,15 @@ fault_here text ts i d c h e = told (drop i (toks text ts)) _ _ (leads text ts i
   where
     told : (w : List Tok) (t : Tok) (r : List Tok) → w ≡ t ∷ r → drop i (toks text ts) ≡ w
         → code_of c ≡ code_here w d → IsFaultAt (toks text ts) w d (faults.At c (Some i))
-    told w t r e f g = subst (λ (w : List Tok). drop i (toks text ts) ≡ w → code_of c ≡ code_here w d → IsFaultAt (toks text ts) w d (faults.At c (Some i))) (sym e) (λ f g. (g, sym f)) f g
+    told w t r e f g =
+        subst (λ (w : List Tok). drop i (toks text ts) ≡ w → code_of c ≡ code_here w d
+        → IsFaultAt (toks text ts) w d (faults.At c (Some i))) (sym e) (λ f g. (g, sym f)) f g
 
 pub fault_at_end : (text : List ℕ) (ts : List Token) (i : ℕ) (d : wanted.Wanted) → length ts ≤ i
     → IsFaultAt (toks text ts) (drop i (toks text ts)) d (faults.At codes.Expected None)
-fault_at_end text ts i d h = subst (λ (w : List Tok). IsFaultAt (toks text ts) w d (faults.At codes.Expected None)) (sym (none_left text ts i h)) refl
+fault_at_end text ts i d h =
+    subst (λ (w : List Tok). IsFaultAt (toks text ts) w d (faults.At codes.Expected None))
+    (sym (none_left text ts i h)) refl
 
 -- ---- stops
 -- a symbol that may not be left out asks for what must come
@@ -54,14 +58,20 @@ stops all [] x d (faults.At c None) a h e = record { told = λ stack. e }
 stops all [] x d (faults.At c (Some n)) a h e = absurd e
 stops all [] x d faults.Memory a h e = absurd e
 stops all (tok k i ∷ r) x d (faults.At c None) a h e = absurd e
-stops all (tok k i ∷ r) x d (faults.At c (Some n)) a h e = record { told = λ stack. rw (h.0, a.must, a.free, a.form, a.end_name, a.value, h.1, or-false) e }
+stops all (tok k i ∷ r) x d (faults.At c (Some n)) a h e =
+    record {
+      told = λ stack. rw (h.0, a.must, a.free, a.form, a.end_name, a.value, h.1, or-false)
+          e;
+    }
 stops all (tok k i ∷ r) x d faults.Memory a h e = absurd e
 
 -- a single token that must come
 pub wants_plain : (k : Kind) → is_plain k ≡ true → AsksFor (want k) wants.Other
 wants_plain k h =
-    let p = not_true (same_kind k (word FREE) || (same_kind k (word STRAIGHTS) || same_kind k hex)) h in
-    let q = or_parts (same_kind k (word FREE)) (same_kind k (word STRAIGHTS) || same_kind k hex) p in
+    let p = not_true (same_kind k (word FREE) || (same_kind k (word STRAIGHTS) || same_kind k hex))
+    h in
+    let q = or_parts (same_kind k (word FREE))
+    (same_kind k (word STRAIGHTS) || same_kind k hex) p in
     let r = or_parts (same_kind k (word STRAIGHTS)) (same_kind k hex) q.1 in
     record { must = refl; free = q.0; form = r.0; end_name = refl; value = r.1 }
   where
@@ -80,11 +90,19 @@ stuck_want k (tok h i ∷ r) n = (rw (off (same_kind k h) n) refl, refl)
 
 pub stops_want : (all w : List Tok) (k : Kind) (f : fault.SyntaxFault) → is_plain k ≡ true → Not k w
     → IsFaultAt all w wants.Other f → Refuses all w (want k ∷ []) f
-stops_want all w k f h n e = stops all w (want k) wants.Other f (wants_plain k h) (stuck_want k w n) e
+stops_want all w k f h n e =
+    stops all w (want k) wants.Other f (wants_plain k h) (stuck_want k w n) e
 
 pub stops_free : (all w : List Tok) (f : fault.SyntaxFault) → Not (word FREE) w
     → IsFaultAt all w wants.Free f → Refuses all w (want (word FREE) ∷ []) f
-stops_free all w f n e = stops all w (want (word FREE)) wants.Free f (record { must = refl; free = refl; form = refl; end_name = refl; value = refl }) (stuck w n) e
+stops_free all w f n e =
+    stops all w (want (word FREE)) wants.Free f (record {
+      must = refl;
+      free = refl;
+      form = refl;
+      end_name = refl;
+      value = refl;
+    }) (stuck w n) e
   where
     stuck : (w : List Tok) → Not (word FREE) w → Stuck (want (word FREE)) wants.Free w
     stuck [] n = tt

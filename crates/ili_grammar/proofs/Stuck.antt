@@ -28,17 +28,32 @@ use Rattle.ili_grammar.proofs.ModelsDrive.{same_text, step_value, value_drives, 
 -- ---- forms, end names and identifications
 pub stuck_form : (all w : List Tok) (f : fault.SyntaxFault) → Not (word STRAIGHTS) w
     → Not (word ARCS) w → IsFaultAt all w wants.LineForm f → Refuses all w (forms ∷ []) f
-stuck_form all w f m n e = stops all w forms wants.LineForm f (record { must = refl; free = refl; form = refl; end_name = refl; value = refl }) (stuck w m n) e
+stuck_form all w f m n e =
+    stops all w forms wants.LineForm f (record {
+      must = refl;
+      free = refl;
+      form = refl;
+      end_name = refl;
+      value = refl;
+    }) (stuck w m n) e
   where
     stuck : (w : List Tok) → Not (word STRAIGHTS) w → Not (word ARCS) w
         → Stuck forms wants.LineForm w
     stuck [] m n = tt
-    stuck (tok k i ∷ r) m n = (rw (off (same_kind (word STRAIGHTS) k) m, off (same_kind (word ARCS) k) n) refl, refl)
+    stuck (tok k i ∷ r) m n =
+        (rw (off (same_kind (word STRAIGHTS) k) m, off (same_kind (word ARCS) k) n) refl, refl)
 
 pub stuck_end_name : (all w : List Tok) (x : List ℕ) (f : fault.SyntaxFault)
     → Stuck (the_name x) wants.EndName w → IsFaultAt all w wants.EndName f
     → Refuses all w (the_name x ∷ []) f
-stuck_end_name all w x f s e = stops all w (the_name x) wants.EndName f (record { must = refl; free = refl; form = refl; end_name = refl; value = refl }) s e
+stuck_end_name all w x f s e =
+    stops all w (the_name x) wants.EndName f (record {
+      must = refl;
+      free = refl;
+      form = refl;
+      end_name = refl;
+      value = refl;
+    }) s e
 
 pub not_a_name : (w : List Tok) (x : List ℕ) → Not name w → Stuck (the_name x) wants.EndName w
 not_a_name [] x n = tt
@@ -53,7 +68,11 @@ other_name w u x i e h = subst (Stuck (the_name x) wants.EndName) (sym e) (rw h 
 
 pub goes_end_name : (w u : List Tok) (x : List ℕ) (i : Info) → w ≡ tok name i ∷ u
     → bytes_eq i.text x ≡ true → Goes w (the_name x ∷ []) u []
-goes_end_name w u x i e h = record { by = λ stack l. subst (λ (w : List Tok). run w (the_name x ∷ stack) ≡ run u stack) (sym e) (rw h refl) }
+goes_end_name w u x i e h =
+    record {
+      by = λ stack l. subst (λ (w : List Tok). run w (the_name x ∷ stack) ≡ run u stack)
+          (sym e) (rw h refl);
+    }
 
 pub goes_ended : (x : Ident) (w u : List Tok) → ReadsEndName x w u
     → Goes w (the_name x.text ∷ []) u []
@@ -62,15 +81,34 @@ goes_ended x w u (m, e, h) = goes_end_name w u x.text m e (same_text m.text x.te
 pub stuck_tid : (all w : List Tok) (f : fault.SyntaxFault) → Not explanation w → Not (word I16) w
     → Not (word I32) w → Not (word ANY) w → IsFaultAt all w wants.Other f
     → Refuses all w (tid_value ∷ []) f
-stuck_tid all w f a b c d e = stops all w tid_value wants.Other f (record { must = refl; free = refl; form = refl; end_name = refl; value = refl }) (stuck w a b c d) e
+stuck_tid all w f a b c d e =
+    stops all w tid_value wants.Other f (record {
+      must = refl;
+      free = refl;
+      form = refl;
+      end_name = refl;
+      value = refl;
+    }) (stuck w a b c d) e
   where
     stuck : (w : List Tok) → Not explanation w → Not (word I16) w → Not (word I32) w
         → Not (word ANY) w → Stuck tid_value wants.Other w
     stuck [] a b c d = tt
-    stuck (tok k i ∷ r) a b c d = (rw (off (same_kind (word I16) k) b, off (same_kind (word I32) k) c, off (same_kind (word ANY) k) d, off (same_kind explanation k) a) refl, refl)
+    stuck (tok k i ∷ r) a b c d = (
+      rw (
+        off (same_kind (word I16) k) b,
+        off (same_kind (word I32) k) c,
+        off (same_kind (word ANY) k) d,
+        off (same_kind explanation k) a,
+      ) refl,
+      refl,
+    )
 
 pub goes_tid : (w u : List Tok) → ReadsForm w u → Goes w (tid_value ∷ []) u []
-goes_tid w u (x, e, h) = record { by = λ stack l. subst (λ (w : List Tok). run w (tid_value ∷ stack) ≡ run u stack) (sym e) (tid_drives x h u stack) }
+goes_tid w u (x, e, h) =
+    record {
+      by = λ stack l. subst (λ (w : List Tok). run w (tid_value ∷ stack) ≡ run u stack)
+          (sym e) (tid_drives x h u stack);
+    }
 
 -- ---- types
 pub type_asks : (d : ℕ) → AsksFor (a_type d) wants.Other
@@ -79,7 +117,8 @@ type_asks d = record { must = refl; free = refl; form = refl; end_name = refl; v
 pub stuck_type : (all w : List Tok) (d : ℕ) (f : fault.SyntaxFault) → Not name w
     → Not left_bracket w → Not left_paren w → NoWord w → IsFaultAt all w wants.Other f
     → Refuses all w (a_type d ∷ []) f
-stuck_type all w d f a b c n e = stops all w (a_type d) wants.Other f (type_asks d) (stuck d w a b c n) e
+stuck_type all w d f a b c n e =
+    stops all w (a_type d) wants.Other f (type_asks d) (stuck d w a b c n) e
   where
     none : (d : ℕ) (k : Kind) (i : Info) (r : List Tok) → Not name (tok k i ∷ r)
         → Not left_bracket (tok k i ∷ r) → Not left_paren (tok k i ∷ r) → NoWord (tok k i ∷ r)
@@ -125,12 +164,21 @@ stuck_type all w d f a b c n e = stops all w (a_type d) wants.Other f (type_asks
 pub deep_type : (all w u : List Tok) (d : ℕ) (f : fault.SyntaxFault) → d ≡ 0 → Leads left_paren w u
     → IsFaultAt all w wants.Shallower f → Refuses all w (a_type d ∷ []) f
 deep_type all w u d f p (i, q) e = subst (λ (d : ℕ). Refuses all w (a_type d ∷ []) f) (sym p)
-    (stops all w (a_type zero) wants.Shallower f (record { must = refl; free = refl; form = refl; end_name = refl; value = refl }) (subst (Stuck (a_type zero) wants.Shallower) (sym q) (refl, refl)) e)
+    (stops all w (a_type zero) wants.Shallower f (record {
+      must = refl;
+      free = refl;
+      form = refl;
+      end_name = refl;
+      value = refl;
+    }) (subst (Stuck (a_type zero) wants.Shallower) (sym q) (refl, refl)) e)
 
 -- ---- parts too deep, whatever comes behind them
 pub deep_parts : (all w u : List Tok) (d : ℕ) (f : fault.SyntaxFault) → d ≡ 0 → Leads left_paren w u
     → IsFaultAt all w wants.Shallower f → Refuses all w (maybe_parts d ∷ []) f
-deep_parts all w u d f p (i, q) e = subst (λ (d : ℕ). Refuses all w (maybe_parts d ∷ []) f) (sym p) (subst (λ (w : List Tok). IsFaultAt all w wants.Shallower f → Refuses all w (maybe_parts zero ∷ []) f) (sym q) (told f) e)
+deep_parts all w u d f p (i, q) e =
+    subst (λ (d : ℕ). Refuses all w (maybe_parts d ∷ []) f) (sym p)
+    (subst (λ (w : List Tok). IsFaultAt all w wants.Shallower f
+    → Refuses all w (maybe_parts zero ∷ []) f) (sym q) (told f) e)
   where
     told : (f : fault.SyntaxFault) → IsFaultAt all (tok left_paren i ∷ u) wants.Shallower f
         → Refuses all (tok left_paren i ∷ u) (maybe_parts zero ∷ []) f
@@ -141,7 +189,10 @@ deep_parts all w u d f p (i, q) e = subst (λ (d : ℕ). Refuses all w (maybe_pa
 pub deep_line : (all w u : List Tok) (d : ℕ) (f : fault.SyntaxFault) → d ≡ 0
     → Leads (word LINEATTR) w u → IsFaultAt all w wants.Shallower f
     → Refuses all w (maybe_line_attributes d ∷ []) f
-deep_line all w u d f p (i, q) e = subst (λ (d : ℕ). Refuses all w (maybe_line_attributes d ∷ []) f) (sym p) (subst (λ (w : List Tok). IsFaultAt all w wants.Shallower f → Refuses all w (maybe_line_attributes zero ∷ []) f) (sym q) (told f) e)
+deep_line all w u d f p (i, q) e =
+    subst (λ (d : ℕ). Refuses all w (maybe_line_attributes d ∷ []) f) (sym p)
+    (subst (λ (w : List Tok). IsFaultAt all w wants.Shallower f
+    → Refuses all w (maybe_line_attributes zero ∷ []) f) (sym q) (told f) e)
   where
     told : (f : fault.SyntaxFault) → IsFaultAt all (tok (word LINEATTR) i ∷ u) wants.Shallower f
         → Refuses all (tok (word LINEATTR) i ∷ u) (maybe_line_attributes zero ∷ []) f
@@ -151,15 +202,36 @@ deep_line all w u d f p (i, q) e = subst (λ (d : ℕ). Refuses all w (maybe_lin
 
 -- ---- values
 value_asks : {d : ℕ} {used : List ℕ} {x : Sym} → TakesValue d used x → AsksFor x wants.Value
-value_asks for_blank = record { must = refl; free = refl; form = refl; end_name = refl; value = refl }
-value_asks (for_undefined b) = record { must = refl; free = refl; form = refl; end_name = refl; value = refl }
-value_asks (for_continue b u) = record { must = refl; free = refl; form = refl; end_name = refl; value = refl }
+value_asks for_blank = record {
+  must = refl;
+  free = refl;
+  form = refl;
+  end_name = refl;
+  value = refl;
+}
+value_asks (for_undefined b) = record {
+  must = refl;
+  free = refl;
+  form = refl;
+  end_name = refl;
+  value = refl;
+}
+value_asks (for_continue b u) = record {
+  must = refl;
+  free = refl;
+  form = refl;
+  end_name = refl;
+  value = refl;
+}
 
 -- what the symbol becomes by a value
 abbrev pub behind_value : {d : ℕ} {used : List ℕ} {x : Sym} → TakesValue d used x → ℕ → List Sym
 behind_value for_blank c = want comma ∷ want (word UNDEFINED) ∷ want equals ∷ undefined_value c ∷ []
-behind_value (for_undefined b) c = want comma ∷ want (word CONTINUE) ∷ want equals ∷ continue_value b c ∷ []
-behind_value (for_continue b u) c = want semicolon ∷ want (word TID) ∷ want equals ∷ tid_value ∷ want semicolon ∷ want (word END) ∷ want period ∷ []
+behind_value (for_undefined b) c =
+    want comma ∷ want (word CONTINUE) ∷ want equals ∷ continue_value b c ∷ []
+behind_value (for_continue b u) c =
+    want semicolon ∷ want (word TID) ∷ want equals ∷ tid_value ∷ want semicolon ∷ want (word END)
+    ∷ want period ∷ []
 
 value_steps : (d : ℕ) (used : List ℕ) (x : Sym) (t : TakesValue d used x) (h : Tok)
     → step x h ≡ step_value d used (behind_value t) h
@@ -180,7 +252,8 @@ no_value all w d used x f t n e = stops all w x wants.Value f (value_asks t) (st
   where
     none : (a b c : Bool) (o p : Option ℕ) (used : List ℕ) (new : ℕ → List Sym)
         → None ≡ cond a (Some d) (cond b o (cond c p None))
-        → cond a (fresh used new (Some d)) (cond b (fresh used new o) (cond c (fresh used new p) None)) ≡ None
+        → cond a (fresh used new (Some d))
+        (cond b (fresh used new o) (cond c (fresh used new p) None)) ≡ None
     none true b c o p used new n = absurd (cc)
     none false true c o p used new n = rw (← n) refl
     none false false true o p used new n = rw (← n) refl
@@ -188,7 +261,12 @@ no_value all w d used x f t n e = stops all w x wants.Value f (value_asks t) (st
 
     stuck : (w : List Tok) → None ≡ value_here d w → Stuck x wants.Value w
     stuck [] n = tt
-    stuck (tok k i ∷ r) n = (value_steps d used x t (tok k i) ∙ none (same_kind (word DEFAULT) k) (same_kind number k) (same_kind hex k) (whole_code i.text) (hex_code i.text) used (behind_value t) n, value_limit d used x k t)
+    stuck (tok k i ∷ r) n = (
+      value_steps d used x t (tok k i)
+          ∙ none (same_kind (word DEFAULT) k) (same_kind number k) (same_kind hex k)
+          (whole_code i.text) (hex_code i.text) used (behind_value t) n,
+      value_limit d used x k t,
+    )
 
 is_used : (d c : ℕ) (t : Tok) → IsValue d c t → (used : List ℕ) (next : ℕ → List Sym)
     → has c used ≡ true → step_value d used next t ≡ None
@@ -208,16 +286,23 @@ is_second_of c b u e = grind (arith, nat_tests)
 pub used_value : (all w u : List Tok) (d c : ℕ) (used : List ℕ) (x : Sym) (f : fault.SyntaxFault)
     → TakesValue d used x → ReadsValue d c w u → has c used ≡ true → IsFaultAt all w wants.Value f
     → Refuses all w (x ∷ []) f
-used_value all w u d c used x f t (h, p, v) n e = stops all w x wants.Value f (value_asks t) (subst (Stuck x wants.Value) (sym p) (stuck h v)) e
+used_value all w u d c used x f t (h, p, v) n e =
+    stops all w x wants.Value f (value_asks t) (subst (Stuck x wants.Value) (sym p) (stuck h v)) e
   where
     stuck : (h : Tok) → IsValue d c h → Stuck x wants.Value (h ∷ u)
-    stuck (tok k i) v = (value_steps d used x t (tok k i) ∙ is_used d c (tok k i) v used (behind_value t) n, value_limit d used x k t)
+    stuck (tok k i) v = (
+      value_steps d used x t (tok k i)
+          ∙ is_used d c (tok k i) v used (behind_value t) n,
+      value_limit d used x k t,
+    )
 
 pub goes_value : (w u : List Tok) (d c : ℕ) (used : List ℕ) (x : Sym) (t : TakesValue d used x)
     → ReadsValue d c w u → has c used ≡ false → Goes w (x ∷ []) u (behind_value t c)
 goes_value w u d c used x t (h, p, v) n = record {
-  by = λ stack l. subst (λ (w : List Tok). run w (x ∷ stack) ≡ run u (behind_value t c ++ stack)) (sym p)
-      (stepped h u x stack (behind_value t c) (value_drives d c h v x used (behind_value t) (value_steps d used x t) n));
+  by = λ stack l. subst (λ (w : List Tok). run w (x ∷ stack) ≡ run u (behind_value t c ++ stack))
+      (sym p)
+      (stepped h u x stack (behind_value t c)
+      (value_drives d c h v x used (behind_value t) (value_steps d used x t) n));
 }
 
 -- ---- the value that a token stands for
@@ -226,13 +311,17 @@ by_default_here d w u (i, e) = subst (λ (w : List Tok). Some d ≡ value_here d
 
 pub by_number_here : (d : ℕ) (o : Option ℕ) (b : List ℕ) (i : Info) (w u : List Tok)
     → o ≡ whole_code b → b ≡ i.text → w ≡ tok number i ∷ u → o ≡ value_here d w
-by_number_here d o b i w u e f g = subst (λ (w : List Tok). o ≡ value_here d w) (sym g) (e ∙ ap whole_code f)
+by_number_here d o b i w u e f g =
+    subst (λ (w : List Tok). o ≡ value_here d w) (sym g) (e ∙ ap whole_code f)
 
 pub by_hex_here : (d : ℕ) (o : Option ℕ) (b : List ℕ) (i : Info) (w u : List Tok) → o ≡ hex_code b
     → b ≡ i.text → w ≡ tok hex i ∷ u → o ≡ value_here d w
-by_hex_here d o b i w u e f g = subst (λ (w : List Tok). o ≡ value_here d w) (sym g) (e ∙ ap hex_code f)
+by_hex_here d o b i w u e f g =
+    subst (λ (w : List Tok). o ≡ value_here d w) (sym g) (e ∙ ap hex_code f)
 
 pub none_here : (d : ℕ) (w : List Tok) → Not (word DEFAULT) w → Not number w → Not hex w
     → None ≡ value_here d w
 none_here d [] a b c = refl
-none_here d (tok k i ∷ r) a b c = rw (off (same_kind (word DEFAULT) k) a, off (same_kind number k) b, off (same_kind hex k) c) refl
+none_here d (tok k i ∷ r) a b c =
+    rw (off (same_kind (word DEFAULT) k) a, off (same_kind number k) b, off (same_kind hex k) c)
+    refl

@@ -25,64 +25,121 @@ use Rattle.ili_grammar.proofs.Follow.{same_but, same_at}
 
 -- ---- a rule that begins with one token
 opens : (b : Bool) (new stack : List Sym) (r : List Tok) (o : Outcome)
-    → onward (pushed (cond b (Some new) None) stack None) (run r) o ≡ onward (pushed (cond b (Some []) None) (new ++ stack) None) (run r) o
+    → onward (pushed (cond b (Some new) None) stack None) (run r) o
+    ≡ onward (pushed (cond b (Some []) None) (new ++ stack) None) (run r) o
 opens true new stack r o = refl
 opens false new stack r o = refl
 
 pub open_line : (w : List Tok)
-    → Goes w (the_line ∷ []) w (want (word WITH) ∷ want left_paren ∷ forms ∷ want (word VERTEX) ∷ want name ∷ maybe_base ∷ maybe_overlap ∷ [])
-open_line w = same_way the_line (want (word WITH)) _ w (λ k i r stack. opens (same_kind (word WITH) k) (want left_paren ∷ forms ∷ want (word VERTEX) ∷ want name ∷ maybe_base ∷ maybe_overlap ∷ []) stack r _)
+    → Goes w (the_line ∷ []) w (want (word WITH) ∷ want left_paren ∷ forms ∷ want (word VERTEX)
+    ∷ want name ∷ maybe_base ∷ maybe_overlap ∷ [])
+open_line w =
+    same_way the_line (want (word WITH)) _ w
+    (λ k i r stack. opens (same_kind (word WITH) k)
+    (want left_paren ∷ forms ∷ want (word VERTEX) ∷ want name ∷ maybe_base ∷ maybe_overlap ∷ [])
+    stack r _)
 
 pub open_transfer : (L : ℕ) (w : List Tok)
-    → Goes w (start L ∷ []) w (want (word TRANSFER) ∷ want name ∷ want semicolon ∷ maybe_domains L ∷ the_model L ∷ want (word FORMAT) ∷ want (word FREE) ∷ want semicolon ∷ want (word CODE) ∷ maybe_font ∷ want (word BLANK) ∷ want equals ∷ blank_value ∷ [])
-open_transfer L w = same_way (start L) (want (word TRANSFER)) _ w (λ k i r stack. opens (same_kind (word TRANSFER) k) (want name ∷ want semicolon ∷ maybe_domains L ∷ the_model L ∷ want (word FORMAT) ∷ want (word FREE) ∷ want semicolon ∷ want (word CODE) ∷ maybe_font ∷ want (word BLANK) ∷ want equals ∷ blank_value ∷ []) stack r _)
+    → Goes w (start L ∷ []) w (want (word TRANSFER) ∷ want name ∷ want semicolon ∷ maybe_domains L
+    ∷ the_model L ∷ want (word FORMAT) ∷ want (word FREE) ∷ want semicolon ∷ want (word CODE)
+    ∷ maybe_font ∷ want (word BLANK) ∷ want equals ∷ blank_value ∷ [])
+open_transfer L w =
+    same_way (start L) (want (word TRANSFER)) _ w
+    (λ k i r stack. opens (same_kind (word TRANSFER) k)
+    (want name ∷ want semicolon ∷ maybe_domains L ∷ the_model L ∷ want (word FORMAT)
+    ∷ want (word FREE) ∷ want semicolon ∷ want (word CODE) ∷ maybe_font ∷ want (word BLANK)
+    ∷ want equals ∷ blank_value ∷ []) stack r _)
 
 pub open_names : (w : List Tok) → Goes w (name_list ∷ []) w (want name ∷ more_list ∷ [])
-open_names w = same_way name_list (want name) _ w (λ k i r stack. opens (same_kind name k) (more_list ∷ []) stack r _)
+open_names w =
+    same_way name_list (want name) _ w
+    (λ k i r stack. opens (same_kind name k) (more_list ∷ []) stack r _)
 
 pub open_elements : (d : ℕ) (w : List Tok)
     → Goes w (elements d ∷ []) w (want name ∷ maybe_parts d ∷ more_parts d ∷ [])
-open_elements d w = same_way (elements d) (want name) _ w (λ k i r stack. opens (same_kind name k) (maybe_parts d ∷ more_parts d ∷ []) stack r _)
+open_elements d w =
+    same_way (elements d) (want name) _ w
+    (λ k i r stack. opens (same_kind name k) (maybe_parts d ∷ more_parts d ∷ []) stack r _)
 
 -- ---- a rule that begins with a token and a name
 named : (b : Bool) (x : Sym) (new stack : List Sym) (r : List Tok) (o : Outcome)
     → run r (x ∷ stack) ≡ run r (new ++ stack)
-    → onward (pushed (cond b (Some (x ∷ [])) None) stack None) (run r) o ≡ onward (pushed (cond b (Some []) None) (new ++ stack) None) (run r) o
+    → onward (pushed (cond b (Some (x ∷ [])) None) stack None) (run r) o
+    ≡ onward (pushed (cond b (Some []) None) (new ++ stack) None) (run r) o
 named true x new stack r o h = h
 named false x new stack r o h = refl
 
 pub open_model : (L : ℕ) (w : List Tok) (n : List ℕ) → second w ≡ n
-    → Goes w (the_model L ∷ []) w (want (word MODEL) ∷ want name ∷ maybe_domains L ∷ topics L ∷ want (word END) ∷ the_name n ∷ want period ∷ [])
-open_model L w n e = subst (λ (n : List ℕ). Goes w (the_model L ∷ []) w (want (word MODEL) ∷ want name ∷ maybe_domains L ∷ topics L ∷ want (word END) ∷ the_name n ∷ want period ∷ [])) e (record { by = λ stack l. goes w stack })
+    → Goes w (the_model L ∷ []) w (want (word MODEL) ∷ want name ∷ maybe_domains L ∷ topics L
+    ∷ want (word END) ∷ the_name n ∷ want period ∷ [])
+open_model L w n e =
+    subst (λ (n : List ℕ). Goes w (the_model L ∷ []) w
+    (want (word MODEL) ∷ want name ∷ maybe_domains L ∷ topics L ∷ want (word END) ∷ the_name n
+    ∷ want period ∷ [])) e (record { by = λ stack l. goes w stack })
   where
     goes : (w : List Tok) (stack : List Sym)
-        → run w (the_model L ∷ stack) ≡ run w (want (word MODEL) ∷ want name ∷ maybe_domains L ∷ topics L ∷ want (word END) ∷ the_name (second w) ∷ want period ∷ stack)
+        → run w (the_model L ∷ stack) ≡ run w
+        (want (word MODEL) ∷ want name ∷ maybe_domains L ∷ topics L ∷ want (word END)
+        ∷ the_name (second w) ∷ want period ∷ stack)
     goes [] stack = refl
-    goes (tok k i ∷ []) stack = named (same_kind (word MODEL) k) (model_name L) (want name ∷ maybe_domains L ∷ topics L ∷ want (word END) ∷ the_name [] ∷ want period ∷ []) stack [] _ refl
-    goes (tok k i ∷ tok h j ∷ r) stack = named (same_kind (word MODEL) k) (model_name L) (want name ∷ maybe_domains L ∷ topics L ∷ want (word END) ∷ the_name j.text ∷ want period ∷ []) stack (tok h j ∷ r) _
-        (opens (same_kind name h) (maybe_domains L ∷ topics L ∷ want (word END) ∷ the_name j.text ∷ want period ∷ []) stack r _)
+    goes (tok k i ∷ []) stack =
+        named (same_kind (word MODEL) k) (model_name L)
+        (want name ∷ maybe_domains L ∷ topics L ∷ want (word END) ∷ the_name [] ∷ want period ∷ [])
+        stack [] _ refl
+    goes (tok k i ∷ tok h j ∷ r) stack =
+        named (same_kind (word MODEL) k) (model_name L)
+        (want name ∷ maybe_domains L ∷ topics L ∷ want (word END) ∷ the_name j.text ∷ want period
+        ∷ []) stack (tok h j ∷ r) _
+        (opens (same_kind name h) (maybe_domains L ∷ topics L ∷ want (word END) ∷ the_name j.text
+        ∷ want period ∷ []) stack r _)
 
 pub open_topic : (L : ℕ) (w : List Tok) (n : List ℕ) → second w ≡ n
-    → Goes w (the_topic L ∷ []) w (want (word TOPIC) ∷ want name ∷ want equals ∷ body L ∷ want (word END) ∷ the_name n ∷ want period ∷ [])
-open_topic L w n e = subst (λ (n : List ℕ). Goes w (the_topic L ∷ []) w (want (word TOPIC) ∷ want name ∷ want equals ∷ body L ∷ want (word END) ∷ the_name n ∷ want period ∷ [])) e (record { by = λ stack l. goes w stack })
+    → Goes w (the_topic L ∷ []) w (want (word TOPIC) ∷ want name ∷ want equals ∷ body L
+    ∷ want (word END) ∷ the_name n ∷ want period ∷ [])
+open_topic L w n e =
+    subst (λ (n : List ℕ). Goes w (the_topic L ∷ []) w
+    (want (word TOPIC) ∷ want name ∷ want equals ∷ body L ∷ want (word END) ∷ the_name n
+    ∷ want period ∷ [])) e (record { by = λ stack l. goes w stack })
   where
     goes : (w : List Tok) (stack : List Sym)
-        → run w (the_topic L ∷ stack) ≡ run w (want (word TOPIC) ∷ want name ∷ want equals ∷ body L ∷ want (word END) ∷ the_name (second w) ∷ want period ∷ stack)
+        → run w (the_topic L ∷ stack) ≡ run w
+        (want (word TOPIC) ∷ want name ∷ want equals ∷ body L ∷ want (word END)
+        ∷ the_name (second w) ∷ want period ∷ stack)
     goes [] stack = refl
-    goes (tok k i ∷ []) stack = named (same_kind (word TOPIC) k) (topic_name L) (want name ∷ want equals ∷ body L ∷ want (word END) ∷ the_name [] ∷ want period ∷ []) stack [] _ refl
-    goes (tok k i ∷ tok h j ∷ r) stack = named (same_kind (word TOPIC) k) (topic_name L) (want name ∷ want equals ∷ body L ∷ want (word END) ∷ the_name j.text ∷ want period ∷ []) stack (tok h j ∷ r) _
-        (opens (same_kind name h) (want equals ∷ body L ∷ want (word END) ∷ the_name j.text ∷ want period ∷ []) stack r _)
+    goes (tok k i ∷ []) stack =
+        named (same_kind (word TOPIC) k) (topic_name L)
+        (want name ∷ want equals ∷ body L ∷ want (word END) ∷ the_name [] ∷ want period ∷ []) stack
+        [] _ refl
+    goes (tok k i ∷ tok h j ∷ r) stack =
+        named (same_kind (word TOPIC) k) (topic_name L)
+        (want name ∷ want equals ∷ body L ∷ want (word END) ∷ the_name j.text ∷ want period ∷ [])
+        stack (tok h j ∷ r) _
+        (opens (same_kind name h) (want equals ∷ body L ∷ want (word END) ∷ the_name j.text
+        ∷ want period ∷ []) stack r _)
 
 pub open_table : (L : ℕ) (w : List Tok) (n : List ℕ) → second w ≡ n
-    → Goes w (the_table L ∷ []) w (want (word TABLE) ∷ want name ∷ want equals ∷ attributes L ∷ idents ∷ want (word END) ∷ the_name n ∷ want semicolon ∷ [])
-open_table L w n e = subst (λ (n : List ℕ). Goes w (the_table L ∷ []) w (want (word TABLE) ∷ want name ∷ want equals ∷ attributes L ∷ idents ∷ want (word END) ∷ the_name n ∷ want semicolon ∷ [])) e (record { by = λ stack l. goes w stack })
+    → Goes w (the_table L ∷ []) w (want (word TABLE) ∷ want name ∷ want equals ∷ attributes L
+    ∷ idents ∷ want (word END) ∷ the_name n ∷ want semicolon ∷ [])
+open_table L w n e =
+    subst (λ (n : List ℕ). Goes w (the_table L ∷ []) w
+    (want (word TABLE) ∷ want name ∷ want equals ∷ attributes L ∷ idents ∷ want (word END)
+    ∷ the_name n ∷ want semicolon ∷ [])) e (record { by = λ stack l. goes w stack })
   where
     goes : (w : List Tok) (stack : List Sym)
-        → run w (the_table L ∷ stack) ≡ run w (want (word TABLE) ∷ want name ∷ want equals ∷ attributes L ∷ idents ∷ want (word END) ∷ the_name (second w) ∷ want semicolon ∷ stack)
+        → run w (the_table L ∷ stack) ≡ run w
+        (want (word TABLE) ∷ want name ∷ want equals ∷ attributes L ∷ idents ∷ want (word END)
+        ∷ the_name (second w) ∷ want semicolon ∷ stack)
     goes [] stack = refl
-    goes (tok k i ∷ []) stack = named (same_kind (word TABLE) k) (table_name L) (want name ∷ want equals ∷ attributes L ∷ idents ∷ want (word END) ∷ the_name [] ∷ want semicolon ∷ []) stack [] _ refl
-    goes (tok k i ∷ tok h j ∷ r) stack = named (same_kind (word TABLE) k) (table_name L) (want name ∷ want equals ∷ attributes L ∷ idents ∷ want (word END) ∷ the_name j.text ∷ want semicolon ∷ []) stack (tok h j ∷ r) _
-        (opens (same_kind name h) (want equals ∷ attributes L ∷ idents ∷ want (word END) ∷ the_name j.text ∷ want semicolon ∷ []) stack r _)
+    goes (tok k i ∷ []) stack =
+        named (same_kind (word TABLE) k) (table_name L)
+        (want name ∷ want equals ∷ attributes L ∷ idents ∷ want (word END) ∷ the_name []
+        ∷ want semicolon ∷ []) stack [] _ refl
+    goes (tok k i ∷ tok h j ∷ r) stack =
+        named (same_kind (word TABLE) k) (table_name L)
+        (want name ∷ want equals ∷ attributes L ∷ idents ∷ want (word END) ∷ the_name j.text
+        ∷ want semicolon ∷ []) stack (tok h j ∷ r) _
+        (opens (same_kind name h) (want equals ∷ attributes L ∷ idents ∷ want (word END)
+        ∷ the_name j.text ∷ want semicolon ∷ []) stack r _)
 
 -- ---- one of two
 pub last_form : (w : List Tok) → Not comma w → Goes w (more_forms ∷ []) w (want right_paren ∷ [])
@@ -90,28 +147,39 @@ last_form w n = same_but comma more_forms (want right_paren) [] w (λ k i r stac
 
 pub last_part : (d : ℕ) (w : List Tok) → Not comma w
     → Goes w (more_parts d ∷ []) w (want right_paren ∷ [])
-last_part d w n = same_but comma (more_parts d) (want right_paren) [] w (λ k i r stack e. rw e refl) n
+last_part d w n =
+    same_but comma (more_parts d) (want right_paren) [] w (λ k i r stack e. rw e refl) n
 
 pub not_optional : (d : ℕ) (w : List Tok) → Not (word OPTIONAL) w
     → Goes w (first_content d ∷ []) w (content d ∷ [])
-not_optional zero w n = same_but (word OPTIONAL) (first_content zero) (content zero) [] w (λ k i r stack e. rw e refl) n
-not_optional (suc d) w n = same_but (word OPTIONAL) (first_content (suc d)) (content (suc d)) [] w (λ k i r stack e. rw e refl) n
+not_optional zero w n =
+    same_but (word OPTIONAL) (first_content zero) (content zero) [] w (λ k i r stack e. rw e refl) n
+not_optional (suc d) w n =
+    same_but (word OPTIONAL) (first_content (suc d)) (content (suc d)) [] w
+    (λ k i r stack e. rw e refl) n
 
 pub no_reference : (d : ℕ) (w : List Tok) → Not arrow w → Goes w (content d ∷ []) w (a_type d ∷ [])
-no_reference zero w n = same_but arrow (content zero) (a_type zero) [] w (λ k i r stack e. rw e refl) n
-no_reference (suc d) w n = same_but arrow (content (suc d)) (a_type (suc d)) [] w (λ k i r stack e. rw e refl) n
+no_reference zero w n =
+    same_but arrow (content zero) (a_type zero) [] w (λ k i r stack e. rw e refl) n
+no_reference (suc d) w n =
+    same_but arrow (content (suc d)) (a_type (suc d)) [] w (λ k i r stack e. rw e refl) n
 
 pub must_ident : (w : List Tok) → Not (word NO) w
     → Goes w (idents ∷ []) w (want (word IDENT) ∷ name_list ∷ want semicolon ∷ lists ∷ [])
-must_ident w n = same_but (word NO) idents (want (word IDENT)) _ w (λ k i r stack e. rw e (opens (same_kind (word IDENT) k) (name_list ∷ want semicolon ∷ lists ∷ []) stack r _)) n
+must_ident w n =
+    same_but (word NO) idents (want (word IDENT)) _ w
+    (λ k i r stack e. rw e
+    (opens (same_kind (word IDENT) k) (name_list ∷ want semicolon ∷ lists ∷ []) stack r _)) n
 
 -- ---- at a first token
 pub at_domain : (L : ℕ) (w u : List Tok) → Leads name w u
-    → Goes w (items L ∷ []) w (want name ∷ want equals ∷ a_type L ∷ maybe_explanation ∷ want semicolon ∷ items L ∷ [])
+    → Goes w (items L ∷ []) w (want name ∷ want equals ∷ a_type L ∷ maybe_explanation
+    ∷ want semicolon ∷ items L ∷ [])
 at_domain L w u h = same_at name (items L) (want name) _ w u (λ i stack. refl) h
 
 pub at_attribute : (d : ℕ) (w u : List Tok) → Leads name w u
-    → Goes w (attributes d ∷ []) w (want name ∷ want colon ∷ first_content d ∷ maybe_explanation ∷ want semicolon ∷ attributes d ∷ [])
+    → Goes w (attributes d ∷ []) w (want name ∷ want colon ∷ first_content d ∷ maybe_explanation
+    ∷ want semicolon ∷ attributes d ∷ [])
 at_attribute d w u h = same_at name (attributes d) (want name) _ w u (λ i stack. refl) h
 
 pub at_type_name : (d : ℕ) (w u : List Tok) → Leads name w u
@@ -132,33 +200,48 @@ at_no_ident w u h = same_at (word NO) maybe_idents idents _ w u (λ i stack. ref
 
 pub at_topic : (L : ℕ) (w u : List Tok) → Leads (word TOPIC) w u
     → Goes w (topics L ∷ []) (past (word OPTIONAL) w) (the_topic L ∷ topics L ∷ [])
-at_topic L w u (i, e) = subst (λ (w : List Tok). Goes w (topics L ∷ []) (past (word OPTIONAL) w) (the_topic L ∷ topics L ∷ [])) (sym e) (record { by = λ stack l. refl })
+at_topic L w u (i, e) =
+    subst (λ (w : List Tok). Goes w (topics L ∷ []) (past (word OPTIONAL) w)
+    (the_topic L ∷ topics L ∷ [])) (sym e) (record { by = λ stack l. refl })
 
 pub at_optional_topic : (L : ℕ) (w u : List Tok) → Leads (word OPTIONAL) w u
     → Goes w (topics L ∷ []) (past (word OPTIONAL) w) (the_topic L ∷ topics L ∷ [])
-at_optional_topic L w u (i, e) = subst (λ (w : List Tok). Goes w (topics L ∷ []) (past (word OPTIONAL) w) (the_topic L ∷ topics L ∷ [])) (sym e) (record { by = λ stack l. refl })
+at_optional_topic L w u (i, e) =
+    subst (λ (w : List Tok). Goes w (topics L ∷ []) (past (word OPTIONAL) w)
+    (the_topic L ∷ topics L ∷ [])) (sym e) (record { by = λ stack l. refl })
 
 pub at_table : (L : ℕ) (w u : List Tok) → Leads (word TABLE) w u
     → Goes w (body L ∷ []) (past (word OPTIONAL) w) (the_table L ∷ body L ∷ [])
-at_table L w u (i, e) = subst (λ (w : List Tok). Goes w (body L ∷ []) (past (word OPTIONAL) w) (the_table L ∷ body L ∷ [])) (sym e) (record { by = λ stack l. refl })
+at_table L w u (i, e) =
+    subst (λ (w : List Tok). Goes w (body L ∷ []) (past (word OPTIONAL) w)
+    (the_table L ∷ body L ∷ [])) (sym e) (record { by = λ stack l. refl })
 
 pub at_optional_table : (L : ℕ) (w u : List Tok) → Leads (word OPTIONAL) w u
     → Goes w (body L ∷ []) (past (word OPTIONAL) w) (the_table L ∷ body L ∷ [])
-at_optional_table L w u (i, e) = subst (λ (w : List Tok). Goes w (body L ∷ []) (past (word OPTIONAL) w) (the_table L ∷ body L ∷ [])) (sym e) (record { by = λ stack l. refl })
+at_optional_table L w u (i, e) =
+    subst (λ (w : List Tok). Goes w (body L ∷ []) (past (word OPTIONAL) w)
+    (the_table L ∷ body L ∷ [])) (sym e) (record { by = λ stack l. refl })
 
 pub at_parts : (d e : ℕ) (w u : List Tok) → d ≡ suc e → Leads left_paren w u
     → Goes w (maybe_parts d ∷ []) u (elements e ∷ [])
-at_parts d e w u p h = subst (λ (d : ℕ). Goes w (maybe_parts d ∷ []) u (elements e ∷ [])) (sym p) (by_token (maybe_parts (suc e)) left_paren (elements e ∷ []) w u (λ i. refl) h)
+at_parts d e w u p h =
+    subst (λ (d : ℕ). Goes w (maybe_parts d ∷ []) u (elements e ∷ [])) (sym p)
+    (by_token (maybe_parts (suc e)) left_paren (elements e ∷ []) w u (λ i. refl) h)
 
 pub at_elements : (d e : ℕ) (w u : List Tok) → d ≡ suc e → Leads left_paren w u
     → Goes w (a_type d ∷ []) u (elements e ∷ [])
-at_elements d e w u p h = subst (λ (d : ℕ). Goes w (a_type d ∷ []) u (elements e ∷ [])) (sym p) (by_token (a_type (suc e)) left_paren (elements e ∷ []) w u (λ i. refl) h)
+at_elements d e w u p h =
+    subst (λ (d : ℕ). Goes w (a_type d ∷ []) u (elements e ∷ [])) (sym p)
+    (by_token (a_type (suc e)) left_paren (elements e ∷ []) w u (λ i. refl) h)
 
 pub at_line_attributes : (d e : ℕ) (w u : List Tok) → d ≡ suc e → Leads (word LINEATTR) w u
-    → Goes w (maybe_line_attributes d ∷ []) u (want equals ∷ attributes e ∷ maybe_idents ∷ want (word END) ∷ [])
+    → Goes w (maybe_line_attributes d ∷ []) u
+    (want equals ∷ attributes e ∷ maybe_idents ∷ want (word END) ∷ [])
 at_line_attributes d e w u p h =
-    subst (λ (d : ℕ). Goes w (maybe_line_attributes d ∷ []) u (want equals ∷ attributes e ∷ maybe_idents ∷ want (word END) ∷ [])) (sym p)
-    (by_token (maybe_line_attributes (suc e)) (word LINEATTR) (want equals ∷ attributes e ∷ maybe_idents ∷ want (word END) ∷ []) w u (λ i. refl) h)
+    subst (λ (d : ℕ). Goes w (maybe_line_attributes d ∷ []) u
+    (want equals ∷ attributes e ∷ maybe_idents ∷ want (word END) ∷ [])) (sym p)
+    (by_token (maybe_line_attributes (suc e)) (word LINEATTR)
+    (want equals ∷ attributes e ∷ maybe_idents ∷ want (word END) ∷ []) w u (λ i. refl) h)
 
 -- ---- left out
 pub no_explanation : (w : List Tok) → Not explanation w → Goes w (maybe_explanation ∷ []) w []
@@ -190,24 +273,32 @@ no_name w n = leave_out more_list comma w refl (λ h i e. (rw e refl, refl)) n
 
 pub no_parts : (d : ℕ) (w : List Tok) → Not left_paren w → Goes w (maybe_parts d ∷ []) w []
 no_parts zero w n = leave_out (maybe_parts zero) left_paren w refl (λ h i e. (refl, e)) n
-no_parts (suc d) w n = leave_out (maybe_parts (suc d)) left_paren w refl (λ h i e. (rw e refl, refl)) n
+no_parts (suc d) w n =
+    leave_out (maybe_parts (suc d)) left_paren w refl (λ h i e. (rw e refl, refl)) n
 
 pub no_line_attributes_at : (d : ℕ) (w : List Tok) → Not (word LINEATTR) w
     → Goes w (maybe_line_attributes d ∷ []) w []
-no_line_attributes_at zero w n = leave_out (maybe_line_attributes zero) (word LINEATTR) w refl (λ h i e. (refl, e)) n
-no_line_attributes_at (suc d) w n = leave_out (maybe_line_attributes (suc d)) (word LINEATTR) w refl (λ h i e. (rw e refl, refl)) n
+no_line_attributes_at zero w n =
+    leave_out (maybe_line_attributes zero) (word LINEATTR) w refl (λ h i e. (refl, e)) n
+no_line_attributes_at (suc d) w n =
+    leave_out (maybe_line_attributes (suc d)) (word LINEATTR) w refl (λ h i e. (rw e refl, refl)) n
 
 pub no_idents : (w : List Tok) → Not (word NO) w → Not (word IDENT) w
     → Goes w (maybe_idents ∷ []) w []
-no_idents w m n = leave_out2 maybe_idents (word NO) (word IDENT) w refl (λ h i e f. (rw (e, f) refl, refl)) m n
+no_idents w m n =
+    leave_out2 maybe_idents (word NO) (word IDENT) w refl (λ h i e f. (rw (e, f) refl, refl)) m n
 
 pub no_topic_at : (L : ℕ) (w : List Tok) → Not (word TOPIC) w → Not (word OPTIONAL) w
     → Goes w (topics L ∷ []) w []
-no_topic_at L w m n = leave_out2 (topics L) (word TOPIC) (word OPTIONAL) w refl (λ h i e f. (rw (e, f) refl, refl)) m n
+no_topic_at L w m n =
+    leave_out2 (topics L) (word TOPIC) (word OPTIONAL) w refl
+    (λ h i e f. (rw (e, f) refl, refl)) m n
 
 pub no_part_at : (L : ℕ) (w : List Tok) → Not (word DOMAIN) w → Not (word TABLE) w
     → Not (word OPTIONAL) w → Goes w (body L ∷ []) w []
-no_part_at L w a b c = leave_out3 (body L) (word DOMAIN) (word TABLE) (word OPTIONAL) w refl (λ h i e f g. (rw (e, f, g) refl, refl)) a b c
+no_part_at L w a b c =
+    leave_out3 (body L) (word DOMAIN) (word TABLE) (word OPTIONAL) w refl
+    (λ h i e f g. (rw (e, f, g) refl, refl)) a b c
 
 -- ---- the opened name
 pub heading_second : (k : Word) (x : Ident) (w v : List Tok) → ReadsHeading k x w v
@@ -216,7 +307,9 @@ heading_second k x w v (i, n, j, e, p) = ap second e ∙ sym (ap (λ (x : Ident)
 
 pub model_second : (x : Ident) (w u v : List Tok) → Leads (word MODEL) w u → LeadsName x u v
     → second w ≡ x.text
-model_second x w u v (i, e) (n, f, p) = ap second (e ∙ ap (λ (z : List Tok). tok (word MODEL) i ∷ z) f) ∙ sym (ap (λ (x : Ident). x.text) p)
+model_second x w u v (i, e) (n, f, p) =
+    ap second (e ∙ ap (λ (z : List Tok). tok (word MODEL) i ∷ z) f)
+    ∙ sym (ap (λ (x : Ident). x.text) p)
 
 -- ---- a token passed over
 pub past_it : (k : Kind) (w u : List Tok) → Leads k w u → u ≡ past k w

@@ -15,5 +15,7 @@ closing-cons i b bs h = rw h (moved i (closing bs))
 
 pub closing_step : (text : List ℕ) (i : ℕ) → i < length text
     → begins (drop i text) (codes "//") ≡ false
-    → option_map (λ n. i + n) (closing (drop i text)) ≡ option_map (λ n. (i + 1) + n) (closing (drop (i + 1) text))
-closing_step text i h = rw (add-one, drop-cons text i 0) (closing-cons i (get_or text i 0) (drop (suc i) text))
+    → option_map (λ n. i + n) (closing (drop i text))
+    ≡ option_map (λ n. (i + 1) + n) (closing (drop (i + 1) text))
+closing_step text i h =
+    rw (add-one, drop-cons text i 0) (closing-cons i (get_or text i 0) (drop (suc i) text))

@@ -50,7 +50,8 @@ inside_line : (b : ℕ) → is_blank b ≡ false → is_inside_line b ≡ true
 inside_line b h = rw (or_parts ((nat_eq b 32 || nat_eq b 9) || nat_eq b 13) (nat_eq b 10) h).1 refl
 
 pub name_byte : (b : ℕ) → is_ascii_alphabetic b ≡ true → is_name_byte b ≡ true
-name_byte b h = more (is_in_range 48 57 b) (is_in_range 65 90 b) (is_in_range 97 122 b) (nat_eq b 95) h
+name_byte b h =
+    more (is_in_range 48 57 b) (is_in_range 65 90 b) (is_in_range 97 122 b) (nat_eq b 95) h
   where
     more : (d u l x : Bool) → (u || l) ≡ true → (((d || u) || l) || x) ≡ true
     more true u l x h = refl
@@ -71,7 +72,8 @@ closing_within (b ∷ bs) n h = go (λ m. closing_within bs m) (begins (b ∷ bs
         → begins (b ∷ bs) (codes "//") ≡ t
         → (if t then Some 2 else option_map (λ n. 1 + n) (closing bs)) ≡ Some n
         → n ≤ length (b ∷ bs)
-    go h true e f = let k = begins_length (b ∷ bs) (codes "//") e in let q : 2 ≡ n = cc in omega arith
+    go h true e f =
+        let k = begins_length (b ∷ bs) (codes "//") e in let q : 2 ≡ n = cc in omega arith
     go h false e f = one_more (closing bs) h f
 
 explanation_fits : (text : List ℕ) → 2 ≤ length text → IsPartOf text (explanation_front text)
@@ -80,13 +82,16 @@ explanation_fits text h = go (closing (drop 2 text)) (closing_within (drop 2 tex
     go : (o : Option ℕ) → ((n : ℕ) → o ≡ Some n → n ≤ length (drop 2 text))
         → IsPartOf text (option_map_or (λ n. Token kind.Explanation (2 + n)) o OpenExplanation)
     go None f = tt
-    go (Some n) f = let k = f n refl in record { some = omega arith; within = omega (arith, length-drop 2 text) }
+    go (Some n) f =
+        let k = f n refl in
+        record { some = omega arith; within = omega (arith, length-drop 2 text) }
 
 hex_fits : (text : List ℕ) → 2 ≤ length text → IsPartOf text (hex_front text)
 hex_fits text h =
     let d = prefix_len is_ascii_hexdigit (drop 2 text) in
     let k = prefix_len-le-length is_ascii_hexdigit (drop 2 text) in
-    either (IsPartOf text) (nat_eq d 0) _ _ (λ e. tt) (λ e. go d (eqb-false d 0 e) (omega (arith, length-drop 2 text)))
+    either (IsPartOf text) (nat_eq d 0) _ _ (λ e. tt)
+    (λ e. go d (eqb-false d 0 e) (omega (arith, length-drop 2 text)))
   where
     go : (d : ℕ) → (d ≡ 0 → ⊥) → 2 + d ≤ length text
         → IsPartOf text (Token kind.Hex (if nat_eq d 1 then 3 else 4))
@@ -99,8 +104,10 @@ hex_fits text h =
 mark_fits : (text : List ℕ) → IsPartOf text (mark_front text)
 mark_fits [] = tt
 mark_fits (b ∷ bs) =
-    either (IsPartOf (b ∷ bs)) (begins (b ∷ bs) (codes "..")) _ _ (λ e. two (begins_length (b ∷ bs) (codes "..") e))
-    (λ d. either (IsPartOf (b ∷ bs)) (begins (b ∷ bs) (codes "->")) _ _ (λ e. two (begins_length (b ∷ bs) (codes "->") e)) (λ e. one (byte_mark b)))
+    either (IsPartOf (b ∷ bs)) (begins (b ∷ bs) (codes "..")) _ _
+    (λ e. two (begins_length (b ∷ bs) (codes "..") e))
+    (λ d. either (IsPartOf (b ∷ bs)) (begins (b ∷ bs) (codes "->")) _ _
+    (λ e. two (begins_length (b ∷ bs) (codes "->") e)) (λ e. one (byte_mark b)))
   where
     two : 2 ≤ length (b ∷ bs) → IsPart (b ∷ bs) 2
     two h = record { some = omega arith; within = h }
@@ -116,7 +123,13 @@ decimals_within text = go (begins text (codes ".")) refl
     go : (t : Bool) → begins text (codes ".") ≡ t
         → ((if t then prefix_len is_ascii_digit (drop 1 text) else 0) ≡ 0 → ⊥)
         → 1 + (if t then prefix_len is_ascii_digit (drop 1 text) else 0) ≤ length text
-    go true e f = omega (arith, begins_length text (codes ".") e, prefix_len-le-length is_ascii_digit (drop 1 text), length-drop 1 text)
+    go true e f =
+        omega (
+          arith,
+          begins_length text (codes ".") e,
+          prefix_len-le-length is_ascii_digit (drop 1 text),
+          length-drop 1 text,
+        )
     go false e f = absurd (f refl)
 
 -- the bytes of a number at the front, be its digits few or not, behind a sign of so many bytes
@@ -136,7 +149,11 @@ number_part text z =
     let s = sign_length text in
     let w = prefix_len is_ascii_digit (drop s text) in
     let d = decimals_of (drop (s + w) text) in
-    go s w d z (omega (arith, prefix_len-le-length is_ascii_digit (drop s text), length-drop s text))
+    go s w d z (omega (
+      arith,
+      prefix_len-le-length is_ascii_digit (drop s text),
+      length-drop s text,
+    ))
     (λ g. omega (arith, decimals_within (drop (s + w) text) g, length-drop (s + w) text))
   where
     go : (s w d : ℕ) → (w ≡ 0 → ⊥) → (0 < w → s + w ≤ length text)
@@ -145,7 +162,9 @@ number_part text z =
     go s w d e f g = stop (nat_eq d 0) refl
       where
         stop : (t : Bool) → nat_eq d 0 ≡ t → IsPart text (s + w + (if t then 0 else 1) + d)
-        stop true h = let z = eqb-true d 0 h in record { some = omega arith; within = omega (arith, f (omega arith)) }
+        stop true h =
+            let z = eqb-true d 0 h in
+            record { some = omega arith; within = omega (arith, f (omega arith)) }
         stop false h = record { some = omega arith; within = omega (arith, g (eqb-false d 0 h)) }
 
 number_fits : (text : List ℕ) → IsPartOf text (number_front text)
@@ -154,7 +173,8 @@ number_fits text =
     let w = prefix_len is_ascii_digit (drop s text) in
     let d = decimals_of (drop (s + w) text) in
     either (IsPartOf text) (nat_eq w 0) _ _ (λ e. mark_fits text)
-    (λ e. either (IsPartOf text) (nat_lt 9 d || nat_lt 18 (w + d)) _ _ (λ f. tt) (λ f. number_part text (eqb-false w 0 e)))
+    (λ e. either (IsPartOf text) (nat_lt 9 d || nat_lt 18 (w + d)) _ _ (λ f. tt)
+    (λ f. number_part text (eqb-false w 0 e)))
 
 pub front_fits : (text : List ℕ) → IsPartOf text (front_of text)
 front_fits [] = tt
@@ -162,7 +182,10 @@ front_fits (b ∷ bs) =
     let t = b ∷ bs in
     let P = IsPartOf t in
     either P (is_blank b) _ _ (λ e. record { some = omega arith; within = omega arith })
-    (λ blank. either P (begins t (codes "!!")) _ _ (λ e. run_fits is_inside_line b bs (inside_line b blank))
-    (λ e. either P (begins t (codes "//")) _ _ (λ e. explanation_fits t (begins_length t (codes "//") e))
+    (λ blank. either P (begins t (codes "!!")) _ _
+    (λ e. run_fits is_inside_line b bs (inside_line b blank))
+    (λ e. either P (begins t (codes "//")) _ _
+    (λ e. explanation_fits t (begins_length t (codes "//") e))
     (λ e. either P (begins t (codes "0x")) _ _ (λ e. hex_fits t (begins_length t (codes "0x") e))
-    (λ e. either P (is_ascii_alphabetic b) _ _ (λ e. run_fits is_name_byte b bs (name_byte b e)) (λ e. number_fits t)))))
+    (λ e. either P (is_ascii_alphabetic b) _ _ (λ e. run_fits is_name_byte b bs (name_byte b e))
+    (λ e. number_fits t)))))

@@ -1,4 +1,5 @@
--- A number at the front of a text is found there, or a longer one is; and its digits are counted in one way.
+-- A number at the front of a text is found there, or a longer one is; and its digits are counted in
+-- one way.
 use Rattle.std.proofs.Common.{◌≡◌, ℕ, ◌+◌, ◌<◌, ◌≤◌, List, [], ◌∷◌, ◌++◌, length, take, drop, Bool}
 use Rattle.std.proofs.Common.{true, false, refl, sym, ap, ◌∙◌, subst, arith, codes, nat_eq, nat_lt}
 use Rattle.std.proofs.Common.{nat_le, append_assoc, append-nil, length-append}
@@ -40,7 +41,8 @@ counts : (s : ℕ) (text whole decimals rest : List ℕ)
     → AllPass is_ascii_digit decimals → Counts s text whole decimals rest
 counts s text whole [] rest e all behind =
     let f : drop s text ≡ whole ++ rest = e ∙ ap (λ (xs : List ℕ). xs ++ rest) (append-nil whole) in
-    let w : run (drop s text) ≡ length whole + run rest = ap run f ∙ run_append is_ascii_digit whole rest all in
+    let w : run (drop s text) ≡ length whole + run rest = ap run f
+    ∙ run_append is_ascii_digit whole rest all in
     let plain : length (whole ++ []) ≡ length whole = ap (length {A = ℕ}) (append-nil whole) in
     record {
       digits = omega (arith, w);
@@ -54,14 +56,21 @@ counts s text whole [] rest e all behind =
 
     ends : rest ≡ [] → (n : ℕ) → n ≡ length whole → drop s text ≡ whole ++ rest
         → drop (s + n) text ≡ []
-    ends z n q f = sym (drop-drop n s text) ∙ ap (drop n) f ∙ ap (λ (k : ℕ). drop k (whole ++ rest)) q ∙ drop_front whole rest ∙ z
+    ends z n q f = sym (drop-drop n s text) ∙ ap (drop n) f
+        ∙ ap (λ (k : ℕ). drop k (whole ++ rest)) q ∙ drop_front whole rest ∙ z
 counts s text whole (d ∷ ds) rest e all behind =
     let tail = 46 ∷ ((d ∷ ds) ++ rest) in
     let f : drop s text ≡ whole ++ tail = e ∙ append_assoc whole (46 ∷ d ∷ ds) rest in
-    let w : run (drop s text) ≡ length whole = ap run f ∙ run_append is_ascii_digit whole tail all ∙ none (length whole) in
-    let at_stop : drop (s + run (drop s text)) text ≡ tail = sym (drop-drop (run (drop s text)) s text) ∙ ap (drop (run (drop s text))) f ∙ ap (λ (k : ℕ). drop k (whole ++ tail)) w ∙ drop_front whole tail in
-    let b : decimals_of (drop (s + run (drop s text)) text) ≡ length (d ∷ ds) + run rest = ap decimals_of at_stop ∙ run_append is_ascii_digit (d ∷ ds) rest behind in
-    let long : length (whole ++ (46 ∷ d ∷ ds)) ≡ length whole + length (46 ∷ d ∷ ds) = length-append whole (46 ∷ d ∷ ds) in
+    let w : run (drop s text) ≡ length whole = ap run f ∙ run_append is_ascii_digit whole tail all
+    ∙ none (length whole) in
+    let at_stop : drop (s + run (drop s text)) text
+    ≡ tail = sym (drop-drop (run (drop s text)) s text) ∙ ap (drop (run (drop s text))) f
+    ∙ ap (λ (k : ℕ). drop k (whole ++ tail)) w ∙ drop_front whole tail in
+    let b : decimals_of (drop (s + run (drop s text)) text)
+    ≡ length (d ∷ ds) + run rest = ap decimals_of at_stop
+    ∙ run_append is_ascii_digit (d ∷ ds) rest behind in
+    let long : length (whole ++ (46 ∷ d ∷ ds))
+    ≡ length whole + length (46 ∷ d ∷ ds) = length-append whole (46 ∷ d ∷ ds) in
     record {
       digits = omega (arith, w);
       reach = sum (run (drop s text)) (decimals_of (drop (s + run (drop s text)) text)) w b long;
@@ -78,7 +87,9 @@ counts s text whole (d ∷ ds) rest e all behind =
     sum : (w b : ℕ) → w ≡ length whole → b ≡ length (d ∷ ds) + run rest
         → length (whole ++ (46 ∷ d ∷ ds)) ≡ length whole + length (46 ∷ d ∷ ds)
         → s + length (whole ++ (46 ∷ d ∷ ds)) ≤ s + w + (if nat_eq b 0 then 0 else 1) + b
-    sum w b p q r = both_sides (λ (n : ℕ). s + length (whole ++ (46 ∷ d ∷ ds)) ≤ s + w + n + b) (nat_eq b 0) 0 1 (λ e. let z = eqb-true b 0 e in absurd (omega (arith, z, q))) (λ _. omega (arith, p, q, r))
+    sum w b p q r =
+        both_sides (λ (n : ℕ). s + length (whole ++ (46 ∷ d ∷ ds)) ≤ s + w + n + b) (nat_eq b 0) 0 1
+        (λ e. let z = eqb-true b 0 e in absurd (omega (arith, z, q))) (λ _. omega (arith, p, q, r))
 
 -- ---- the sign
 first_digit : (whole more : List ℕ) → 0 < length whole → AllPass is_ascii_digit whole
@@ -102,15 +113,18 @@ front_reaches text m z h =
     let w = run (drop (sign_length text) text) in
     let d = decimals_of (drop (sign_length text + w) text) in
     both_sides (Reaches kind.Number m text) (nat_eq w 0) _ _ (λ e. absurd (z (eqb-true w 0 e)))
-    (λ _. both_sides (Reaches kind.Number m text) (nat_lt 9 d || nat_lt 18 (w + d)) _ _ (λ _. (refl, h)) (λ _. (h, λ _. refl)))
+    (λ _. both_sides (Reaches kind.Number m text) (nat_lt 9 d || nat_lt 18 (w + d)) _ _
+    (λ _. (refl, h)) (λ _. (h, λ _. refl)))
 
 signed_reaches : (text whole decimals rest : List ℕ)
     → drop (sign_length text) text ≡ (whole ++ fraction decimals) ++ rest → 0 < length whole
     → AllPass is_ascii_digit whole → AllPass is_ascii_digit decimals
-    → (m : ℕ) → m ≡ sign_length text + length (whole ++ fraction decimals) → Reaches kind.Number m text (number_front text)
+    → (m : ℕ) → m ≡ sign_length text + length (whole ++ fraction decimals)
+    → Reaches kind.Number m text (number_front text)
 signed_reaches text whole decimals rest e some all behind m q =
     let c = counts (sign_length text) text whole decimals rest e all behind in
-    front_reaches text m (λ z. let d = c.digits in omega (arith, z, d, some)) (let r = c.reach in omega (arith, q, r))
+    front_reaches text m (λ z. let d = c.digits in omega (arith, z, d, some)) (let r = c.reach in
+    omega (arith, q, r))
 
 -- without a sign: `0x` may stand there
 unsigned_reaches : (whole decimals rest : List ℕ) → 0 < length whole → AllPass is_ascii_digit whole
@@ -121,15 +135,22 @@ unsigned_reaches (d ∷ ds) decimals rest some all behind =
     let bs = (ds ++ fraction decimals) ++ rest in
     let text = d ∷ bs in
     let m = length ((d ∷ ds) ++ fraction decimals) in
-    let sign : sign_length text ≡ 0 = ap sign_length (append_assoc (d ∷ ds) (fraction decimals) rest) ∙ first_digit (d ∷ ds) (fraction decimals ++ rest) some all in
-    passed (Reaches kind.Number m text) (is_blank d) _ _ (not_blank is_ascii_digit d p refl refl refl refl)
-    (passed (Reaches kind.Number m text) (begins text (codes "!!")) _ _ (no_front 33 d (33 ∷ []) bs (other_byte is_ascii_digit d 33 p refl))
-    (passed (Reaches kind.Number m text) (begins text (codes "//")) _ _ (no_front 47 d (47 ∷ []) bs (other_byte is_ascii_digit d 47 p refl))
+    let sign : sign_length text ≡ 0 = ap sign_length
+    (append_assoc (d ∷ ds) (fraction decimals) rest)
+    ∙ first_digit (d ∷ ds) (fraction decimals ++ rest) some all in
+    passed (Reaches kind.Number m text) (is_blank d) _ _
+    (not_blank is_ascii_digit d p refl refl refl refl)
+    (passed (Reaches kind.Number m text) (begins text (codes "!!")) _ _
+    (no_front 33 d (33 ∷ []) bs (other_byte is_ascii_digit d 33 p refl))
+    (passed (Reaches kind.Number m text) (begins text (codes "//")) _ _
+    (no_front 47 d (47 ∷ []) bs (other_byte is_ascii_digit d 47 p refl))
     (both_sides (Reaches kind.Number m text) (begins text (codes "0x")) _ _
     (λ x. let same = first_two 48 120 text x in
-    subst (λ (t : List ℕ). Reaches kind.Number m t (hex_front t)) (sym same) (open_reaches m (drop 2 text) (alone ds decimals x all)))
+    subst (λ (t : List ℕ). Reaches kind.Number m t (hex_front t)) (sym same)
+    (open_reaches m (drop 2 text) (alone ds decimals x all)))
     (λ _. passed (Reaches kind.Number m text) (is_ascii_alphabetic d) _ _ (no_letter d p)
-    (signed_reaches text (d ∷ ds) decimals rest (ap (λ (n : ℕ). drop n text) sign) some all behind m (omega (arith, sign)))))))
+    (signed_reaches text (d ∷ ds) decimals rest (ap (λ (n : ℕ). drop n text) sign) some all behind m
+    (omega (arith, sign)))))))
   where
     passed : {A : Type 0} (P : A → Type 0) (t : Bool) (x y : A) → t ≡ false → P y
         → P (if t then x else y)
@@ -150,35 +171,48 @@ unsigned_reaches (d ∷ ds) decimals rest some all behind =
     alone [] (c ∷ cs) x all = absurd (let k : false ≡ true = (and_parts (nat_eq 48 d) _ x).1 in cc)
     alone (e ∷ es) decimals x all =
         let f = eqb-true 120 e (and_parts (nat_eq 120 e) _ (and_parts (nat_eq 48 d) _ x).1).0 in
-        let p = All-head (λ x. is_ascii_digit x ≡ true) e es (All-tail (λ x. is_ascii_digit x ≡ true) d (e ∷ es) all) in
-        absurd (let k : is_ascii_digit 120 ≡ true = subst (λ (x : ℕ). is_ascii_digit x ≡ true) (sym f) p in cc)
+        let p = All-head (λ x. is_ascii_digit x ≡ true) e es
+        (All-tail (λ x. is_ascii_digit x ≡ true) d (e ∷ es) all) in
+        absurd (let k : is_ascii_digit 120
+        ≡ true = subst (λ (x : ℕ). is_ascii_digit x ≡ true) (sym f) p in cc)
 
 pub number_reaches : (bytes rest : List ℕ) → IsNumber bytes → At kind.Number bytes rest
-number_reaches bytes rest n = subst (λ (xs : List ℕ). At kind.Number xs rest) (sym n.made) (go n.sign n.signed)
+number_reaches bytes rest n =
+    subst (λ (xs : List ℕ). At kind.Number xs rest) (sym n.made) (go n.sign n.signed)
   where
     go : (sign : List ℕ) → IsSign sign
         → At kind.Number (sign ++ (n.whole ++ fraction n.decimals)) rest
     go _ unsigned = unsigned_reaches n.whole n.decimals rest n.some n.digits n.behind
-    go _ plus = signed_reaches (43 ∷ ((n.whole ++ fraction n.decimals) ++ rest)) n.whole n.decimals rest refl n.some n.digits n.behind (length (43 ∷ (n.whole ++ fraction n.decimals))) (omega arith)
-    go _ minus = signed_reaches (45 ∷ ((n.whole ++ fraction n.decimals) ++ rest)) n.whole n.decimals rest refl n.some n.digits n.behind (length (45 ∷ (n.whole ++ fraction n.decimals))) (omega arith)
+    go _ plus = signed_reaches (43 ∷ ((n.whole ++ fraction n.decimals) ++ rest)) n.whole n.decimals
+        rest refl n.some n.digits n.behind (length (43 ∷ (n.whole ++ fraction n.decimals)))
+        (omega arith)
+    go _ minus =
+        signed_reaches (45 ∷ ((n.whole ++ fraction n.decimals) ++ rest)) n.whole n.decimals rest
+        refl n.some n.digits n.behind (length (45 ∷ (n.whole ++ fraction n.decimals))) (omega arith)
 
 -- ---- how many digits a number has
 record Exact (bytes whole decimals : List ℕ) : Type 0 where
   digits : run (drop (sign_length bytes) bytes) ≡ length whole
-  behind : decimals_of (drop (sign_length bytes + run (drop (sign_length bytes) bytes)) bytes) ≡ length decimals
+  behind : decimals_of (drop (sign_length bytes + run (drop (sign_length bytes) bytes)) bytes)
+      ≡ length decimals
 
 exact : (bytes : List ℕ) (n : IsNumber bytes) → Exact bytes n.whole n.decimals
-exact bytes n = subst (λ (xs : List ℕ). Exact xs n.whole n.decimals) (sym n.made) (go n.sign n.signed)
+exact bytes n =
+    subst (λ (xs : List ℕ). Exact xs n.whole n.decimals) (sym n.made) (go n.sign n.signed)
   where
     counted : (text : List ℕ) → drop (sign_length text) text ≡ n.whole ++ fraction n.decimals
         → Exact text n.whole n.decimals
     counted text e =
-        let c = counts (sign_length text) text n.whole n.decimals [] (e ∙ sym (append-nil (n.whole ++ fraction n.decimals))) n.digits n.behind in
+        let c = counts (sign_length text) text n.whole n.decimals [] (e
+        ∙ sym (append-nil (n.whole ++ fraction n.decimals))) n.digits n.behind in
         record { digits = c.all refl; behind = c.behind refl }
 
     go : (sign : List ℕ) → IsSign sign
         → Exact (sign ++ (n.whole ++ fraction n.decimals)) n.whole n.decimals
-    go _ unsigned = counted (n.whole ++ fraction n.decimals) (ap (λ (k : ℕ). drop k (n.whole ++ fraction n.decimals)) (first_digit n.whole (fraction n.decimals) n.some n.digits))
+    go _ unsigned =
+        counted (n.whole ++ fraction n.decimals)
+        (ap (λ (k : ℕ). drop k (n.whole ++ fraction n.decimals))
+        (first_digit n.whole (fraction n.decimals) n.some n.digits))
     go _ plus = counted (43 ∷ (n.whole ++ fraction n.decimals)) refl
     go _ minus = counted (45 ∷ (n.whole ++ fraction n.decimals)) refl
 
@@ -211,12 +245,18 @@ pub reaches : (k : Kind) (bytes rest : List ℕ) → IsToken k bytes → At k by
 reaches kind.Name bytes rest t = name_reaches bytes rest t
 reaches (kind.Keyword k) bytes rest t = keyword_reaches k bytes rest t
 reaches kind.Number bytes rest t = number_reaches bytes rest t
-reaches kind.Hex bytes rest t = subst (λ (xs : List ℕ). At kind.Hex xs rest) (sym t.made) (hex_reaches t.digits rest t.some t.few t.hexadecimal)
-reaches kind.Explanation bytes rest t = subst (λ (xs : List ℕ). At kind.Explanation xs rest) (sym t.made) (explanation_reaches t.inside rest t.next)
-reaches (kind.Mark m) bytes rest t = subst (λ (xs : List ℕ). At (kind.Mark m) xs rest) (sym t) (mark_reaches m rest)
+reaches kind.Hex bytes rest t =
+    subst (λ (xs : List ℕ). At kind.Hex xs rest) (sym t.made)
+    (hex_reaches t.digits rest t.some t.few t.hexadecimal)
+reaches kind.Explanation bytes rest t =
+    subst (λ (xs : List ℕ). At kind.Explanation xs rest) (sym t.made)
+    (explanation_reaches t.inside rest t.next)
+reaches (kind.Mark m) bytes rest t =
+    subst (λ (xs : List ℕ). At (kind.Mark m) xs rest) (sym t) (mark_reaches m rest)
 
 pub stands_reaches : (text : List ℕ) (k : Kind) (n : ℕ) → Stands text k n
     → Reaches k n text (front_of text)
 stands_reaches text k n s =
     subst (λ (m : ℕ). Reaches k m text (front_of text)) (length-take-le n text s.within)
-    (subst (λ (t : List ℕ). Reaches k (length (take n text)) t (front_of t)) (take-append-drop n text) (reaches k (take n text) (drop n text) s.token))
+    (subst (λ (t : List ℕ). Reaches k (length (take n text)) t (front_of t))
+    (take-append-drop n text) (reaches k (take n text) (drop n text) s.token))

@@ -22,7 +22,8 @@ lies text i front.LongNumber p = tt
 
 pub lies_at : (text : List ℕ) (i : ℕ) (f : Front) → f ≡ front_of (drop i text)
     → LiesIn (length text) i f
-lies_at text i f e = lies text i f (subst (IsPartOf (drop i text)) (sym e) (front_fits (drop i text)))
+lies_at text i f e =
+    lies text i f (subst (IsPartOf (drop i text)) (sym e) (front_fits (drop i text)))
 
 -- an earlier begin
 earlier : (end i j : ℕ) (ts : List Token) → i ≤ j → AreInOrder end j ts → AreInOrder end i ts
@@ -50,7 +51,9 @@ in_order_answer text _ _ h (passing i n a e g) =
     sooner end i j (fault f) h p = tt
 in_order_answer text _ _ h (taking i n k a b e g q) =
     let p = lies_at text i (front.Token k n) (sym (is_found (drop i text) (front.Token k n) e)) in
-    subst (InOrder (length text) i) (sym q) (one_before (length text) i (token_at text i k n) a (omega arith) (omega (arith, p.0)) (in_order_answer text (i + n) a p.1 g))
+    subst (InOrder (length text) i) (sym q)
+    (one_before (length text) i (token_at text i k n) a (omega arith) (omega (arith, p.0))
+    (in_order_answer text (i + n) a p.1 g))
 in_order_answer text _ _ h (at_bad_byte i e) = tt
 in_order_answer text _ _ h (at_open_explanation i e) = tt
 in_order_answer text _ _ h (at_long_number i n e) = tt

@@ -28,14 +28,18 @@ other_byte p b c h g = go (nat_eq c b) refl
   where
     go : (t : Bool) → nat_eq c b ≡ t → t ≡ false
     go false e = refl
-    go true e = let same = eqb-true c b e in absurd (let x : p b ≡ false = subst (λ (b : ℕ). p b ≡ false) same g in cc)
+    go true e =
+        let same = eqb-true c b e in
+        absurd (let x : p b ≡ false = subst (λ (b : ℕ). p b ≡ false) same g in cc)
 
 pub other_than : (p : ℕ → Bool) (b c : ℕ) → p b ≡ true → p c ≡ false → nat_eq b c ≡ false
 other_than p b c h g = go (nat_eq b c) refl
   where
     go : (t : Bool) → nat_eq b c ≡ t → t ≡ false
     go false e = refl
-    go true e = let same = eqb-true b c e in absurd (let x : p c ≡ true = subst (λ (b : ℕ). p b ≡ true) same h in cc)
+    go true e =
+        let same = eqb-true b c e in
+        absurd (let x : p c ≡ true = subst (λ (b : ℕ). p b ≡ true) same h in cc)
 
 pub no_front : (c b : ℕ) (word bs : List ℕ) → nat_eq c b ≡ false
     → begins (b ∷ bs) (c ∷ word) ≡ false
@@ -70,7 +74,9 @@ run_passes p (suc n) (x ∷ xs) h = go (run_passes p n xs) (p x) refl h
 pub run_append : (p : ℕ → Bool) (xs ys : List ℕ) → AllPass p xs
     → prefix_len p (xs ++ ys) ≡ length xs + prefix_len p ys
 run_append p [] ys h = omega arith
-run_append p (x ∷ xs) ys h = rw (All-head (λ x. p x ≡ true) x xs h) (omega (arith, run_append p xs ys (All-tail (λ x. p x ≡ true) x xs h)))
+run_append p (x ∷ xs) ys h =
+    rw (All-head (λ x. p x ≡ true) x xs h)
+    (omega (arith, run_append p xs ys (All-tail (λ x. p x ≡ true) x xs h)))
 
 pub run_stops : (p : ℕ → Bool) (x : ℕ) (xs : List ℕ) → p x ≡ false → prefix_len p (x ∷ xs) ≡ 0
 run_stops p x xs h = rw h refl

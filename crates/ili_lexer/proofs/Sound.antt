@@ -64,7 +64,8 @@ take_one : (n b : ℕ) (bs : List ℕ) → take (1 + n) (b ∷ bs) ≡ b ∷ tak
 take_one n b bs = let e : 1 + n ≡ suc n = omega arith in ap (λ (k : ℕ). take k (b ∷ bs)) e
 
 take_two : (n a b : ℕ) (bs : List ℕ) → take (2 + n) (a ∷ b ∷ bs) ≡ a ∷ b ∷ take n bs
-take_two n a b bs = let e : 2 + n ≡ suc (suc n) = omega arith in ap (λ (k : ℕ). take k (a ∷ b ∷ bs)) e
+take_two n a b bs =
+    let e : 2 + n ≡ suc (suc n) = omega arith in ap (λ (k : ℕ). take k (a ∷ b ∷ bs)) e
 
 -- ---- explanations
 -- up to the first `//` and with it
@@ -88,13 +89,17 @@ closed (b ∷ bs) n h = go (λ m. closed bs m) (begins (b ∷ bs) (codes "//")) 
         → Closed (b ∷ bs) n
     further t e m q c = record {
       inside = b ∷ c.inside;
-      made = subst (λ (n : ℕ). take n (b ∷ bs) ≡ b ∷ (c.inside ++ codes "//")) (sym q) (take_one m b bs ∙ ap (λ (xs : List ℕ). b ∷ xs) c.made);
+      made = subst (λ (n : ℕ). take n (b ∷ bs) ≡ b ∷ (c.inside ++ codes "//")) (sym q)
+          (take_one m b bs ∙ ap (λ (xs : List ℕ). b ∷ xs) c.made);
       count = let r = c.count in omega (arith, r);
       next = next;
     }
       where
         first : begins (b ∷ (c.inside ++ codes "//")) (codes "//") ≡ false
-        first = let r = c.count in subst (λ (xs : List ℕ). begins (b ∷ xs) (codes "//") ≡ false) c.made (begins_taken b m bs (omega (arith, r)) ∙ e)
+        first =
+            let r = c.count in
+            subst (λ (xs : List ℕ). begins (b ∷ xs) (codes "//") ≡ false) c.made
+            (begins_taken b m bs (omega (arith, r)) ∙ e)
 
         next : (i : ℕ) → i < length (b ∷ c.inside)
             → begins (drop i (b ∷ (c.inside ++ codes "//"))) (codes "//") ≡ false
@@ -112,7 +117,8 @@ closed (b ∷ bs) n h = go (λ m. closed bs m) (begins (b ∷ bs) (codes "//")) 
         → (if t then Some 2 else option_map (λ n. 1 + n) (closing bs)) ≡ Some n → Closed (b ∷ bs) n
     go f true e q = let r : 2 ≡ n = cc in record {
       inside = [];
-      made = subst (λ (n : ℕ). take n (b ∷ bs) ≡ codes "//") r (ap (take 2) (first_two 47 47 (b ∷ bs) e));
+      made = subst (λ (n : ℕ). take n (b ∷ bs) ≡ codes "//") r
+          (ap (take 2) (first_two 47 47 (b ∷ bs) e));
       count = sym r;
       next = λ i l. absurd (omega arith);
     }
@@ -132,17 +138,27 @@ explanation_sound text e = go (closing (drop 2 text)) (λ n. closed (drop 2 text
         → Sound text (option_map_or (λ n. Token kind.Explanation (2 + n)) o OpenExplanation)
     go None f = e
     go (Some n) f = let c = f n refl in record {
-      token = record { inside = c.inside; made = ap (take (2 + n)) same ∙ take_two n 47 47 (drop 2 text) ∙ ap (λ (xs : List ℕ). 47 ∷ 47 ∷ xs) c.made; next = c.next };
+      token = record {
+        inside = c.inside;
+        made = ap (take (2 + n)) same ∙ take_two n 47 47 (drop 2 text)
+            ∙ ap (λ (xs : List ℕ). 47 ∷ 47 ∷ xs) c.made;
+        next = c.next;
+      };
       few = tt;
-      closed = λ h. not_hex text (subst (λ (t : List ℕ). begins t (codes "0x") ≡ false) (sym same) refl) h;
+      closed = λ h. not_hex text
+          (subst (λ (t : List ℕ). begins t (codes "0x") ≡ false) (sym same) refl) h;
     }
 
 -- ---- hexadecimal numbers
 hex_sound : (text : List ℕ) → begins text (codes "0x") ≡ true → Sound text (hex_front text)
 hex_sound text e =
     let d = prefix_len is_ascii_hexdigit (drop 2 text) in
-    either (Sound text) (nat_eq d 0) _ _ (λ h. open_hex (record { opened = e; none = eqb-true d 0 h }))
-    (λ h. both_sides (λ (n : ℕ). Found text kind.Hex n) (nat_eq d 1) 3 4 (λ g. some 1 (eqb-false d 0 h) (omega arith) (omega arith) (omega (arith, eqb-true d 1 g))) (λ g. some 2 (eqb-false d 0 h) (omega arith) (omega arith) (omega (arith, eqb-false d 0 h, eqb-false d 1 g))))
+    either (Sound text) (nat_eq d 0) _ _
+    (λ h. open_hex (record { opened = e; none = eqb-true d 0 h }))
+    (λ h. both_sides (λ (n : ℕ). Found text kind.Hex n) (nat_eq d 1) 3 4
+    (λ g. some 1 (eqb-false d 0 h) (omega arith) (omega arith) (omega (arith, eqb-true d 1 g)))
+    (λ g. some 2 (eqb-false d 0 h) (omega arith) (omega arith)
+    (omega (arith, eqb-false d 0 h, eqb-false d 1 g))))
   where
     same : text ≡ 48 ∷ 120 ∷ drop 2 text
     same = first_two 48 120 text e
@@ -150,9 +166,17 @@ hex_sound text e =
     some : (n : ℕ) → (prefix_len is_ascii_hexdigit (drop 2 text) ≡ 0 → ⊥) → 0 < n → n ≤ 2
         → n ≤ prefix_len is_ascii_hexdigit (drop 2 text) → Found text kind.Hex (2 + n)
     some n z l m h =
-        let count : length (take n (drop 2 text)) ≡ n = length-take-le n (drop 2 text) (omega (arith, h, prefix_len-le-length is_ascii_hexdigit (drop 2 text))) in
+        let count : length (take n (drop 2 text))
+        ≡ n = length-take-le n (drop 2 text)
+        (omega (arith, h, prefix_len-le-length is_ascii_hexdigit (drop 2 text))) in
         record {
-          token = record { digits = take n (drop 2 text); made = ap (take (2 + n)) same ∙ take_two n 48 120 (drop 2 text); some = omega arith; few = omega arith; hexadecimal = run_passes is_ascii_hexdigit n (drop 2 text) h };
+          token = record {
+            digits = take n (drop 2 text);
+            made = ap (take (2 + n)) same ∙ take_two n 48 120 (drop 2 text);
+            some = omega arith;
+            few = omega arith;
+            hexadecimal = run_passes is_ascii_hexdigit n (drop 2 text) h;
+          };
           few = tt;
           closed = λ g. z g.none;
         }
@@ -163,11 +187,24 @@ word_kind : (w : List ℕ) (b : ℕ) (bs : List ℕ) → w ≡ b ∷ bs → is_a
 word_kind w b bs e h all = go (keyword_of w) refl
   where
     free : keyword_of w ≡ None → (k : Keyword) → w ≡ word_of k → ⊥
-    free n k q = let f = known k in let g : keyword_of w ≡ keyword_of (word_of k) = ap keyword_of q in absurd (cc)
+    free n k q =
+        let f = known k in
+        let g : keyword_of w ≡ keyword_of (word_of k) = ap keyword_of q in absurd (cc)
 
     go : (o : Option Keyword) → keyword_of w ≡ o
-        → IsToken (option_map_or (λ k. kind.Keyword k) o kind.Name) w × HasFewDigits (option_map_or (λ k. kind.Keyword k) o kind.Name) w
-    go None q = (record { first = b; rest = bs; made = e; letter = h; behind = all; free = free q }, tt)
+        → IsToken (option_map_or (λ k. kind.Keyword k) o kind.Name) w
+        × HasFewDigits (option_map_or (λ k. kind.Keyword k) o kind.Name) w
+    go None q = (
+      record {
+        first = b;
+        rest = bs;
+        made = e;
+        letter = h;
+        behind = all;
+        free = free q;
+      },
+      tt,
+    )
     go (Some k) q = (found w k q, tt)
 
 word_sound : (b : ℕ) (bs : List ℕ) → is_ascii_alphabetic b ≡ true
@@ -175,7 +212,9 @@ word_sound : (b : ℕ) (bs : List ℕ) → is_ascii_alphabetic b ≡ true
 word_sound b bs h x =
     let n = prefix_len is_name_byte bs in
     let e : prefix_len is_name_byte (b ∷ bs) ≡ 1 + n = rw (name_byte b h) refl in
-    let k = word_kind (take (prefix_len is_name_byte (b ∷ bs)) (b ∷ bs)) b (take n bs) (ap (λ (n : ℕ). take n (b ∷ bs)) e ∙ take_one n b bs) h (run_passes is_name_byte n bs (omega arith)) in
+    let k = word_kind (take (prefix_len is_name_byte (b ∷ bs)) (b ∷ bs)) b (take n bs)
+    (ap (λ (n : ℕ). take n (b ∷ bs)) e ∙ take_one n b bs) h
+    (run_passes is_name_byte n bs (omega arith)) in
     record { token = k.0; few = k.1; closed = not_hex (b ∷ bs) x }
 
 -- ---- marks
@@ -186,7 +225,8 @@ mark_bytes b (Some m) = b ∷ [] ≡ bytes_of_mark m
 mark_is : (b : ℕ) → mark_bytes b (byte_mark b)
 mark_is b =
     let P : Option Mark → Type 0 = mark_bytes b in
-    let f : (c : ℕ) → nat_eq b c ≡ true → b ∷ [] ≡ c ∷ [] = λ c e. ap (λ (x : ℕ). x ∷ []) (eqb-true b c e) in
+    let f : (c : ℕ) → nat_eq b c ≡ true
+    → b ∷ [] ≡ c ∷ [] = λ c e. ap (λ (x : ℕ). x ∷ []) (eqb-true b c e) in
     both_sides P (nat_eq b 59) _ _ (f 59)
     (λ _. both_sides P (nat_eq b 58) _ _ (f 58)
     (λ _. both_sides P (nat_eq b 44) _ _ (f 44)
@@ -202,8 +242,18 @@ mark_is b =
 mark_sound : (b : ℕ) (bs : List ℕ) → Clear (b ∷ bs) → begins (b ∷ bs) (codes "0x") ≡ false
     → Sound (b ∷ bs) (mark_front (b ∷ bs))
 mark_sound b bs c x =
-    either (Sound (b ∷ bs)) (begins (b ∷ bs) (codes "..")) _ _ (λ e. record { token = ap (take 2) (first_two 46 46 (b ∷ bs) e); few = tt; closed = not_hex (b ∷ bs) x })
-    (λ _. either (Sound (b ∷ bs)) (begins (b ∷ bs) (codes "->")) _ _ (λ e. record { token = ap (take 2) (first_two 45 62 (b ∷ bs) e); few = tt; closed = not_hex (b ∷ bs) x })
+    either (Sound (b ∷ bs)) (begins (b ∷ bs) (codes "..")) _ _
+    (λ e. record {
+      token = ap (take 2) (first_two 46 46 (b ∷ bs) e);
+      few = tt;
+      closed = not_hex (b ∷ bs) x;
+    })
+    (λ _. either (Sound (b ∷ bs)) (begins (b ∷ bs) (codes "->")) _ _
+    (λ e. record {
+      token = ap (take 2) (first_two 45 62 (b ∷ bs) e);
+      few = tt;
+      closed = not_hex (b ∷ bs) x;
+    })
     (λ _. one (byte_mark b) (mark_is b)))
   where
     one : (o : Option Mark) → mark_bytes b o
@@ -231,7 +281,9 @@ decimals_run x = go (begins x (codes ".")) refl
   where
     go : (t : Bool) → begins x (codes ".") ≡ t
         → ((if t then prefix_len is_ascii_digit (drop 1 x) else 0) ≡ 0 → ⊥)
-        → (begins x (codes ".") ≡ true) × ((if t then prefix_len is_ascii_digit (drop 1 x) else 0) ≡ prefix_len is_ascii_digit (drop 1 x))
+        → (begins x (codes ".") ≡ true)
+        × ((if t then prefix_len is_ascii_digit (drop 1 x) else 0)
+        ≡ prefix_len is_ascii_digit (drop 1 x))
     go true e f = (e, refl)
     go false e f = absurd (f refl)
 
@@ -239,7 +291,8 @@ decimals_run x = go (begins x (codes ".")) refl
 fraction_is : (d : ℕ) (x : List ℕ) → (d ≡ 0 → ⊥) → d ≤ length (drop 1 x)
     → begins x (codes ".") ≡ true → take (1 + d) x ≡ fraction (take d (drop 1 x))
 fraction_is zero x h l e = absurd (h refl)
-fraction_is (suc d) x h l e = ap (take (1 + suc d)) (first_one 46 x e) ∙ take_one (suc d) 46 (drop 1 x) ∙ go (drop 1 x) l
+fraction_is (suc d) x h l e = ap (take (1 + suc d)) (first_one 46 x e)
+    ∙ take_one (suc d) 46 (drop 1 x) ∙ go (drop 1 x) l
   where
     go : (y : List ℕ) → suc d ≤ length y → 46 ∷ take (suc d) y ≡ fraction (take (suc d) y)
     go [] l = absurd (omega arith)
@@ -253,11 +306,14 @@ record Numbered (text bytes : List ℕ) (w d : ℕ) : Type 0 where
 
 numbered : (s w d : ℕ) (text : List ℕ) → IsSign (take s text) → (w ≡ 0 → ⊥)
     → w ≤ prefix_len is_ascii_digit (drop s text)
-    → ((d ≡ 0 → ⊥) → (begins (drop (s + w) text) (codes ".") ≡ true) × (d ≤ prefix_len is_ascii_digit (drop 1 (drop (s + w) text)))) → Numbered text (take (s + w + (if nat_eq d 0 then 0 else 1) + d) text) w d
+    → ((d ≡ 0 → ⊥) → (begins (drop (s + w) text) (codes ".") ≡ true)
+    × (d ≤ prefix_len is_ascii_digit (drop 1 (drop (s + w) text))))
+    → Numbered text (take (s + w + (if nat_eq d 0 then 0 else 1) + d) text) w d
 numbered s w d text sign z run behind = go (nat_eq d 0) refl
   where
     count : length (take w (drop s text)) ≡ w
-    count = length-take-le w (drop s text) (omega (arith, run, prefix_len-le-length is_ascii_digit (drop s text)))
+    count = length-take-le w (drop s text)
+        (omega (arith, run, prefix_len-le-length is_ascii_digit (drop s text)))
 
     parts : take (s + w) text ≡ take s text ++ take w (drop s text)
     parts = take-add s w text
@@ -268,15 +324,19 @@ numbered s w d text sign z run behind = go (nat_eq d 0) refl
         let b = behind ne in
         let rest = drop (s + w) text in
         let run = b.1 in
-        let fits : d ≤ length (drop 1 rest) = omega (arith, run, prefix_len-le-length is_ascii_digit (drop 1 rest)) in
+        let fits : d ≤ length (drop 1 rest) = omega
+        (arith, run, prefix_len-le-length is_ascii_digit (drop 1 rest)) in
         let sum : s + w + 1 + d ≡ (s + w) + (1 + d) = omega arith in
         record {
           number = record {
             sign = take s text;
             whole = take w (drop s text);
             decimals = take d (drop 1 rest);
-            made = ap (λ (n : ℕ). take n text) sum ∙ take-add (s + w) (1 + d) text ∙ ap (λ (xs : List ℕ). xs ++ take (1 + d) rest) parts ∙ append_assoc (take s text) (take w (drop s text)) (take (1 + d) rest)
-                ∙ ap (λ (xs : List ℕ). take s text ++ (take w (drop s text) ++ xs)) (fraction_is d rest ne fits b.0);
+            made = ap (λ (n : ℕ). take n text) sum ∙ take-add (s + w) (1 + d) text
+                ∙ ap (λ (xs : List ℕ). xs ++ take (1 + d) rest) parts
+                ∙ append_assoc (take s text) (take w (drop s text)) (take (1 + d) rest)
+                ∙ ap (λ (xs : List ℕ). take s text ++ (take w (drop s text) ++ xs))
+                (fraction_is d rest ne fits b.0);
             signed = sign;
             some = omega (arith, count, z);
             digits = run_passes is_ascii_digit w (drop s text) run-w;
@@ -297,7 +357,8 @@ numbered s w d text sign z run behind = go (nat_eq d 0) refl
             sign = take s text;
             whole = take w (drop s text);
             decimals = [];
-            made = ap (λ (n : ℕ). take n text) sum ∙ parts ∙ ap (λ (xs : List ℕ). take s text ++ xs) (sym (append-nil (take w (drop s text))));
+            made = ap (λ (n : ℕ). take n text) sum ∙ parts
+                ∙ ap (λ (xs : List ℕ). take s text ++ xs) (sym (append-nil (take w (drop s text))));
             signed = sign;
             some = omega (arith, count, z);
             digits = run_passes is_ascii_digit w (drop s text) run;
@@ -322,16 +383,29 @@ number_sound b bs c x =
     either (Sound text) (nat_eq w 0) _ _ (λ _. mark_sound b bs c x)
     (λ z. let n = number (eqb-false w 0 z) in
     either (Sound text) (nat_lt 9 d || nat_lt 18 (w + d)) _ _
-    (λ long. record { within = (number_part text (eqb-false w 0 z)).within; number = n.number; long = too_long w d n.number n.whole n.decimals long })
-    (λ few. record { token = n.number; few = (n.number, short w d n.number n.whole n.decimals few); closed = not_hex text x }))
+    (λ long. record {
+      within = (number_part text (eqb-false w 0 z)).within;
+      number = n.number;
+      long = too_long w d n.number n.whole n.decimals long;
+    })
+    (λ few. record {
+      token = n.number;
+      few = (n.number, short w d n.number n.whole n.decimals few);
+      closed = not_hex text x;
+    }))
   where
     number : (prefix_len is_ascii_digit (drop (sign_length (b ∷ bs)) (b ∷ bs)) ≡ 0 → ⊥)
-        → Numbered (b ∷ bs) (take (number_length (b ∷ bs)) (b ∷ bs)) (prefix_len is_ascii_digit (drop (sign_length (b ∷ bs)) (b ∷ bs))) (decimals_of (drop (sign_length (b ∷ bs) + prefix_len is_ascii_digit (drop (sign_length (b ∷ bs)) (b ∷ bs))) (b ∷ bs)))
+        → Numbered (b ∷ bs) (take (number_length (b ∷ bs)) (b ∷ bs))
+        (prefix_len is_ascii_digit (drop (sign_length (b ∷ bs)) (b ∷ bs)))
+        (decimals_of
+        (drop (sign_length (b ∷ bs) + prefix_len is_ascii_digit
+        (drop (sign_length (b ∷ bs)) (b ∷ bs))) (b ∷ bs)))
     number z =
         let text = b ∷ bs in
         let s = sign_length text in
         let w = prefix_len is_ascii_digit (drop s text) in
-        numbered s w (decimals_of (drop (s + w) text)) text (sign_is text) z (omega arith) (λ ne. let r = decimals_run (drop (s + w) text) ne in (r.0, at_most _ _ r.1))
+        numbered s w (decimals_of (drop (s + w) text)) text (sign_is text) z (omega arith)
+        (λ ne. let r = decimals_run (drop (s + w) text) ne in (r.0, at_most _ _ r.1))
       where
         at_most : (m n : ℕ) → m ≡ n → m ≤ n
         at_most m n e = omega arith
@@ -363,4 +437,9 @@ sound (b ∷ bs) =
     (λ c. either P (begins t (codes "//")) _ _ (λ e. explanation_sound t e)
     (λ x. either P (begins t (codes "0x")) _ _ (λ e. hex_sound t e)
     (λ h. either P (is_ascii_alphabetic b) _ _ (λ e. word_sound b bs e h)
-    (λ e. number_sound b bs (record { some = λ q. absurd (cc); blank = free; comment = c; explanation = x }) h)))))
+    (λ e. number_sound b bs (record {
+      some = λ q. absurd (cc);
+      blank = free;
+      comment = c;
+      explanation = x;
+    }) h)))))

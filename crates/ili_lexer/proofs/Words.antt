@@ -82,7 +82,9 @@ found-among (x ∷ ks) w k h = go (found-among ks w k) (bytes_eq (word_of x) w) 
   where
     go : (keyword_among ks w ≡ Some k → w ≡ word_of k) → (t : Bool) → bytes_eq (word_of x) w ≡ t
         → cond t (Some x) (keyword_among ks w) ≡ Some k → w ≡ word_of k
-    go f true e q = let same : word_of x ≡ w = (bytes_eq-Decides (word_of x) w).0 e in let p : x ≡ k = cc in sym same ∙ ap word_of p
+    go f true e q =
+        let same : word_of x ≡ w = (bytes_eq-Decides (word_of x) w).0 e in
+        let p : x ≡ k = cc in sym same ∙ ap word_of p
     go f false e q = f q
 
 -- what is found by a word has that word

@@ -8,8 +8,11 @@ lines_at_most : (n : ℕ) (bs : List ℕ) → length (lines_from n bs) ≤ n
 unfolding lines_from
 lines_at_most zero bs = omega arith
 lines_at_most (suc n) [] = omega arith
-lines_at_most (suc n) (b ∷ rest) = let h = lines_at_most n (drop (line_len (b ∷ rest)) (b ∷ rest)) in omega (arith, h)
+lines_at_most (suc n) (b ∷ rest) =
+    let h = lines_at_most n (drop (line_len (b ∷ rest)) (b ∷ rest)) in omega (arith, h)
 
 -- no more than bytes
 pub few_lines : (text : List ℕ) → length (physical_lines text) ≤ length text
-few_lines text = let h = lines_at_most (length text) text in let l = length-map (lines_of text) without_terminator in omega (arith, h, l)
+few_lines text =
+    let h = lines_at_most (length text) text in
+    let l = length-map (lines_of text) without_terminator in omega (arith, h, l)

@@ -21,7 +21,8 @@ named n w fs = record { number = n; word = Some w; fields = fs }
 named_more : (n : ℕ) (w : LineWord) (xs fs : List (List ℕ))
     → with_fields (named n w xs) fs ≡ named n w (xs ++ fs)
 named_more n w xs [] = ap (named n w) (sym (append-nil xs))
-named_more n w xs (f ∷ fs) = named_more n w (xs ++ (f ∷ [])) fs ∙ ap (named n w) (append_assoc xs (f ∷ []) fs)
+named_more n w xs (f ∷ fs) = named_more n w (xs ++ (f ∷ [])) fs
+    ∙ ap (named n w) (append_assoc xs (f ∷ []) fs)
 
 -- fields after the word
 
@@ -30,7 +31,11 @@ pub others : (h : OpenLine) (w : LineWord) (fs : List (List ℕ)) → h.word ≡
 others h w fs e = rw e (named_more h.number w h.fields fs)
 
 pub word_first : (h : OpenLine) (f : List ℕ) (fs : List (List ℕ)) → h.word ≡ None
-    → with_fields h (f ∷ fs) ≡ with_others (record { number = h.number; word = Some (word_of f); fields = h.fields }) fs
+    → with_fields h (f ∷ fs) ≡ with_others (record {
+      number = h.number;
+      word = Some (word_of f);
+      fields = h.fields;
+    }) fs
 word_first h f fs e = rw e (named_more h.number (word_of f) h.fields fs)
 
 pub begun : (n : ℕ) (f : List ℕ) (fs : List (List ℕ))
@@ -40,7 +45,11 @@ begun n f fs = word_first (no_fields n) f fs refl
 -- a field that was added empty, and then filled
 pub last_filled : (h : OpenLine) (xs : List (List ℕ)) (none field : List ℕ) (i : ℕ)
     → xs ≡ h.fields ++ (none ∷ []) → i ≡ length xs - 1
-    → record { number = h.number; word = h.word; fields = slice_set xs i field } ≡ with_others h (field ∷ [])
+    → record {
+      number = h.number;
+      word = h.word;
+      fields = slice_set xs i field;
+    } ≡ with_others h (field ∷ [])
 last_filled h xs none field i e l =
     let n : i ≡ length h.fields = l ∙ rw e (omega (arith, length-append h.fields (none ∷ []))) in
     rw (n, e, set-append_seam h.fields none [] field) refl
@@ -51,6 +60,11 @@ pub gathered_line : (n : ℕ) (fs : List (List ℕ))
 gathered_line n [] = refl
 gathered_line n (f ∷ fs) = ap line_in (named_more n (word_of f) [] fs)
 
-pub gathered_any : (n : ℕ) (fs : List (List ℕ)) → any_line (with_fields (no_fields n) fs) ≡ record { number = n; word = word_in fs; fields = without_first fs }
+pub gathered_any : (n : ℕ) (fs : List (List ℕ))
+    → any_line (with_fields (no_fields n) fs) ≡ record {
+      number = n;
+      word = word_in fs;
+      fields = without_first fs;
+    }
 gathered_any n [] = refl
 gathered_any n (f ∷ fs) = ap any_line (named_more n (word_of f) [] fs)

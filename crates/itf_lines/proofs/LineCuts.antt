@@ -15,22 +15,30 @@ use Rattle.itf_lines.specs.Feeds.{IsEnded}
 len_ended : (a b : List ℕ) → has_no_lf a ≡ true → line_len (a ++ 10 ∷ b) ≡ suc (length a)
 unfolding line_len
 len_ended [] b h = refl
-len_ended (c ∷ a) b h = elim (c == 10) as (λ t. (not t && has_no_lf a) ≡ true → cond t 1 (suc (line_len (a ++ 10 ∷ b))) ≡ suc (suc (length a))) [
-  | true ↦ λ g. absurd cc
-  | false ↦ λ g. ap suc (len_ended a b g)
-] h
+len_ended (c ∷ a) b h =
+    elim (c == 10) as (λ t. (not t && has_no_lf a) ≡ true
+    → cond t 1 (suc (line_len (a ++ 10 ∷ b))) ≡ suc (suc (length a))) [
+      | true ↦ λ g. absurd cc
+      | false ↦ λ g. ap suc (len_ended a b g)
+    ] h
 
 len_open : (a : List ℕ) → has_no_lf a ≡ true → line_len a ≡ length a
 unfolding line_len
 len_open [] h = refl
-len_open (c ∷ a) h = elim (c == 10) as (λ t. (not t && has_no_lf a) ≡ true → cond t 1 (suc (line_len a)) ≡ suc (length a)) [
-  | true ↦ λ g. absurd cc
-  | false ↦ λ g. ap suc (len_open a g)
-] h
+len_open (c ∷ a) h =
+    elim (c == 10) as (λ t. (not t && has_no_lf a) ≡ true
+    → cond t 1 (suc (line_len a)) ≡ suc (length a)) [
+      | true ↦ λ g. absurd cc
+      | false ↦ λ g. ap suc (len_open a g)
+    ] h
 
 len_some : (c : ℕ) (a : List ℕ) → 1 ≤ line_len (c ∷ a)
 unfolding line_len
-len_some c a = elim (c == 10) as (λ t. 1 ≤ cond t 1 (suc (line_len a))) [ true ↦ omega arith | false ↦ omega arith ]
+len_some c a =
+    elim (c == 10) as (λ t. 1 ≤ cond t 1 (suc (line_len a))) [
+      | true ↦ omega arith
+      | false ↦ omega arith
+    ]
 
 -- more fuel than bytes is of no use
 fuel : (n m : ℕ) (bs : List ℕ) → length bs ≤ n → length bs ≤ m → lines_from n bs ≡ lines_from m bs
@@ -42,7 +50,9 @@ fuel (suc n) (suc m) [] h k = refl
 fuel (suc n) (suc m) (c ∷ bs) h k =
     let d = length-drop (line_len (c ∷ bs)) (c ∷ bs) in
     let s = len_some c bs in
-    ap (λ (ls : List (List ℕ)). take (line_len (c ∷ bs)) (c ∷ bs) ∷ ls) (fuel n m (drop (line_len (c ∷ bs)) (c ∷ bs)) (omega (arith, h, d, s)) (omega (arith, k, d, s)))
+    ap (λ (ls : List (List ℕ)). take (line_len (c ∷ bs)) (c ∷ bs) ∷ ls)
+    (fuel n m (drop (line_len (c ∷ bs)) (c ∷ bs)) (omega (arith, h, d, s))
+    (omega (arith, k, d, s)))
 fuel zero m (c ∷ bs) h k = absurd (omega (arith, h))
 fuel (suc n) zero (c ∷ bs) h k = absurd (omega (arith, k))
 
@@ -65,7 +75,9 @@ cut_lines [] b h = first_line 10 b 1 (len_ended [] b h)
 cut_lines (c ∷ a) b h =
     let l = length-append a (10 ∷ b) in
     first_line c (a ++ 10 ∷ b) (suc (suc (length a))) (len_ended (c ∷ a) b h)
-    ∙ rw (take_over a b 10, drop_over a b 10) (ap (λ (ls : List (List ℕ)). (c ∷ (a ++ 10 ∷ [])) ∷ ls) (fuel (length (a ++ 10 ∷ b)) (length b) b (omega (arith, l)) (omega arith)))
+    ∙ rw (take_over a b 10, drop_over a b 10)
+    (ap (λ (ls : List (List ℕ)). (c ∷ (a ++ 10 ∷ [])) ∷ ls)
+    (fuel (length (a ++ 10 ∷ b)) (length b) b (omega (arith, l)) (omega arith)))
 
 -- a line ends with its LF, whatever follows
 pub cut_physical : (a b : List ℕ) → has_no_lf a ≡ true
@@ -75,8 +87,17 @@ cut_physical a b h = ap (map without_terminator) (cut_lines a b h)
 no_lf_at : (bs : List ℕ) (i : ℕ) → has_no_lf bs ≡ true → i < length bs
     → (slice_index bs i == 10) ≡ false
 no_lf_at [] i h k = absurd (omega (arith, k))
-no_lf_at (c ∷ bs) zero h k = elim (c == 10) as (λ t. (not t && has_no_lf bs) ≡ true → t ≡ false) [ true ↦ λ g. absurd cc | false ↦ λ g. refl ] h
-no_lf_at (c ∷ bs) (suc i) h k = elim (c == 10) as (λ t. (not t && has_no_lf bs) ≡ true → (slice_index bs i == 10) ≡ false) [ true ↦ λ g. absurd cc | false ↦ λ g. no_lf_at bs i g (omega (arith, k)) ] h
+no_lf_at (c ∷ bs) zero h k =
+    elim (c == 10) as (λ t. (not t && has_no_lf bs) ≡ true → t ≡ false) [
+      | true ↦ λ g. absurd cc
+      | false ↦ λ g. refl
+    ] h
+no_lf_at (c ∷ bs) (suc i) h k =
+    elim (c == 10) as (λ t. (not t && has_no_lf bs) ≡ true
+    → (slice_index bs i == 10) ≡ false) [
+      | true ↦ λ g. absurd cc
+      | false ↦ λ g. no_lf_at bs i g (omega (arith, k))
+    ] h
 
 and_false : (b : Bool) → (b && false) ≡ false
 and_false true = refl
@@ -84,8 +105,11 @@ and_false false = refl
 
 open_kept : (c : ℕ) (bs : List ℕ) → has_no_lf (c ∷ bs) ≡ true → without_terminator (c ∷ bs) ≡ c ∷ bs
 open_kept c bs h =
-    let e : (nat_lt 0 (length (c ∷ bs)) && slice_index (c ∷ bs) (length (c ∷ bs) - 1) == 10) ≡ false =
-    ap (λ (t : Bool). nat_lt 0 (length (c ∷ bs)) && t) (no_lf_at (c ∷ bs) (length (c ∷ bs) - 1) h (omega arith)) ∙ and_false (nat_lt 0 (length (c ∷ bs))) in
+    let e : (nat_lt 0 (length (c ∷ bs)) && slice_index (c ∷ bs) (length (c ∷ bs) - 1) == 10)
+    ≡ false =
+    ap (λ (t : Bool). nat_lt 0 (length (c ∷ bs)) && t)
+    (no_lf_at (c ∷ bs) (length (c ∷ bs) - 1) h (omega arith))
+    ∙ and_false (nat_lt 0 (length (c ∷ bs))) in
     ap (λ (t : Bool). cond t (no_cr (take (length (c ∷ bs) - 1) (c ∷ bs))) (c ∷ bs)) e
 
 no_lines : (n : ℕ) → lines_from n [] ≡ []
@@ -99,7 +123,12 @@ pub open_physical : (bs : List ℕ) → has_no_lf bs ≡ true → 0 < length bs
 open_physical [] h k = absurd (omega (arith, k))
 open_physical (c ∷ bs) h k =
     let one : lines_of (c ∷ bs) ≡ (c ∷ bs) ∷ [] =
-    first_line c bs (suc (length bs)) (len_open (c ∷ bs) h) ∙ rw (take_all (length bs) bs (omega arith), drop_all (length bs) bs (omega arith), no_lines (length bs)) refl in
+    first_line c bs (suc (length bs)) (len_open (c ∷ bs) h)
+    ∙ rw (
+      take_all (length bs) bs (omega arith),
+      drop_all (length bs) bs (omega arith),
+      no_lines (length bs),
+    ) refl in
     ap (map without_terminator) one ∙ ap (λ (l : List ℕ). l ∷ []) (open_kept c bs h)
 
 pub nothing_physical : physical_lines [] ≡ []
@@ -108,7 +137,12 @@ nothing_physical = ap (map without_terminator) (no_lines 0)
 pub no_lf-append : (a b : List ℕ) → has_no_lf a ≡ true → has_no_lf b ≡ true
     → has_no_lf (a ++ b) ≡ true
 no_lf-append [] b h k = k
-no_lf-append (c ∷ a) b h k = elim (c == 10) as (λ t. (not t && has_no_lf a) ≡ true → (not t && has_no_lf (a ++ b)) ≡ true) [ true ↦ λ g. absurd cc | false ↦ λ g. no_lf-append a b g k ] h
+no_lf-append (c ∷ a) b h k =
+    elim (c == 10) as (λ t. (not t && has_no_lf a) ≡ true
+    → (not t && has_no_lf (a ++ b)) ≡ true) [
+      | true ↦ λ g. absurd cc
+      | false ↦ λ g. no_lf-append a b g k
+    ] h
 
 none_lf : (bs : List ℕ) → ((k : ℕ) → k < length bs → (slice_index bs k == 10) ≡ true → ⊥)
     → has_no_lf bs ≡ true
@@ -119,13 +153,15 @@ none_lf (c ∷ bs) h = elim (c == 10) as (λ t. (c == 10) ≡ t → (not t && ha
 ] refl
 
 regrouped : (b f z : List ℕ) → b ++ ((f ++ 10 ∷ []) ++ z) ≡ (b ++ f) ++ 10 ∷ z
-regrouped b f z = ap (λ (l : List ℕ). b ++ l) (append_assoc f (10 ∷ []) z) ∙ sym (append_assoc b f (10 ∷ z))
+regrouped b f z = ap (λ (l : List ℕ). b ++ l) (append_assoc f (10 ∷ []) z)
+    ∙ sym (append_assoc b f (10 ∷ z))
 
 -- the last bytes of a physical line, after those before
 pub cut_begun : (b bytes : List ℕ) → has_no_lf b ≡ true → IsEnded bytes → (z : List ℕ)
     → physical_lines (b ++ (bytes ++ z)) ≡ without_terminator (b ++ bytes) ∷ physical_lines z
 cut_begun b bytes h k z =
-    let whole : (b ++ k.front) ++ 10 ∷ [] ≡ b ++ bytes = append_assoc b k.front (10 ∷ []) ∙ ap (λ (l : List ℕ). b ++ l) (sym k.ends) in
+    let whole : (b ++ k.front) ++ 10 ∷ [] ≡ b ++ bytes = append_assoc b k.front (10 ∷ [])
+    ∙ ap (λ (l : List ℕ). b ++ l) (sym k.ends) in
     ap (λ (l : List ℕ). physical_lines (b ++ (l ++ z))) k.ends
     ∙ (ap physical_lines (regrouped b k.front z)
     ∙ (cut_physical (b ++ k.front) z (no_lf-append b k.front h k.plain)
@@ -143,8 +179,11 @@ first_found bs k h =
     let t = length-take-le k bs (omega (arith, inside)) in
     record {
       front = take k bs;
-      plain = none_lf (take k bs) (λ i l e. h.0.before i (omega arith) (omega (arith, l, t)) (sym (ap (λ (x : ℕ). x == 10) (get_or-take k bs i 0 (omega (arith, l, t)))) ∙ e));
-      ends = take_more bs k 0 inside ∙ ap (λ (x : ℕ). take k bs ++ x ∷ []) (eqb-true (slice_index bs k) 10 h.1);
+      plain = none_lf (take k bs)
+          (λ i l e. h.0.before i (omega arith) (omega (arith, l, t))
+          (sym (ap (λ (x : ℕ). x == 10) (get_or-take k bs i 0 (omega (arith, l, t)))) ∙ e));
+      ends = take_more bs k 0 inside
+          ∙ ap (λ (x : ℕ). take k bs ++ x ∷ []) (eqb-true (slice_index bs k) 10 h.1);
     }
 
 -- the same of what is left of a piece from a place on
@@ -153,7 +192,9 @@ pub found_from : (piece : List ℕ) (at end : ℕ)
     → IsEnded (take (at + end + 1 - at) (drop at piece))
 found_from piece at end h =
     let n : at + end + 1 - at ≡ end + 1 = omega arith in
-    subst (λ (m : ℕ). IsEnded (take m (drop at piece))) (sym n) (first_found (drop at piece) end (subst (λ (l : List ℕ). IsFirstByte (is_byte 10) l (Some end)) (take_rest piece at) h))
+    subst (λ (m : ℕ). IsEnded (take m (drop at piece))) (sym n)
+    (first_found (drop at piece) end
+    (subst (λ (l : List ℕ). IsFirstByte (is_byte 10) l (Some end)) (take_rest piece at) h))
 
 pub found_within : (piece : List ℕ) (at end : ℕ) → at ≤ length piece
     → IsFirstByte (is_byte 10) (take (length piece - at) (drop at piece)) (Some end)

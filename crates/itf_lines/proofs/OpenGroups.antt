@@ -43,7 +43,8 @@ pub opened : (n : ℕ) (fs : List (List ℕ)) → is_cont fs ≡ false
     → Opens (piece_at n fs true ∷ []) (with_fields (no_fields n) fs) n
 opened n fs h = record {
   fault = λ rest. begins n fs true rest h ∙ on_and_on n fs rest;
-  line = λ rest. sym (ap line_in (sym (with_fields-append (no_fields n) fs (added_by rest))) ∙ gathered_line n (fs ++ added_by rest));
+  line = λ rest. sym (ap line_in (sym (with_fields-append (no_fields n) fs (added_by rest)))
+      ∙ gathered_line n (fs ++ added_by rest));
 }
 
 continues : (last n : ℕ) (fs : List (List ℕ)) (o : Bool) (rest : List Piece) → is_cont fs ≡ true
@@ -57,8 +58,11 @@ pub opened_more : (g : List Piece) (w : OpenLine) (last n : ℕ) (fs : List (Lis
 opened_more g w last n fs k h =
     let p = piece_at n fs true in
     record {
-      fault = λ rest. ap fault_of (append_assoc g (p ∷ []) rest) ∙ (k.fault (p ∷ rest) ∙ (continues last n fs true rest h ∙ on_and_on n fs rest));
-      line = λ rest. ap line_of (append_assoc g (p ∷ []) rest) ∙ (k.line (p ∷ rest) ∙ ap line_in (with_fields-append w (without_first fs) (added_by rest)));
+      fault = λ rest. ap fault_of (append_assoc g (p ∷ []) rest)
+          ∙ (k.fault (p ∷ rest) ∙ (continues last n fs true rest h ∙ on_and_on n fs rest));
+      line = λ rest. ap line_of (append_assoc g (p ∷ []) rest)
+          ∙ (k.line (p ∷ rest)
+          ∙ ap line_in (with_fields-append w (without_first fs) (added_by rest)));
     }
 
 -- nothing more comes
@@ -67,7 +71,8 @@ pub open_end : (g : List Piece) (w : OpenLine) (last : ℕ) → Opens g w last
 open_end g w last k = ap fault_of (sym (append-nil g)) ∙ k.fault []
 
 -- another line follows
-pub open_broken : (g : List Piece) (w : OpenLine) (last n : ℕ) (fs : List (List ℕ)) (o : Bool) (rest : List Piece)
+pub open_broken : (g : List Piece) (w : OpenLine) (last n : ℕ) (fs : List (List ℕ)) (o : Bool)
+    (rest : List Piece)
     → Opens g w last → is_cont fs ≡ false
     → fault_of (g ++ (piece_at n fs o ∷ rest)) ≡ Some (OpenContinue last)
 open_broken g w last n fs o rest k h = k.fault (piece_at n fs o ∷ rest) ∙ other last n fs o rest h
@@ -83,4 +88,5 @@ open_closed g w last n fs k h = k.fault (piece_at n fs false ∷ []) ∙ continu
 
 pub open_line : (g : List Piece) (w : OpenLine) (last n : ℕ) (fs : List (List ℕ)) → Opens g w last
     → line_of (g ++ (piece_at n fs false ∷ [])) ≡ line_in (with_fields w (without_first fs))
-open_line g w last n fs k = k.line (piece_at n fs false ∷ []) ∙ ap (λ (xs : List (List ℕ)). line_in (with_fields w xs)) (append-nil (without_first fs))
+open_line g w last n fs k = k.line (piece_at n fs false ∷ [])
+    ∙ ap (λ (xs : List (List ℕ)). line_in (with_fields w xs)) (append-nil (without_first fs))

@@ -72,7 +72,8 @@ prefix_faulty_join : (g : List Piece) (p : Piece) (gs : List (List Piece)) (f : 
 prefix_faulty_join g p [] f h = faulty (g ++ (p ∷ [])) [] f (h [])
 prefix_faulty_join g p (k ∷ gs) f h = faulty (g ++ (p ∷ k)) gs f (h k)
 
-prefix_faulty : (g : List Piece) (n : ℕ) (fs : List (List ℕ)) (o : Bool) (q : List Piece) (f : LineFault)
+prefix_faulty : (g : List Piece) (n : ℕ) (fs : List (List ℕ)) (o : Bool) (q : List Piece)
+    (f : LineFault)
     → ((rest : List Piece) → fault_of (g ++ (piece_at n fs o ∷ rest)) ≡ Some f)
     → rest_of (prefixed g (groups (piece_at n fs o ∷ q))) ≡ only_fault f
 prefix_faulty g n fs true q f h = prefix_faulty_join g (piece_at n fs true) (groups q) f h
@@ -90,37 +91,57 @@ taken s from = lines_then s.lines (from s.next)
 
 begun_not : (n : ℕ) (fs : List (List ℕ)) (o : Bool) (q : List Piece) (from : PassState → Rest)
     → Known q from → is_cont fs ≡ false
-    → taken (end_step o n (with_fields (no_fields n) fs)) from ≡ rest_of (groups (piece_at n fs o ∷ q))
-begun_not n fs true q from k h = k.waiting (piece_at n fs true ∷ []) (with_fields (no_fields n) fs) n (opened n fs h) ∙ ap rest_of (sym (prefix_one (piece_at n fs true) (groups q)))
+    → taken (end_step o n (with_fields (no_fields n) fs)) from
+    ≡ rest_of (groups (piece_at n fs o ∷ q))
+begun_not n fs true q from k h =
+    k.waiting (piece_at n fs true ∷ []) (with_fields (no_fields n) fs) n (opened n fs h)
+    ∙ ap rest_of (sym (prefix_one (piece_at n fs true) (groups q)))
 begun_not n fs false q from k h =
     ap (lines_then (line_in (with_fields (no_fields n) fs))) k.between
-    ∙ sym (clean (piece_at n fs false ∷ []) (groups q) (line_in (with_fields (no_fields n) fs)) (alone n fs h) (ap (line_with n) (append-nil fs) ∙ sym (gathered_line n fs)))
+    ∙ sym (clean (piece_at n fs false ∷ []) (groups q) (line_in (with_fields (no_fields n) fs))
+    (alone n fs h) (ap (line_with n) (append-nil fs) ∙ sym (gathered_line n fs)))
 
 begun_is : (n : ℕ) (fs : List (List ℕ)) (o : Bool) (q : List Piece) (from : PassState → Rest)
     → Known q from
-    → taken (if is_cont fs then fault_step (StrayCont n) else end_step o n (with_fields (no_fields n) fs)) from ≡ rest_of (groups (piece_at n fs o ∷ q))
+    → taken (if is_cont fs then fault_step (StrayCont n) else end_step o n
+    (with_fields (no_fields n) fs)) from ≡ rest_of (groups (piece_at n fs o ∷ q))
 begun_is n fs o q from k =
-    elim (is_cont fs) as (λ b. is_cont fs ≡ b → taken (if b then fault_step (StrayCont n) else end_step o n (with_fields (no_fields n) fs)) from ≡ rest_of (groups (piece_at n fs o ∷ q))) [
-      | true ↦ λ e. k.broken (StrayCont n) ∙ sym (front_faulty n fs o q (StrayCont n) (λ rest. stray n fs o rest e))
+    elim (is_cont fs) as (λ b. is_cont fs ≡ b
+    → taken (if b then fault_step (StrayCont n) else end_step o n
+    (with_fields (no_fields n) fs)) from ≡ rest_of (groups (piece_at n fs o ∷ q))) [
+      | true ↦ λ e. k.broken (StrayCont n)
+          ∙ sym (front_faulty n fs o q (StrayCont n) (λ rest. stray n fs o rest e))
       | false ↦ λ e. begun_not n fs o q from k e
     ] refl
 
-gone_cont : (g : List Piece) (w : OpenLine) (last n : ℕ) (fs : List (List ℕ)) (o : Bool) (q : List Piece) (from : PassState → Rest)
+gone_cont : (g : List Piece) (w : OpenLine) (last n : ℕ) (fs : List (List ℕ)) (o : Bool)
+    (q : List Piece) (from : PassState → Rest)
     → Known q from → Opens g w last → is_cont fs ≡ true
-    → taken (end_step o n (with_fields w (without_first fs))) from ≡ rest_of (prefixed g (groups (piece_at n fs o ∷ q)))
+    → taken (end_step o n (with_fields w (without_first fs))) from
+    ≡ rest_of (prefixed g (groups (piece_at n fs o ∷ q)))
 gone_cont g w last n fs true q from k i h =
-    k.waiting (g ++ (piece_at n fs true ∷ [])) (with_fields w (without_first fs)) n (opened_more g w last n fs i h) ∙ ap rest_of (sym (prefix_join g (piece_at n fs true) (groups q)))
+    k.waiting (g ++ (piece_at n fs true ∷ [])) (with_fields w (without_first fs)) n
+    (opened_more g w last n fs i h)
+    ∙ ap rest_of (sym (prefix_join g (piece_at n fs true) (groups q)))
 gone_cont g w last n fs false q from k i h =
     ap (lines_then (line_in (with_fields w (without_first fs)))) k.between
-    ∙ sym (clean (g ++ (piece_at n fs false ∷ [])) (groups q) (line_in (with_fields w (without_first fs))) (open_closed g w last n fs i h) (open_line g w last n fs i))
+    ∙ sym (clean (g ++ (piece_at n fs false ∷ [])) (groups q)
+    (line_in (with_fields w (without_first fs))) (open_closed g w last n fs i h)
+    (open_line g w last n fs i))
 
-gone_is : (g : List Piece) (w : OpenLine) (last n : ℕ) (fs : List (List ℕ)) (o : Bool) (q : List Piece) (from : PassState → Rest)
+gone_is : (g : List Piece) (w : OpenLine) (last n : ℕ) (fs : List (List ℕ)) (o : Bool)
+    (q : List Piece) (from : PassState → Rest)
     → Known q from → Opens g w last
-    → taken (if is_cont fs then end_step o n (with_fields w (without_first fs)) else fault_step (OpenContinue last)) from ≡ rest_of (prefixed g (groups (piece_at n fs o ∷ q)))
+    → taken (if is_cont fs then end_step o n (with_fields w (without_first fs)) else fault_step
+    (OpenContinue last)) from ≡ rest_of (prefixed g (groups (piece_at n fs o ∷ q)))
 gone_is g w last n fs o q from k i =
-    elim (is_cont fs) as (λ b. is_cont fs ≡ b → taken (if b then end_step o n (with_fields w (without_first fs)) else fault_step (OpenContinue last)) from ≡ rest_of (prefixed g (groups (piece_at n fs o ∷ q)))) [
+    elim (is_cont fs) as (λ b. is_cont fs ≡ b
+    → taken (if b then end_step o n (with_fields w (without_first fs)) else fault_step
+    (OpenContinue last)) from ≡ rest_of (prefixed g (groups (piece_at n fs o ∷ q)))) [
       | true ↦ λ e. gone_cont g w last n fs o q from k i e
-      | false ↦ λ e. k.broken (OpenContinue last) ∙ sym (prefix_faulty g n fs o q (OpenContinue last) (λ rest. open_broken g w last n fs o rest i e))
+      | false ↦ λ e. k.broken (OpenContinue last)
+          ∙ sym (prefix_faulty g n fs o q (OpenContinue last)
+          (λ rest. open_broken g w last n fs o rest i e))
     ] refl
 
 still_broken : (code n : ℕ) (f : LineFault) (ls : List (List ℕ))
@@ -141,7 +162,8 @@ known code n (l ∷ ls) =
     let k = known code (n + 1) ls in
     record {
       between = begun_is n (fields text) (goes_on code l) (pieces code (n + 1) ls) from k;
-      waiting = λ g w last i. gone_is g w last n (fields text) (goes_on code l) (pieces code (n + 1) ls) from k i;
+      waiting = λ g w last i. gone_is g w last n (fields text) (goes_on code l)
+          (pieces code (n + 1) ls) from k i;
       broken = λ f. still_broken code (n + 1) f ls;
     }
 
@@ -151,32 +173,49 @@ body_pass code n ls = let k = known code n ls in k.between
 
 -- and from the start on the lines of the head before them
 abbrev pub whole_from : ℕ → ℕ → List (List ℕ) → Rest
-whole_from code n ls = lines_then (head_lines n (head ls)) (rest_of (groups (pieces code (n + length (head ls)) (body ls))))
+whole_from code n ls =
+    lines_then (head_lines n (head ls))
+    (rest_of (groups (pieces code (n + length (head ls)) (body ls))))
 
 abbrev head_if : ℕ → ℕ → List ℕ → List (List ℕ) → Bool → Rest
 head_if code n l ls b =
     let front = cond b (l ∷ []) (l ∷ head ls) in
-    lines_then (head_lines n front) (rest_of (groups (pieces code (n + length front) (cond b ls (body ls)))))
+    lines_then (head_lines n front)
+    (rest_of (groups (pieces code (n + length front) (cond b ls (body ls)))))
 
 slashes_first : (code n : ℕ) (l : List ℕ) (ls : List (List ℕ)) → is_slashes l ≡ true
-    → whole_from code n (l ∷ ls) ≡ lines_then (head_line n l ∷ []) (rest_of (groups (pieces code (n + 1) ls)))
+    → whole_from code n (l ∷ ls) ≡ lines_then (head_line n l ∷ [])
+    (rest_of (groups (pieces code (n + 1) ls)))
 slashes_first code n l ls h = ap (head_if code n l ls) h
 
 free_first : (code n : ℕ) (l : List ℕ) (ls : List (List ℕ)) → is_slashes l ≡ false
     → whole_from code n (l ∷ ls) ≡ lines_then (head_line n l ∷ []) (whole_from code (n + 1) ls)
 free_first code n l ls h =
     let e : n + suc (length (head ls)) ≡ (n + 1) + length (head ls) = omega arith in
-    ap (head_if code n l ls) h ∙ ap (λ (m : ℕ). lines_then (head_line n l ∷ head_lines (n + 1) (head ls)) (rest_of (groups (pieces code m (body ls))))) e
+    ap (head_if code n l ls) h
+    ∙ ap (λ (m : ℕ). lines_then (head_line n l ∷ head_lines (n + 1) (head ls))
+    (rest_of (groups (pieces code m (body ls))))) e
 
 pub head_pass : (code n : ℕ) (ls : List (List ℕ))
     → pass code n in_the_head ls ≡ whole_from code n ls
 head_pass code n [] = refl
 head_pass code n (l ∷ ls) =
-    elim (is_slashes l) as (λ b. is_slashes l ≡ b → lines_then (head_line n l ∷ []) (pass code (n + 1) (if b then between else in_the_head) ls) ≡ whole_from code n (l ∷ ls)) [
-      | true ↦ λ e. ap (lines_then (head_line n l ∷ [])) (body_pass code (n + 1) ls) ∙ sym (slashes_first code n l ls e)
-      | false ↦ λ e. ap (lines_then (head_line n l ∷ [])) (head_pass code (n + 1) ls) ∙ sym (free_first code n l ls e)
+    elim (is_slashes l) as (λ b. is_slashes l ≡ b
+    → lines_then (head_line n l ∷ [])
+    (pass code (n + 1) (if b then between else in_the_head) ls) ≡ whole_from code n (l ∷ ls)) [
+      | true ↦ λ e. ap (lines_then (head_line n l ∷ [])) (body_pass code (n + 1) ls)
+          ∙ sym (slashes_first code n l ls e)
+      | false ↦ λ e. ap (lines_then (head_line n l ∷ [])) (head_pass code (n + 1) ls)
+          ∙ sym (free_first code n l ls e)
     ] refl
 
 -- so that a pass from the start on gives the logical lines
-pub whole_pass : (code : ℕ) (ps : List (List ℕ)) → record { lines = (pass code 1 in_the_head ps).lines; fault = (pass code 1 in_the_head ps).fault; total = length ps } ≡ logical_of code ps
-whole_pass code ps = ap (λ (r : Rest). record { lines = r.lines; fault = r.fault; total = length ps }) (head_pass code 1 ps)
+pub whole_pass : (code : ℕ) (ps : List (List ℕ))
+    → record {
+      lines = (pass code 1 in_the_head ps).lines;
+      fault = (pass code 1 in_the_head ps).fault;
+      total = length ps;
+    } ≡ logical_of code ps
+whole_pass code ps =
+    ap (λ (r : Rest). record { lines = r.lines; fault = r.fault; total = length ps })
+    (head_pass code 1 ps)

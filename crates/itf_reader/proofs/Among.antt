@@ -20,8 +20,10 @@ everything (n ∷ ns) = keep n ns ns (everything ns)
 
 pub among-append : (ms ns ps qs : List ℕ) → Among ms ns → Among ps qs → Among (ms ++ ps) (ns ++ qs)
 among-append _ _ ps qs none k = k
-among-append _ _ ps qs (skip n ms ns h) k = skip n (ms ++ ps) (ns ++ qs) (among-append ms ns ps qs h k)
-among-append _ _ ps qs (keep n ms ns h) k = keep n (ms ++ ps) (ns ++ qs) (among-append ms ns ps qs h k)
+among-append _ _ ps qs (skip n ms ns h) k =
+    skip n (ms ++ ps) (ns ++ qs) (among-append ms ns ps qs h k)
+among-append _ _ ps qs (keep n ms ns h) k =
+    keep n (ms ++ ps) (ns ++ qs) (among-append ms ns ps qs h k)
 
 -- without the first of them
 abbrev pub rest : List ℕ → List ℕ

@@ -85,12 +85,15 @@ twice false s c h = absurd cc
 topic_code : (earlier : List TopicRows) (found : Option ℕ) (c : Code)
     → named_topic earlier found ≡ Err c → c ≡ (if not (is_some found) then Name else Twice)
 topic_code earlier None c h = sym (same_code Name c h)
-topic_code earlier (Some i) c h = twice (has_topic i earlier) (tables (record { earlier = earlier; number = i; tables = [] })) c h
+topic_code earlier (Some i) c h =
+    twice (has_topic i earlier) (tables (record { earlier = earlier; number = i; tables = [] })) c h
 
 table_code : (o : InTopic) (found : Option (ℕ × Table)) (c : Code) → named_table o found ≡ Err c
     → c ≡ (if not (is_some found) then Name else Twice)
 table_code o None c h = sym (same_code Name c h)
-table_code o (Some found) c h = twice (has_table found.0 o.tables) (objects (record { inside = o; number = found.0; lines = (found.1).lines; rows = [] })) c h
+table_code o (Some found) c h =
+    twice (has_table found.0 o.tables)
+    (objects (record { inside = o; number = found.0; lines = (found.1).lines; rows = [] })) c h
 
 pub code_stands : (f : Form) (s : State) (word : LineWord) (n : ℕ) (fs : List (List ℕ)) (c : Code)
     → by_word f s word n fs ≡ Err c → c ≡ code_of f s (line word n fs)

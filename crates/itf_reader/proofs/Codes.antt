@@ -35,10 +35,24 @@ record Goes (f : Form) (s : State) (w : LineWord) : Type 0 where
 -- at once, with any fields
 goes_so : (f : Form) (s : State) (w : LineWord) (t : State)
     → by_word (with_more f [] []) s w 0 [] ≡ Ok t → Goes f s w
-goes_so f s w t e = record { more = []; others = []; number = 0; fields = []; behind = t; after_line = e }
+goes_so f s w t e = record {
+  more = [];
+  others = [];
+  number = 0;
+  fields = [];
+  behind = t;
+  after_line = e;
+}
 
 goes_model : (f : Form) → Goes f model Modl
-goes_model f = record { more = []; others = []; number = 0; fields = f.model ∷ []; behind = topics []; after_line = rw (same_itself f.model) refl }
+goes_model f = record {
+  more = [];
+  others = [];
+  number = 0;
+  fields = f.model ∷ [];
+  behind = topics [];
+  after_line = rw (same_itself f.model) refl;
+}
 
 goes_topic : (f : Form) (earlier : List TopicRows) → Goes f (topics earlier) Topi
 goes_topic f earlier =
@@ -60,7 +74,12 @@ goes_table f o =
       others = q.more;
       number = 0;
       fields = q.fields;
-      behind = objects (record { inside = o; number = (q.found).0; lines = ((q.found).1).lines; rows = [] });
+      behind = objects (record {
+        inside = o;
+        number = (q.found).0;
+        lines = ((q.found).1).lines;
+        rows = [];
+      });
       after_line = ap (named_table o) q.named ∙ rw q.came_not refl;
     }
 
@@ -95,8 +114,14 @@ goes f s w h = absurd cc
 stands : (f : Form) (front : List LogicalLine) (s : State) (w : LineWord) → run f start front ≡ Ok s
     → may_stand s w ≡ true → MayStand f front w
 stands f front s w h e =
-    let g = goes f s w e in
-    (g.more, g.others, g.number, g.fields, taken_on (with_more f g.more g.others) front (line w g.number g.fields) s g.behind (run_wider f g.more g.others start s front h) g.after_line)
+    let g = goes f s w e in (
+      g.more,
+      g.others,
+      g.number,
+      g.fields,
+      taken_on (with_more f g.more g.others) front (line w g.number g.fields) s g.behind
+          (run_wider f g.more g.others start s front h) g.after_line,
+    )
 
 -- and nothing else goes there
 room_there : (b : Bool) (s t : State) → (if b then Ok s else Err Word) ≡ Ok t → b ≡ true
@@ -127,7 +152,8 @@ may f (last earlier) t Ende n fs h = refl
 may f s t w n fs h = absurd cc
 
 -- a line that begins a text after some lines is taken by the machine
-taken_of : (f : Form) (front : List LogicalLine) (l : LogicalLine) (s : State) (r : Result State Code)
+taken_of : (f : Form) (front : List LogicalLine) (l : LogicalLine) (s : State)
+    (r : Result State Code)
     → run f start front ≡ Ok s → step f s l ≡ r → (IsFaultAt f front l → ⊥)
     → (t : State) × (r ≡ Ok t)
 taken_of f front l s (Ok t) h e k = (t, refl)
@@ -137,7 +163,8 @@ stands_only : (f : Form) (front : List LogicalLine) (s : State) (w : LineWord)
     → run f start front ≡ Ok s → MayStand f front w → may_stand s w ≡ true
 stands_only f front s w h (more, others, n, fs, b) =
     let k = run_wider f more others start s front h in
-    let t = taken_of (with_more f more others) front (line w n fs) s (by_word (with_more f more others) s w n fs) k refl (λ q. q.1 b) in
+    let t = taken_of (with_more f more others) front (line w n fs) s
+    (by_word (with_more f more others) s w n fs) k refl (λ q. q.1 b) in
     may (with_more f more others) s t.0 w n fs t.1
 
 -- ---- the open topic
@@ -165,12 +192,16 @@ lands_unless topic false s t c h o = lands topic s t h o
 topic_lands : (earlier : List TopicRows) (found : Option ℕ) (t : State)
     → named_topic earlier found ≡ Ok t → Opens found t
 topic_lands earlier None t h = absurd cc
-topic_lands earlier (Some i) t h = lands_unless (Some i) (has_topic i earlier) (tables (record { earlier = earlier; number = i; tables = [] })) t Twice h refl
+topic_lands earlier (Some i) t h =
+    lands_unless (Some i) (has_topic i earlier)
+    (tables (record { earlier = earlier; number = i; tables = [] })) t Twice h refl
 
 table_lands : (topic : Option ℕ) (o : InTopic) (found : Option (ℕ × Table)) (t : State)
     → named_table o found ≡ Ok t → topic ≡ Some o.number → Opens topic t
 table_lands topic o None t h e = absurd cc
-table_lands topic o (Some v) t h e = lands_unless topic (has_table v.0 o.tables) (objects (record { inside = o; number = v.0; lines = (v.1).lines; rows = [] })) t Twice h e
+table_lands topic o (Some v) t h e =
+    lands_unless topic (has_table v.0 o.tables)
+    (objects (record { inside = o; number = v.0; lines = (v.1).lines; rows = [] })) t Twice h e
 
 step_opens : (f : Form) (topic : Option ℕ) (s t : State) (w : LineWord) (n : ℕ) (fs : List (List ℕ))
     → by_word f s w n fs ≡ Ok t → Opens topic s → Opens (topic_after f topic w fs) t
@@ -179,9 +210,11 @@ step_opens f topic free t Slashes n fs h o = lands topic title t h tt
 step_opens f topic free t w n fs h o = lands (topic_after f topic w fs) free t h tt
 step_opens f topic title t Mtid n fs h o = lands topic model t h tt
 step_opens f topic model t Modl n fs h o = lands_if topic (names fs f.model) (topics []) t Name h tt
-step_opens f topic (topics earlier) t Topi n fs h o = topic_lands earlier (topic_named 0 fs f.topics) t h
+step_opens f topic (topics earlier) t Topi n fs h o =
+    topic_lands earlier (topic_named 0 fs f.topics) t h
 step_opens f topic (topics earlier) t Emod n fs h o = lands topic (last earlier) t h tt
-step_opens f topic (tables p) t Tabl n fs h o = table_lands topic p (table_named 0 p.number fs f.tables) t h o
+step_opens f topic (tables p) t Tabl n fs h o =
+    table_lands topic p (table_named 0 p.number fs f.tables) t h o
 step_opens f topic (tables p) t Etop n fs h o = lands topic _ t h tt
 step_opens f topic (objects p) t Obje n fs h o = lands topic _ t h o
 step_opens f topic (objects p) t Etab n fs h o = lands topic _ t h o
@@ -196,20 +229,27 @@ step_opens f topic (arc r vs) t Lipt n fs h o = lands topic _ t h o
 step_opens f topic (last earlier) t Ende n fs h o = lands topic (done earlier) t h tt
 step_opens f topic s t w n fs h o = absurd cc
 
-opens_on : (f : Form) (topic : Option ℕ) (s t : State) (l : LogicalLine) (ls : List LogicalLine) (after_line : Result State Code)
+opens_on : (f : Form) (topic : Option ℕ) (s t : State) (l : LogicalLine) (ls : List LogicalLine)
+    (after_line : Result State Code)
     → step f s l ≡ after_line → then_run (λ u. run f u ls) after_line ≡ Ok t → Opens topic s
-    → ((u : State) → run f u ls ≡ Ok t → Opens (topic_after f topic l.word l.fields) u → Opens (open_topic f topic (l ∷ ls)) t) → Opens (open_topic f topic (l ∷ ls)) t
-opens_on f topic s t l ls (Ok u) e h o rest = rest u h (step_opens f topic s u l.word l.number l.fields e o)
+    → ((u : State) → run f u ls ≡ Ok t → Opens (topic_after f topic l.word l.fields) u
+    → Opens (open_topic f topic (l ∷ ls)) t) → Opens (open_topic f topic (l ∷ ls)) t
+opens_on f topic s t l ls (Ok u) e h o rest =
+    rest u h (step_opens f topic s u l.word l.number l.fields e o)
 opens_on f topic s t l ls (Err c) e h o rest = absurd cc
 
 pub run_opens : (f : Form) (topic : Option ℕ) (s t : State) (ls : List LogicalLine)
     → run f s ls ≡ Ok t → Opens topic s → Opens (open_topic f topic ls) t
 run_opens f topic s t [] h o = lands topic s t h o
-run_opens f topic s t (l ∷ ls) h o = opens_on f topic s t l ls (step f s l) refl h o (λ u k p. run_opens f (topic_after f topic l.word l.fields) u t ls k p)
+run_opens f topic s t (l ∷ ls) h o =
+    opens_on f topic s t l ls (step f s l) refl h o
+    (λ u k p. run_opens f (topic_after f topic l.word l.fields) u t ls k p)
 
 -- ---- the code
-named_there : (f : Form) (front : List LogicalLine) (s : State) (w : LineWord) (n : ℕ) (fs : List (List ℕ)) (c : Code)
-    → Opens (open_topic f None front) s → by_word f s w n fs ≡ Err c → may_stand s w ≡ true → state_named f s fs ≡ is_named f front w fs
+named_there : (f : Form) (front : List LogicalLine) (s : State) (w : LineWord) (n : ℕ)
+    (fs : List (List ℕ)) (c : Code)
+    → Opens (open_topic f None front) s → by_word f s w n fs ≡ Err c → may_stand s w ≡ true
+    → state_named f s fs ≡ is_named f front w fs
 named_there f front start Scnt n fs c o h e = absurd cc
 named_there f front free Slashes n fs c o h e = absurd cc
 named_there f front free w n fs c o h e = absurd cc
@@ -263,8 +303,11 @@ ended_in (Err c) = false
 is_motr_there : (f : Form) (front : List LogicalLine) (s : State) (w : LineWord)
     → run f start front ≡ Ok s → (is_motr w && not (has_ended s)) ≡ true → IsMotr f front w
 is_motr_there f front s w h e =
-    let b = both (is_motr w) (has_ended s) e in
-    (motr_word w b.0, λ ts t. not_both (has_ended s) (ap ended_in (sym h ∙ text_drive f ts front t)) b.1)
+    let b = both (is_motr w) (has_ended s) e in (
+      motr_word w b.0,
+      λ ts t. not_both (has_ended s)
+          (ap ended_in (sym h ∙ text_drive f ts front t)) b.1,
+    )
 
 no_motr_there : (f : Form) (front : List LogicalLine) (s : State) (w : LineWord)
     → run f start front ≡ Ok s → (is_motr w && not (has_ended s)) ≡ false → IsMotr f front w → ⊥
@@ -274,8 +317,10 @@ no_motr_there f front s w h e m =
 
 coded : (f : Form) (front : List LogicalLine) (l : LogicalLine) (a b c : Bool)
     → (a ≡ true → IsMotr f front l.word) → (a ≡ false → IsMotr f front l.word → ⊥)
-    → (b ≡ true → MayStand f front l.word) → (b ≡ false → MayStand f front l.word → ⊥) → (b ≡ true → c ≡ is_named f front l.word l.fields)
-    → HasCode f front l (if a then AsMotr else if not b then Word else if not c then Name else Twice)
+    → (b ≡ true → MayStand f front l.word) → (b ≡ false → MayStand f front l.word → ⊥)
+    → (b ≡ true → c ≡ is_named f front l.word l.fields)
+    → HasCode f front l
+    (if a then AsMotr else if not b then Word else if not c then Name else Twice)
 coded f front l true b c p q r s t = motr (p refl)
 coded f front l false false c p q r s t = word (q refl) (s refl)
 coded f front l false true false p q r s t = name (q refl) (r refl) (sym (t refl))
@@ -287,9 +332,11 @@ pub has_code : (f : Form) (front : List LogicalLine) (l : LogicalLine) (s : Stat
 has_code f front l s c h e =
     let o = run_opens f None start s front h tt in
     let d =
-    coded f front l (is_motr l.word && not (has_ended s)) (may_stand s l.word) (state_named f s l.fields)
+    coded f front l (is_motr l.word && not (has_ended s)) (may_stand s l.word)
+    (state_named f s l.fields)
     (is_motr_there f front s l.word h) (no_motr_there f front s l.word h)
-    (stands f front s l.word h) (λ k m. not_both (may_stand s l.word) (stands_only f front s l.word h m) k)
+    (stands f front s l.word h)
+    (λ k m. not_both (may_stand s l.word) (stands_only f front s l.word h m) k)
     (named_there f front s l.word l.number l.fields c o e)
     in subst (HasCode f front l) (sym (code_stands f s l.word l.number l.fields c e)) d
 
@@ -307,8 +354,10 @@ one_code f front l _ _ (word m k) (twice n a b) = absurd (k a)
 one_code f front l _ _ (name m k e) (motr n) = absurd (m n)
 one_code f front l _ _ (name m k e) (word n a) = absurd (a k)
 one_code f front l _ _ (name m k e) (name n a b) = refl
-one_code f front l _ _ (name m k e) (twice n a b) = absurd (not_both (is_named f front l.word l.fields) b e)
+one_code f front l _ _ (name m k e) (twice n a b) =
+    absurd (not_both (is_named f front l.word l.fields) b e)
 one_code f front l _ _ (twice m k e) (motr n) = absurd (m n)
 one_code f front l _ _ (twice m k e) (word n a) = absurd (a k)
-one_code f front l _ _ (twice m k e) (name n a b) = absurd (not_both (is_named f front l.word l.fields) e b)
+one_code f front l _ _ (twice m k e) (name n a b) =
+    absurd (not_both (is_named f front l.word l.fields) e b)
 one_code f front l _ _ (twice m k e) (twice n a b) = refl

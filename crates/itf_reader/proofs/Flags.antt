@@ -19,7 +19,8 @@ table_has n (m ∷ ns) = ap (λ (b : Bool). if nat_eq m n then true else b) (tab
 has-push : (n m : ℕ) (ns : List ℕ)
     → has_number n (ns ++ (m ∷ [])) ≡ cond (nat_eq m n) true (has_number n ns)
 has-push n m [] = one (nat_eq m n)
-has-push n m (k ∷ ns) = ap (λ (b : Bool). if nat_eq k n then true else b) (has-push n m ns) ∙ swap (nat_eq k n) (nat_eq m n) (has_number n ns)
+has-push n m (k ∷ ns) = ap (λ (b : Bool). if nat_eq k n then true else b) (has-push n m ns)
+    ∙ swap (nat_eq k n) (nat_eq m n) (has_number n ns)
 
 get_set_same : (flags : List Bool) (m : ℕ) (b : Bool) → m < length flags
     → get_or (set flags m b) m false ≡ b
@@ -38,11 +39,16 @@ get_set_other (c ∷ flags) (suc m) (suc n) b h = get_set_other flags m n b (λ 
 -- one number more
 pub flags_push : (ns : List ℕ) (flags : List Bool) (m : ℕ) → m < length flags → AreFlags ns flags
     → AreFlags (ns ++ (m ∷ [])) (set flags m true)
-flags_push ns flags m l h n = elim (nat_eq m n) as (λ b. nat_eq m n ≡ b → get_or (set flags m true) n false ≡ has_number n (ns ++ (m ∷ []))) [
-  | true ↦ λ e.
-      ap (λ (k : ℕ). get_or (set flags m true) k false) (sym (eqb-true m n e)) ∙ (get_set_same flags m true l ∙ sym (has-push n m ns ∙ ap (λ (b : Bool). cond b true (has_number n ns)) e))
-  | false ↦ λ e. get_set_other flags m n true (eqb-false m n e) ∙ (h n ∙ sym (has-push n m ns ∙ ap (λ (b : Bool). cond b true (has_number n ns)) e))
-] refl
+flags_push ns flags m l h n =
+    elim (nat_eq m n) as (λ b. nat_eq m n ≡ b
+    → get_or (set flags m true) n false ≡ has_number n (ns ++ (m ∷ []))) [
+      | true ↦ λ e.
+          ap (λ (k : ℕ). get_or (set flags m true) k false) (sym (eqb-true m n e))
+          ∙ (get_set_same flags m true l
+          ∙ sym (has-push n m ns ∙ ap (λ (b : Bool). cond b true (has_number n ns)) e))
+      | false ↦ λ e. get_set_other flags m n true (eqb-false m n e)
+          ∙ (h n ∙ sym (has-push n m ns ∙ ap (λ (b : Bool). cond b true (has_number n ns)) e))
+    ] refl
 
 -- ---- forgetting
 abbrev pub AreWithin : List ℕ → List Bool → Type 0
@@ -53,10 +59,14 @@ within ns flags h n e = sym (h n) ∙ e
 
 pub forgot : (ns all : List ℕ) (flags : List Bool) (m : ℕ) → m < length flags → all ≡ ns ++ (m ∷ [])
     → AreWithin all flags → AreWithin ns (set flags m false)
-forgot ns all flags m l q h n e = elim (nat_eq m n) as (λ b. nat_eq m n ≡ b → has_number n ns ≡ true) [
-  | true ↦ λ k. absurd (not_set (sym (ap (λ (i : ℕ). get_or (set flags m false) i false) (sym (eqb-true m n k)) ∙ get_set_same flags m false l) ∙ e))
-  | false ↦ λ k. still (nat_eq m n) (has_number n ns) k (sym (ap (has_number n) q ∙ has-push n m ns) ∙ h n (sym (get_set_other flags m n false (eqb-false m n k)) ∙ e))
-] refl
+forgot ns all flags m l q h n e =
+    elim (nat_eq m n) as (λ b. nat_eq m n ≡ b → has_number n ns ≡ true) [
+      | true ↦ λ k. absurd
+          (not_set (sym (ap (λ (i : ℕ). get_or (set flags m false) i false) (sym (eqb-true m n k))
+          ∙ get_set_same flags m false l) ∙ e))
+      | false ↦ λ k. still (nat_eq m n) (has_number n ns) k (sym (ap (has_number n) q ∙ has-push n m ns)
+          ∙ h n (sym (get_set_other flags m n false (eqb-false m n k)) ∙ e))
+    ] refl
   where
     not_set : false ≡ true → ⊥
     not_set e = absurd cc
@@ -73,10 +83,14 @@ get_past (c ∷ flags) (suc m) h = get_past flags m (omega (arith, h))
 -- a number without a flag
 pub forgot_past : (ns all : List ℕ) (flags : List Bool) (m : ℕ) → length flags < m + 1
     → all ≡ ns ++ (m ∷ []) → AreWithin all flags → AreWithin ns flags
-forgot_past ns all flags m l q h n e = elim (nat_eq m n) as (λ b. nat_eq m n ≡ b → has_number n ns ≡ true) [
-  | true ↦ λ k. absurd (not_set (sym (ap (λ (i : ℕ). get_or flags i false) (sym (eqb-true m n k)) ∙ get_past flags m l) ∙ e))
-  | false ↦ λ k. still (nat_eq m n) (has_number n ns) k (sym (ap (has_number n) q ∙ has-push n m ns) ∙ h n e)
-] refl
+forgot_past ns all flags m l q h n e =
+    elim (nat_eq m n) as (λ b. nat_eq m n ≡ b → has_number n ns ≡ true) [
+      | true ↦ λ k. absurd
+          (not_set (sym (ap (λ (i : ℕ). get_or flags i false) (sym (eqb-true m n k))
+          ∙ get_past flags m l) ∙ e))
+      | false ↦ λ k. still (nat_eq m n) (has_number n ns) k (sym (ap (has_number n) q ∙ has-push n m ns)
+          ∙ h n e)
+    ] refl
   where
     not_set : false ≡ true → ⊥
     not_set e = absurd cc
@@ -86,10 +100,11 @@ forgot_past ns all flags m l q h n e = elim (nat_eq m n) as (λ b. nat_eq m n �
     still false b e h = h
 
 pub all_forgot : (flags : List Bool) → AreWithin [] flags → AreFlags [] flags
-all_forgot flags h n = elim (get_or flags n false) as (λ b. get_or flags n false ≡ b → get_or flags n false ≡ false) [
-  | true ↦ λ e. absurd (not_in (h n e))
-  | false ↦ λ e. e
-] refl
+all_forgot flags h n =
+    elim (get_or flags n false) as (λ b. get_or flags n false ≡ b → get_or flags n false ≡ false) [
+      | true ↦ λ e. absurd (not_in (h n e))
+      | false ↦ λ e. e
+    ] refl
   where
     not_in : false ≡ true → ⊥
     not_in e = absurd cc

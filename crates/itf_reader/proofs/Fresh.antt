@@ -12,7 +12,8 @@ use Rattle.itf_reader.proofs.Sorting.{by_test}
 not_same : (long name : List ℕ) → length name < length long → same long name ≡ false
 not_same long name h =
     by_test (same long name)
-    (λ e. let d = bytes_eq-Decides long name in let l = ap (λ (x : List ℕ). length x) (d.0 e) in absurd (omega (arith, l)))
+    (λ e. let d = bytes_eq-Decides long name in let l = ap (λ (x : List ℕ). length x) (d.0 e) in
+    absurd (omega (arith, l)))
     (λ e. e)
 
 pub same_itself : (name : List ℕ) → same name name ≡ true
@@ -37,7 +38,8 @@ past_topics : (n : ℕ) (long : List ℕ) (a b : List (List ℕ)) → all_bytes 
 past_topics n long [] b h = ap (λ (k : ℕ). topic_named k (long ∷ []) b) (omega arith)
 past_topics n long (name ∷ a) b h =
     let e = not_same long name (omega arith) in
-    rw e (past_topics (n + 1) long a b (omega arith) ∙ ap (λ (k : ℕ). topic_named k (long ∷ []) b) (omega arith))
+    rw e (past_topics (n + 1) long a b (omega arith)
+    ∙ ap (λ (k : ℕ). topic_named k (long ∷ []) b) (omega arith))
 
 abbrev topic_numbers : List TopicRows → ℕ
 topic_numbers [] = 0
@@ -80,7 +82,8 @@ new_topic topics earlier =
     let front = topics ++ empty_names k in
     let l : length long ≡ suc (all_bytes topics) = length-zeros (suc (all_bytes topics)) in
     let b : all_bytes front ≡ all_bytes topics = all_bytes-append topics k in
-    let n : length front ≡ length topics + length (empty_names k) = length-append topics (empty_names k) in
+    let n : length front ≡ length topics
+    + length (empty_names k) = length-append topics (empty_names k) in
     let m : length (empty_names k) ≡ k = length-empty_names k in
     record {
       more = empty_names k ++ long ∷ [];
@@ -108,7 +111,8 @@ past_tables n topic long [] b h = ap (λ (k : ℕ). table_named k topic (long �
 past_tables n topic long (t ∷ a) b h =
     let e = not_same long t.name (omega arith) in
     let q = ap (λ (x : Bool). nat_eq t.topic topic && x) e ∙ and_false (nat_eq t.topic topic) in
-    rw q (past_tables (n + 1) topic long a b (omega arith) ∙ ap (λ (k : ℕ). table_named k topic (long ∷ []) b) (omega arith))
+    rw q (past_tables (n + 1) topic long a b (omega arith)
+    ∙ ap (λ (k : ℕ). table_named k topic (long ∷ []) b) (omega arith))
 
 abbrev table_numbers : List TableRows → ℕ
 table_numbers [] = 0
@@ -160,14 +164,16 @@ new_table tables topic earlier =
     let last : Table = record { topic = topic; name = long; lines = 0 } in
     let l : length long ≡ suc (table_bytes tables) = length-zeros (suc (table_bytes tables)) in
     let b : table_bytes front ≡ table_bytes tables = table_bytes-append tables k in
-    let n : length front ≡ length tables + length (empty_tables k) = length-append tables (empty_tables k) in
+    let n : length front ≡ length tables
+    + length (empty_tables k) = length-append tables (empty_tables k) in
     let m : length (empty_tables k) ≡ k = length-empty_tables k in
     record {
       more = empty_tables k ++ last ∷ [];
       fields = long ∷ [];
       found = (length front + 0, last);
       named =
-          ap (table_named 0 topic (long ∷ [])) (sym (append_assoc tables (empty_tables k) (last ∷ [])))
+          ap (table_named 0 topic (long ∷ []))
+          (sym (append_assoc tables (empty_tables k) (last ∷ [])))
           ∙ past_tables 0 topic long front (last ∷ []) (omega (arith, l, b))
           ∙ itself topic (length front + 0) last long refl refl;
       came_not = no_table_came (length front + 0) earlier (omega (arith, n, m));

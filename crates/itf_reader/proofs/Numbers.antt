@@ -20,7 +20,9 @@ none_many (f ∷ g ∷ fields) h name = refl
 no_topic : (number : ℕ) (fields : List (List ℕ)) (ts : List (List ℕ)) → none fields
     → None ≡ topic_named number fields ts
 no_topic number fields [] h = refl
-no_topic number fields (t ∷ ts) h = no_topic (number + 1) fields ts h ∙ ap (λ (b : Bool). if b then Some number else topic_named (number + 1) fields ts) (sym (h t))
+no_topic number fields (t ∷ ts) h =
+    no_topic (number + 1) fields ts h
+    ∙ ap (λ (b : Bool). if b then Some number else topic_named (number + 1) fields ts) (sym (h t))
 
 and_false : (b : Bool) → (b && false) ≡ false
 and_false true = refl
@@ -31,7 +33,9 @@ no_table : (number topic : ℕ) (fields : List (List ℕ)) (ts : List Table) →
 no_table number topic fields [] h = refl
 no_table number topic fields (t ∷ ts) h =
     no_table (number + 1) topic fields ts h
-    ∙ ap (λ (b : Bool). if b then Some (number, t) else table_named (number + 1) topic fields ts) (sym (ap (λ (c : Bool). nat_eq t.topic topic && c) (h t.name) ∙ and_false (nat_eq t.topic topic)))
+    ∙ ap (λ (b : Bool). if b then Some (number, t) else table_named (number + 1) topic fields ts)
+    (sym (ap (λ (c : Bool). nat_eq t.topic topic && c) (h t.name)
+    ∙ and_false (nat_eq t.topic topic)))
 
 pub few_topic : (fields : List (List ℕ)) (ts : List (List ℕ)) → length fields < 1
     → None ≡ topic_named 0 fields ts

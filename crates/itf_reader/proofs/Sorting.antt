@@ -42,7 +42,9 @@ module _ {X : Type 0} (lt : X → X → Bool) (o : IsStrictWeakOrder lt) where
   one_place : (x y z : X) → lt y x ≡ true → ties lt z y ≡ true → ties lt z x ≡ false
   one_place x y z h k =
       by_test (ties lt z x)
-      (λ e. absurd (true≢false (sym h ∙ o.chain y z x (no_tie (lt z y) (lt y z) k).1 (no_tie (lt z x) (lt x z) e).0)))
+      (λ e. absurd
+      (true≢false (sym h
+      ∙ o.chain y z x (no_tie (lt z y) (lt y z) k).1 (no_tie (lt z x) (lt x z) e).0)))
       (λ e. e)
 
   NoneLess-weaker : (x y : X) → lt y x ≡ false → (ys : List X) → NoneLess y ys → NoneLess x ys
@@ -52,7 +54,8 @@ module _ {X : Type 0} (lt : X → X → Bool) (o : IsStrictWeakOrder lt) where
   NoneLess-put_in : (z x : X) (ys : List X) → lt x z ≡ false → NoneLess z ys
       → NoneLess z (put_in lt x ys)
   NoneLess-put_in z x [] h a = (h, tt)
-  NoneLess-put_in z x (y ∷ ys) h a = by_test (lt y x) (λ e. rw e (a.0, NoneLess-put_in z x ys h a.1)) (λ e. rw e (h, a))
+  NoneLess-put_in z x (y ∷ ys) h a =
+      by_test (lt y x) (λ e. rw e (a.0, NoneLess-put_in z x ys h a.1)) (λ e. rw e (h, a))
 
   Ascends-put_in : (x : X) (ys : List X) → Ascends ys → Ascends (put_in lt x ys)
   Ascends-put_in x [] a = (tt, tt)
@@ -78,12 +81,15 @@ module _ {X : Type 0} (lt : X → X → Bool) (o : IsStrictWeakOrder lt) where
   stable-put_in z x [] = refl
   stable-put_in z x (y ∷ ys) =
       by_test (lt y x)
-      (λ e. rw e (ap (kept (ties lt z y) y) (stable-put_in z x ys) ∙ stands_first (ties lt z x) (ties lt z y) x y (filter (ties lt z) ys) (one_place x y z e)))
+      (λ e. rw e (ap (kept (ties lt z y) y) (stable-put_in z x ys)
+      ∙ stands_first (ties lt z x) (ties lt z y) x y (filter (ties lt z) ys)
+      (one_place x y z e)))
       (λ e. rw e refl)
 
   stable-sorted : (z : X) (xs : List X) → filter (ties lt z) (sorted lt xs) ≡ filter (ties lt z) xs
   stable-sorted z [] = refl
-  stable-sorted z (x ∷ xs) = stable-put_in z x (sorted lt xs) ∙ ap (kept (ties lt z x) x) (stable-sorted z xs)
+  stable-sorted z (x ∷ xs) = stable-put_in z x (sorted lt xs)
+      ∙ ap (kept (ties lt z x) x) (stable-sorted z xs)
 
   abbrev is_empty : List X → Bool
   is_empty [] = true
@@ -112,7 +118,8 @@ module _ {X : Type 0} (lt : X → X → Bool) (o : IsStrictWeakOrder lt) where
   first_kept p x y r [] e a = no_first x r e
   first_kept p x y r (z ∷ ys) e a =
       by_test (p z)
-      (λ h. ap (λ (u : X). lt u y) (ap (head_or x) (sym e ∙ kept_true (p z) z (filter p ys) h)) ∙ a.0)
+      (λ h. ap (λ (u : X). lt u y) (ap (head_or x) (sym e ∙ kept_true (p z) z (filter p ys) h))
+      ∙ a.0)
       (λ h. first_kept p x y r ys (sym (kept_false (p z) z (filter p ys) h) ∙ e) a.1)
 
   abbrev SameTies : List X → List X → Type 0
@@ -123,7 +130,8 @@ module _ {X : Type 0} (lt : X → X → Bool) (o : IsStrictWeakOrder lt) where
       → lt x y ≡ false
   not_greater x y xs ys e a =
       first_kept (ties lt x) x y (filter (ties lt x) xs) (y ∷ ys)
-      (sym (e x) ∙ kept_true (ties lt x x) x (filter (ties lt x) xs) (tie x x (itself x) (itself x)))
+      (sym (e x) ∙ kept_true (ties lt x x) x (filter (ties lt x) xs)
+      (tie x x (itself x) (itself x)))
       (itself y, a)
 
   same_first : (x y : X) (xs ys : List X) → SameTies (x ∷ xs) (y ∷ ys) → ties lt x y ≡ true → x ≡ y
@@ -136,23 +144,32 @@ module _ {X : Type 0} (lt : X → X → Bool) (o : IsStrictWeakOrder lt) where
   same_rest : (x : X) (xs ys : List X) → SameTies (x ∷ xs) (x ∷ ys) → SameTies xs ys
   same_rest x xs ys e z =
       by_test (ties lt z x)
-      (λ h. ap tail_of (sym (kept_true (ties lt z x) x (filter (ties lt z) xs) h) ∙ e z ∙ kept_true (ties lt z x) x (filter (ties lt z) ys) h))
-      (λ h. sym (kept_false (ties lt z x) x (filter (ties lt z) xs) h) ∙ e z ∙ kept_false (ties lt z x) x (filter (ties lt z) ys) h)
+      (λ h. ap tail_of (sym (kept_true (ties lt z x) x (filter (ties lt z) xs) h) ∙ e z
+      ∙ kept_true (ties lt z x) x (filter (ties lt z) ys) h))
+      (λ h. sym (kept_false (ties lt z x) x (filter (ties lt z) xs) h) ∙ e z
+      ∙ kept_false (ties lt z x) x (filter (ties lt z) ys) h)
 
   one_order : (xs ys : List X) → Ascends xs → Ascends ys → SameTies xs ys → xs ≡ ys
   one_order [] [] a b e = refl
-  one_order [] (y ∷ ys) a b e = no_first y (filter (ties lt y) ys) (e y ∙ kept_true (ties lt y y) y (filter (ties lt y) ys) (tie y y (itself y) (itself y)))
-  one_order (x ∷ xs) [] a b e = no_first x (filter (ties lt x) xs) (sym (e x) ∙ kept_true (ties lt x x) x (filter (ties lt x) xs) (tie x x (itself x) (itself x)))
+  one_order [] (y ∷ ys) a b e =
+      no_first y (filter (ties lt y) ys) (e y
+      ∙ kept_true (ties lt y y) y (filter (ties lt y) ys) (tie y y (itself y) (itself y)))
+  one_order (x ∷ xs) [] a b e =
+      no_first x (filter (ties lt x) xs) (sym (e x)
+      ∙ kept_true (ties lt x x) x (filter (ties lt x) xs) (tie x x (itself x) (itself x)))
   one_order (x ∷ xs) (y ∷ ys) a b e =
       let t = tie x y (not_greater x y xs ys e b.0) (not_greater y x ys xs (λ z. sym (e z)) a.0) in
       let h = same_first x y xs ys e t in
-      let f : SameTies (x ∷ xs) (x ∷ ys) = λ z. e z ∙ ap (λ (u : X). filter (ties lt z) (u ∷ ys)) (sym h) in
-      ap (λ (l : List X). x ∷ l) (one_order xs ys a.1 b.1 (same_rest x xs ys f)) ∙ ap (λ (u : X). u ∷ ys) h
+      let f : SameTies (x ∷ xs) (x ∷ ys) = λ z. e z
+      ∙ ap (λ (u : X). filter (ties lt z) (u ∷ ys)) (sym h) in
+      ap (λ (l : List X). x ∷ l) (one_order xs ys a.1 b.1 (same_rest x xs ys f))
+      ∙ ap (λ (u : X). u ∷ ys) h
 
   NoneLess-each : (x : X) (ys : List X) → ((k : ℕ) → k < length ys → lt (get_or ys k x) x ≡ false)
       → NoneLess x ys
   NoneLess-each x [] h = tt
-  NoneLess-each x (y ∷ ys) h = (h zero (search arith), NoneLess-each x ys (λ k l. h (suc k) (search arith)))
+  NoneLess-each x (y ∷ ys) h =
+      (h zero (search arith), NoneLess-each x ys (λ k l. h (suc k) (search arith)))
 
   Ascends-each : (xs : List X)
       → ((i j : ℕ) (d : X) → i ≤ j → j < length xs → lt (get_or xs j d) (get_or xs i d) ≡ false)
@@ -187,11 +204,16 @@ module _ {X Y : Type 0} (lt : Y → Y → Bool) (f : X → Y) where
 
 -- the findings
 finding_cmp_total : IsTotalOrder finding_cmp
-finding_cmp_total = then_total (on_total (λ (f : Finding). f.line) nat_cmp_total) (then_total (on_total (λ (f : Finding). f.column) nat_cmp_total) (on_total (λ (f : Finding). rank f.code) nat_cmp_total))
+finding_cmp_total =
+    then_total (on_total (λ (f : Finding). f.line) nat_cmp_total)
+    (then_total (on_total (λ (f : Finding). f.column) nat_cmp_total)
+    (on_total (λ (f : Finding). rank f.code) nat_cmp_total))
 
 pub is_before_ranks : IsStrictWeakOrder (by_value is_before finding_of)
 is_before_ranks = ranks_by finding_cmp_total finding_of
 
 pub sort_in_order : (xs ys : List CodeFinding) → IsSortedBy (by_value is_before finding_of) ys
     → IsStableBy (by_value is_before finding_of) xs ys → findings_of ys ≡ in_order (findings_of xs)
-sort_in_order xs ys up stable = ap findings_of (stable_sort (by_value is_before finding_of) is_before_ranks xs ys up stable) ∙ map-sorted is_before finding_of xs
+sort_in_order xs ys up stable =
+    ap findings_of (stable_sort (by_value is_before finding_of) is_before_ranks xs ys up stable)
+    ∙ map-sorted is_before finding_of xs

@@ -21,8 +21,12 @@ use Rattle.itf_reader.proofs.Back.{back, same_state}
 -- what completes the start is a text
 pub completes_text : (f : Form) (ts : List TopicRows) (ls : List LogicalLine)
     → Completes f start ts ls → IsText f ts ls
-completes_text f ts _ (at_start _ n fs w (at_free _ m gs _ _ free_lines (at_title _ i hs _ (at_model _ j is u named (at_topics _ us _ k e ks js _ h q))))) =
-    subst (λ (x : List TopicRows). IsText f x (line Scnt n fs ∷ w)) (sym q) (text n m i j k e fs gs hs is ks js us w u free_lines named h)
+completes_text f ts _
+    (at_start _ n fs w
+    (at_free _ m gs _ _ free_lines
+    (at_title _ i hs _ (at_model _ j is u named (at_topics _ us _ k e ks js _ h q))))) =
+    subst (λ (x : List TopicRows). IsText f x (line Scnt n fs ∷ w)) (sym q)
+    (text n m i j k e fs gs hs is ks js us w u free_lines named h)
 
 -- some lines and a text after them
 abbrev pub Live : Form → State → Type 0
@@ -30,18 +34,30 @@ Live f s = (all : List TopicRows) × (w : List LogicalLine) × Completes f s all
 
 live_topics : (f : Form) (earlier : List TopicRows) → Live f (topics earlier)
 live_topics f earlier =
-    let end : List LogicalLine = line Emod 0 [] ∷ line Ende 0 [] ∷ [] in
-    (earlier, end, at_topics earlier [] earlier 0 0 [] [] end (no_topic earlier end) (sym (append-nil earlier)))
+    let end : List LogicalLine = line Emod 0 [] ∷ line Ende 0 [] ∷ [] in (
+      earlier,
+      end,
+      at_topics earlier [] earlier 0 0 [] [] end (no_topic earlier end)
+          (sym (append-nil earlier)),
+    )
 
 live_tables : (f : Form) (t : InTopic) → Live f (tables t)
 live_tables f t =
-    let l = live_topics f (and_tables t []) in
-    (l.0, line Etop 0 [] ∷ l.1, at_tables t [] l.0 0 [] (line Etop 0 [] ∷ l.1) l.1 (no_table t.tables (line Etop 0 [] ∷ l.1)) l.2)
+    let l = live_topics f (and_tables t []) in (
+      l.0,
+      line Etop 0 [] ∷ l.1,
+      at_tables t [] l.0 0 [] (line Etop 0 [] ∷ l.1) l.1
+          (no_table t.tables (line Etop 0 [] ∷ l.1)) l.2,
+    )
 
 live_objects : (f : Form) (t : InTable) → Live f (objects t)
 live_objects f t =
-    let l = live_tables f (and_rows t []) in
-    (l.0, line Etab 0 [] ∷ l.1, at_objects t [] l.0 0 [] (line Etab 0 [] ∷ l.1) l.1 (no_object (line Etab 0 [] ∷ l.1)) l.2)
+    let l = live_tables f (and_rows t []) in (
+      l.0,
+      line Etab 0 [] ∷ l.1,
+      at_objects t [] l.0 0 [] (line Etab 0 [] ∷ l.1) l.1
+          (no_object (line Etab 0 [] ∷ l.1)) l.2,
+    )
 
 live_strokes : (f : Form) (r : InRow) → Live f (strokes r)
 live_strokes f r =
@@ -50,22 +66,41 @@ live_strokes f r =
 
 live_vertices : (f : Form) (r : InRow) (acc : List Vertex) → Live f (vertices r acc)
 live_vertices f r acc =
-    let l = live_strokes f (with_stroke r (acc ++ [])) in
-    (l.0, line Elin 0 [] ∷ l.1, at_vertices r [] acc l.0 0 [] (line Elin 0 [] ∷ l.1) l.1 (no_vertex (line Elin 0 [] ∷ l.1)) l.2)
+    let l = live_strokes f (with_stroke r (acc ++ [])) in (
+      l.0,
+      line Elin 0 [] ∷ l.1,
+      at_vertices r [] acc l.0 0 [] (line Elin 0 [] ∷ l.1) l.1
+          (no_vertex (line Elin 0 [] ∷ l.1)) l.2,
+    )
 
 live_arc : (f : Form) (r : InRow) (acc : List Vertex) → Live f (arc r acc)
 live_arc f r acc =
-    let l = live_strokes f (with_stroke r (acc ++ (vertex Straight 0 [] ∷ []))) in
-    (l.0, line Lipt 0 [] ∷ line Elin 0 [] ∷ l.1, at_arc r acc [] l.0 0 0 [] [] (line Elin 0 [] ∷ l.1) l.1 (no_vertex (line Elin 0 [] ∷ l.1)) l.2)
+    let l = live_strokes f (with_stroke r (acc ++ (vertex Straight 0 [] ∷ []))) in (
+      l.0,
+      line Lipt 0 [] ∷ line Elin 0 [] ∷ l.1,
+      at_arc r acc [] l.0 0 0 [] [] (line Elin 0 [] ∷ l.1) l.1
+          (no_vertex (line Elin 0 [] ∷ l.1)) l.2,
+    )
 
 live_model : (f : Form) → Live f model
-live_model f = let l = live_topics f [] in (l.0, line Modl 0 (f.model ∷ []) ∷ l.1, at_model l.0 0 (f.model ∷ []) l.1 (same_itself f.model) l.2)
+live_model f =
+    let l = live_topics f [] in (
+      l.0,
+      line Modl 0 (f.model ∷ []) ∷ l.1,
+      at_model l.0 0 (f.model ∷ []) l.1 (same_itself f.model) l.2,
+    )
 
 live_title : (f : Form) → Live f title
 live_title f = let l = live_model f in (l.0, line Mtid 0 [] ∷ l.1, at_title l.0 0 [] l.1 l.2)
 
 live_free : (f : Form) → Live f free
-live_free f = let l = live_title f in (l.0, line Slashes 0 [] ∷ l.1, at_free l.0 0 [] (line Slashes 0 [] ∷ l.1) l.1 (no_free (line Slashes 0 [] ∷ l.1)) l.2)
+live_free f =
+    let l = live_title f in (
+      l.0,
+      line Slashes 0 [] ∷ l.1,
+      at_free l.0 0 [] (line Slashes 0 [] ∷ l.1) l.1
+          (no_free (line Slashes 0 [] ∷ l.1)) l.2,
+    )
 
 -- each state leads to a text
 pub live : (f : Form) (s : State) → Live f s
@@ -83,18 +118,23 @@ live f (last earlier) = (earlier, line Ende 0 [] ∷ [], at_last earlier 0 [])
 live f (done earlier) = (earlier, [], at_done earlier)
 
 -- where the machine takes some lines, they stand before what completes the state after them
-run_on : (f : Form) (s t : State) (l : LogicalLine) (ls : List LogicalLine) (after_line : Result State Code)
+run_on : (f : Form) (s t : State) (l : LogicalLine) (ls : List LogicalLine)
+    (after_line : Result State Code)
     → step f s l ≡ after_line → then_run (λ u. run f u ls) after_line ≡ Ok t
-    → ((u : State) → run f u ls ≡ Ok t → (all : List TopicRows) (w : List LogicalLine) → Completes f t all w → Completes f u all (ls ++ w))
-    → (all : List TopicRows) (w : List LogicalLine) → Completes f t all w → Completes f s all (l ∷ (ls ++ w))
-run_on f s t l ls (Ok u) e h rest all w q = back f s u l.word l.number l.fields all (ls ++ w) e (rest u h all w q)
+    → ((u : State) → run f u ls ≡ Ok t → (all : List TopicRows) (w : List LogicalLine)
+    → Completes f t all w → Completes f u all (ls ++ w))
+    → (all : List TopicRows) (w : List LogicalLine) → Completes f t all w
+    → Completes f s all (l ∷ (ls ++ w))
+run_on f s t l ls (Ok u) e h rest all w q =
+    back f s u l.word l.number l.fields all (ls ++ w) e (rest u h all w q)
 run_on f s t l ls (Err c) e h rest all w q = absurd cc
 
 pub run_back : (f : Form) (s t : State) (ls : List LogicalLine) → run f s ls ≡ Ok t
     → (all : List TopicRows) (w : List LogicalLine) → Completes f t all w
     → Completes f s all (ls ++ w)
 run_back f s t [] h all w q = subst (λ (x : State). Completes f x all w) (sym (same_state s t h)) q
-run_back f s t (l ∷ ls) h all w q = run_on f s t l ls (step f s l) refl h (λ u k. run_back f u t ls k) all w q
+run_back f s t (l ∷ ls) h all w q =
+    run_on f s t l ls (step f s l) refl h (λ u k. run_back f u t ls k) all w q
 
 -- what the machine takes begins a text
 pub taken_begins : (f : Form) (ls : List LogicalLine) (s : State) → run f start ls ≡ Ok s
@@ -125,17 +165,23 @@ run_append f s (l ∷ a) b = append_on f a b (step f s l) (λ t. run_append f t 
 pub refused_begins : (f : Form) (ls : List LogicalLine) (c : Code) → run f start ls ≡ Err c
     → Begins f ls → ⊥
 refused_begins f ls c h b =
-    let e = sym (text_drive f b.1 (ls ++ b.0) b.2) ∙ (run_append f start ls b.0 ∙ ap (then_run (λ t. run f t b.0)) h) in
+    let e = sym (text_drive f b.1 (ls ++ b.0) b.2)
+    ∙ (run_append f start ls b.0 ∙ ap (then_run (λ t. run f t b.0)) h) in
     absurd cc
 
 -- so the line that it does not take is the first with which the lines begin none
 pub refused_at : (f : Form) (front : List LogicalLine) (l : LogicalLine) (s : State) (c : Code)
     → run f start front ≡ Ok s → step f s l ≡ Err c → IsFaultAt f front l
-refused_at f front l s c h k =
-    (taken_begins f front s h, refused_begins f (front ++ (l ∷ [])) c (run_append f start front (l ∷ []) ∙ (ap (then_run (λ t. run f t (l ∷ []))) h ∙ ap (then_run (λ t. run f t [])) k)))
+refused_at f front l s c h k = (
+  taken_begins f front s h,
+  refused_begins f (front ++ (l ∷ [])) c
+      (run_append f start front (l ∷ [])
+      ∙ (ap (then_run (λ t. run f t (l ∷ []))) h ∙ ap (then_run (λ t. run f t [])) k)),
+)
 
 -- and there is no other
 pub taken_on : (f : Form) (front : List LogicalLine) (l : LogicalLine) (s t : State)
     → run f start front ≡ Ok s → step f s l ≡ Ok t → Begins f (front ++ (l ∷ []))
 taken_on f front l s t h k =
-    taken_begins f (front ++ (l ∷ [])) t (run_append f start front (l ∷ []) ∙ (ap (then_run (λ t. run f t (l ∷ []))) h ∙ ap (then_run (λ t. run f t [])) k))
+    taken_begins f (front ++ (l ∷ [])) t (run_append f start front (l ∷ [])
+    ∙ (ap (then_run (λ t. run f t (l ∷ []))) h ∙ ap (then_run (λ t. run f t [])) k))

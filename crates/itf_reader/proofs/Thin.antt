@@ -27,13 +27,27 @@ abbrev bare_topic : TopicRows → TopicRows
 bare_topic t = record { topic = t.topic; tables = [] }
 
 abbrev thin_topic : InTopic → InTopic
-thin_topic t = record { earlier = map bare_topic t.earlier; number = t.number; tables = map bare_table t.tables }
+thin_topic t = record {
+  earlier = map bare_topic t.earlier;
+  number = t.number;
+  tables = map bare_table t.tables;
+}
 
 abbrev thin_table : InTable → InTable
-thin_table t = record { inside = thin_topic t.inside; number = t.number; lines = t.lines; rows = [] }
+thin_table t = record {
+  inside = thin_topic t.inside;
+  number = t.number;
+  lines = t.lines;
+  rows = [];
+}
 
 abbrev thin_row : InRow → InRow
-thin_row r = record { inside = thin_table r.inside; line = r.line; fields = r.fields; strokes = r.strokes }
+thin_row r = record {
+  inside = thin_table r.inside;
+  line = r.line;
+  fields = r.fields;
+  strokes = r.strokes;
+}
 
 abbrev pub thin : State → State
 thin start = start
@@ -84,23 +98,39 @@ topic_word : (n : ℕ) (earlier : List TopicRows) (o : Option ℕ)
 topic_word n earlier None = refl
 topic_word n earlier (Some i) =
     let s = tables (record { earlier = earlier; number = i; tables = [] }) in
-    either n (has_topic i (map bare_topic earlier)) (has_topic i earlier) s s _ _ (same_topics i earlier) refl refl
+    either n (has_topic i (map bare_topic earlier)) (has_topic i earlier) s s _ _
+    (same_topics i earlier) refl refl
 
 table_word : (n : ℕ) (t : InTopic) (o : Option (ℕ × Table))
     → standing_by n (named_table (thin_topic t) o) ≡ thinned n (named_table t o)
 table_word n t None = refl
 table_word n t (Some p) =
     let s = objects (record { inside = t; number = p.0; lines = p.1.lines; rows = [] }) in
-    either n (has_table p.0 (map bare_table t.tables)) (has_table p.0 t.tables) s s _ _ (same_tables p.0 t.tables) refl refl
+    either n (has_table p.0 (map bare_table t.tables)) (has_table p.0 t.tables) s s _ _
+    (same_tables p.0 t.tables) refl refl
 
-topic_end : (t : InTopic) → standing (topics (map bare_topic t.earlier ++ (record { topic = t.number; tables = [] } ∷ []))) ≡ standing (topics (map bare_topic (t.earlier ++ (record { topic = t.number; tables = t.tables } ∷ []))))
-topic_end t = ap (λ (l : List TopicRows). standing (topics l)) (sym (map-append bare_topic t.earlier (record { topic = t.number; tables = t.tables } ∷ [])))
+topic_end : (t : InTopic)
+    → standing (topics (map bare_topic t.earlier
+    ++ (record { topic = t.number; tables = [] } ∷ [])))
+    ≡ standing (topics
+    (map bare_topic (t.earlier ++ (record { topic = t.number; tables = t.tables } ∷ []))))
+topic_end t =
+    ap (λ (l : List TopicRows). standing (topics l))
+    (sym (map-append bare_topic t.earlier (record { topic = t.number; tables = t.tables } ∷ [])))
 
 abbrev table_in : InTopic → List TableRows → Standing
-table_in t ts = standing (tables (record { earlier = map bare_topic t.earlier; number = t.number; tables = ts }))
+table_in t ts =
+    standing (tables (record {
+      earlier = map bare_topic t.earlier;
+      number = t.number;
+      tables = ts;
+    }))
 
-table_end : (t : InTopic) (n : ℕ) (rows : List Row) → table_in t (map bare_table t.tables ++ (record { table = n; rows = [] } ∷ [])) ≡ table_in t (map bare_table (t.tables ++ (record { table = n; rows = rows } ∷ [])))
-table_end t n rows = ap (table_in t) (sym (map-append bare_table t.tables (record { table = n; rows = rows } ∷ [])))
+table_end : (t : InTopic) (n : ℕ) (rows : List Row)
+    → table_in t (map bare_table t.tables ++ (record { table = n; rows = [] } ∷ []))
+    ≡ table_in t (map bare_table (t.tables ++ (record { table = n; rows = rows } ∷ [])))
+table_end t n rows =
+    ap (table_in t) (sym (map-append bare_table t.tables (record { table = n; rows = rows } ∷ [])))
 
 pub thin_word : (f : Form) (s : State) (w : LineWord) (n : ℕ) (fs : List (List ℕ))
     → standing_by n (by_word f (forget_closed (thin s) w) w n fs) ≡ thinned n (by_word f s w n fs)
@@ -117,7 +147,8 @@ thin_word f (objects t) Obje n fs = refl
 thin_word f (objects t) Etab n fs = table_end t.inside t.number t.rows
 thin_word f (strokes r) Obje n fs = refl
 thin_word f (strokes r) Etab n fs = table_end r.inside.inside r.inside.number _
-thin_word f (strokes r) Stpt n fs = if_room n (has_room r) (vertices r (vertex Start n fs ∷ [])) Word
+thin_word f (strokes r) Stpt n fs =
+    if_room n (has_room r) (vertices r (vertex Start n fs ∷ [])) Word
 thin_word f (strokes r) Elin n fs = if_room n (has_room r) (strokes (with_stroke r [])) Word
 thin_word f (vertices r vs) Lipt n fs = refl
 thin_word f (vertices r vs) Arcp n fs = refl
@@ -154,12 +185,15 @@ pub rows_shown : (f : Form) (s : State) (ls : List LogicalLine)
     → shown_rows f (standing (thin s)) ls ≡ closed_from f s ls
 rows_shown f s [] = refl
 rows_shown f s (l ∷ ls) =
-    ap (λ (x : List (ℕ × Row)). x ++ shown_rows f (next f (standing (thin s)) l) ls) (thin_shows s l.word)
-    ∙ ap (λ (x : List (ℕ × Row)). closes s l.word ++ x) (ap (λ (at : Standing). shown_rows f at ls) (thin_word f s l.word l.number l.fields)
+    ap (λ (x : List (ℕ × Row)). x ++ shown_rows f (next f (standing (thin s)) l) ls)
+    (thin_shows s l.word)
+    ∙ ap (λ (x : List (ℕ × Row)). closes s l.word ++ x)
+    (ap (λ (at : Standing). shown_rows f at ls) (thin_word f s l.word l.number l.fields)
     ∙ rows_behind f l.number ls (step f s l) (λ t. rows_shown f t ls))
 
 -- the first line at which the machine stops
-pub record StopsWith (f : Form) (s : State) (ls : List LogicalLine) (n : ℕ) (code : Structure) : Type 0 where
+pub record StopsWith (f : Form) (s : State) (ls : List LogicalLine) (n : ℕ)
+    (code : Structure) : Type 0 where
   pub front : List LogicalLine
   pub rest : List LogicalLine
   pub l : LogicalLine
@@ -195,14 +229,29 @@ ahead f s u l ls (stopped n code) e k = record {
 follow_on : (f : Form) (s : State) (l : LogicalLine) (ls : List LogicalLine) (r : Result State Code)
     → step f s l ≡ r → ((u : State) → Follows f u ls (after_lines f (standing (thin u)) ls))
     → Follows f s (l ∷ ls) (after_lines f (thinned l.number r) ls)
-follow_on f s l ls (Ok u) e rest = ahead f s u l ls (after_lines f (standing (thin u)) ls) e (rest u)
-follow_on f s l ls (Err c) e rest = subst (λ (at : Standing). Follows f s (l ∷ ls) at) (sym (stays f l.number (OfLine c) ls)) stop
+follow_on f s l ls (Ok u) e rest =
+    ahead f s u l ls (after_lines f (standing (thin u)) ls) e (rest u)
+follow_on f s l ls (Err c) e rest =
+    subst (λ (at : Standing). Follows f s (l ∷ ls) at) (sym (stays f l.number (OfLine c) ls)) stop
   where
     stop : StopsWith f s (l ∷ ls) l.number (OfLine c)
-    stop = record { front = []; rest = ls; l = l; behind = s; kind = c; whole = refl; after_line = refl; refused = e; is_number = refl; is_code = refl }
+    stop = record {
+      front = [];
+      rest = ls;
+      l = l;
+      behind = s;
+      kind = c;
+      whole = refl;
+      after_line = refl;
+      refused = e;
+      is_number = refl;
+      is_code = refl;
+    }
 
 pub follow : (f : Form) (s : State) (ls : List LogicalLine)
     → Follows f s ls (after_lines f (standing (thin s)) ls)
 follow f s [] = (s, refl, refl)
 follow f s (l ∷ ls) =
-    subst (λ (at : Standing). Follows f s (l ∷ ls) (after_lines f at ls)) (sym (thin_word f s l.word l.number l.fields)) (follow_on f s l ls (step f s l) refl (λ u. follow f u ls))
+    subst (λ (at : Standing). Follows f s (l ∷ ls) (after_lines f at ls))
+    (sym (thin_word f s l.word l.number l.fields))
+    (follow_on f s l ls (step f s l) refl (λ u. follow f u ls))

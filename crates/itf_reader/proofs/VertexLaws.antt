@@ -36,7 +36,8 @@ code_err None a f h = cc
 code_err (Some g) a f h = cc
 
 -- ---- single vertices
-pub vertex_ok : (o : Option ValueFault) (b : Bool) (ns : List ℤ) (x y : ℤ) (h : List ℤ) (at p : Place)
+pub vertex_ok : (o : Option ValueFault) (b : Bool) (ns : List ℤ) (x y : ℤ) (h : List ℤ)
+    (at p : Place)
     → Ok (x ∷ y ∷ h) ≡ reading o ns → at ≡ p → b ≡ false
     → Ok (at, h) ≡ reading_by (first_code (option_map code_of o) (code_if b Arcs)) (p, drop 2 ns)
 vertex_ok (Some f) b ns x y h at p e q k = cc
@@ -52,7 +53,8 @@ vertex_barred (Some f) b ns v w e k = cc
 vertex_barred None true ns v w e k = refl
 vertex_barred None false ns v w e k = cc
 
-pub vertex_err : (o : Option ValueFault) (d : Option Code) (ns : List ℤ) (f : ValueFault) (w : Place × List ℤ)
+pub vertex_err : (o : Option ValueFault) (d : Option Code) (ns : List ℤ) (f : ValueFault)
+    (w : Place × List ℤ)
     → Err f ≡ reading o ns → Err (code_of f) ≡ reading_by (first_code (option_map code_of o) d) w
 vertex_err None d ns f w e = cc
 vertex_err (Some g) d ns f w e = cc
@@ -61,24 +63,38 @@ vertex_err (Some g) d ns f w e = cc
 pub ok_at : (l : LineForm) (v : Vertex) (lent : List (List ℕ)) (x y : ℤ) (h : List ℤ) (at : Place)
     → lent ≡ v.fields
     → Ok (x ∷ y ∷ h) ≡ reading (vertex_fault l lent) (numbers_on (line_axes l) lent)
-    → at ≡ place_named l.window lent → (is_on_arc v.kind && not l.arcs) ≡ false → Ok (at, h) ≡ vertex_reading l v
+    → at ≡ place_named l.window lent → (is_on_arc v.kind && not l.arcs) ≡ false
+    → Ok (at, h) ≡ vertex_reading l v
 ok_at l v lent x y h at e r p b =
-    subst (λ (fs : List (List ℕ)). Ok (at, h) ≡ reading_by (first_code (option_map code_of (vertex_fault l fs)) (code_if (is_on_arc v.kind && not l.arcs) Arcs)) (place_named l.window fs, drop 2 (numbers_on (line_axes l) fs))) e
-    (vertex_ok (vertex_fault l lent) (is_on_arc v.kind && not l.arcs) (numbers_on (line_axes l) lent) x y h at (place_named l.window lent) r p b)
+    subst (λ (fs : List (List ℕ)). Ok (at, h)
+    ≡ reading_by
+    (first_code (option_map code_of (vertex_fault l fs))
+    (code_if (is_on_arc v.kind && not l.arcs) Arcs))
+    (place_named l.window fs, drop 2 (numbers_on (line_axes l) fs))) e
+    (vertex_ok (vertex_fault l lent) (is_on_arc v.kind && not l.arcs)
+    (numbers_on (line_axes l) lent) x y h at (place_named l.window lent) r p b)
 
 pub barred_at : (l : LineForm) (v : Vertex) (lent : List (List ℕ)) (ns : List ℤ) → lent ≡ v.fields
     → Ok ns ≡ reading (vertex_fault l lent) (numbers_on (line_axes l) lent)
     → (is_on_arc v.kind && not l.arcs) ≡ true → Err Arcs ≡ vertex_reading l v
 barred_at l v lent ns e r b =
-    subst (λ (fs : List (List ℕ)). Err Arcs ≡ reading_by (first_code (option_map code_of (vertex_fault l fs)) (code_if (is_on_arc v.kind && not l.arcs) Arcs)) (place_of l v, heights_of l v)) e
-    (vertex_barred (vertex_fault l lent) (is_on_arc v.kind && not l.arcs) (numbers_on (line_axes l) lent) ns (place_of l v, heights_of l v) r b)
+    subst (λ (fs : List (List ℕ)). Err Arcs
+    ≡ reading_by
+    (first_code (option_map code_of (vertex_fault l fs))
+    (code_if (is_on_arc v.kind && not l.arcs) Arcs)) (place_of l v, heights_of l v)) e
+    (vertex_barred (vertex_fault l lent) (is_on_arc v.kind && not l.arcs)
+    (numbers_on (line_axes l) lent) ns (place_of l v, heights_of l v) r b)
 
 pub err_at : (l : LineForm) (v : Vertex) (lent : List (List ℕ)) (f : ValueFault) → lent ≡ v.fields
     → Err f ≡ reading (vertex_fault l lent) (numbers_on (line_axes l) lent)
     → Err (code_of f) ≡ vertex_reading l v
 err_at l v lent f e r =
-    subst (λ (fs : List (List ℕ)). Err (code_of f) ≡ reading_by (first_code (option_map code_of (vertex_fault l fs)) (code_if (is_on_arc v.kind && not l.arcs) Arcs)) (place_of l v, heights_of l v)) e
-    (vertex_err (vertex_fault l lent) (code_if (is_on_arc v.kind && not l.arcs) Arcs) (numbers_on (line_axes l) lent) f (place_of l v, heights_of l v) r)
+    subst (λ (fs : List (List ℕ)). Err (code_of f)
+    ≡ reading_by
+    (first_code (option_map code_of (vertex_fault l fs))
+    (code_if (is_on_arc v.kind && not l.arcs) Arcs)) (place_of l v, heights_of l v)) e
+    (vertex_err (vertex_fault l lent) (code_if (is_on_arc v.kind && not l.arcs) Arcs)
+    (numbers_on (line_axes l) lent) f (place_of l v, heights_of l v) r)
 
 by_none : (o : Option Code) (a w : Place × List ℤ) → Ok w ≡ reading_by o a → (o ≡ None) × (w ≡ a)
 by_none None a w h = (refl, cc)
@@ -91,18 +107,28 @@ by_some (Some d) a c h = cc
 -- a vertex that is sound
 pub sound : (l : LineForm) (v : Vertex) (w : Place × List ℤ) (column : ℕ)
     → Ok w ≡ vertex_reading l v
-    → (true ≡ is_clean l v) × (record { at = w.0; line = v.line; kind = v.kind } ∷ [] ≡ sound_vertex l v) × (w.1 ≡ sound_height l v) × ([] ≡ vertex_finding l column v)
+    → (true ≡ is_clean l v) × (record {
+      at = w.0;
+      line = v.line;
+      kind = v.kind;
+    } ∷ [] ≡ sound_vertex l v) × (w.1 ≡ sound_height l v)
+    × ([] ≡ vertex_finding l column v)
 sound l v w column e =
     let b = by_none (vertex_code l v) (place_of l v, heights_of l v) w e in (
       rw b.0 refl,
-      rw b.0 (ap (λ (x : Place × List ℤ). record { at = x.0; line = v.line; kind = v.kind } ∷ []) b.1),
+      rw b.0 (ap (λ (x : Place × List ℤ). record {
+        at = x.0;
+        line = v.line;
+        kind = v.kind;
+      } ∷ []) b.1),
       rw b.0 (ap (λ (x : Place × List ℤ). x.1) b.1),
       rw b.0 refl,
     )
 
 -- and one that is not
 pub unsound : (l : LineForm) (v : Vertex) (c : Code) (column : ℕ) → Err c ≡ vertex_reading l v
-    → (false ≡ is_clean l v) × ([] ≡ sound_vertex l v) × ([] ≡ sound_height l v) × (finding_at v.line column (Some c) ≡ vertex_finding l column v)
+    → (false ≡ is_clean l v) × ([] ≡ sound_vertex l v) × ([] ≡ sound_height l v)
+    × (finding_at v.line column (Some c) ≡ vertex_finding l column v)
 unsound l v c column e =
     let b = by_some (vertex_code l v) (place_of l v, heights_of l v) c e in
     (rw b refl, rw b refl, rw b refl, rw b refl)
@@ -168,7 +194,9 @@ pub own_vertices : (old new lent rest : List ReadVertex) (more : List Seen) (sta
     → start ≡ length old → vertices_view new ≡ vertices_view old ++ more → lent ≡ new
     → rest ≡ drop start lent → vertices_view rest ≡ more
 own_vertices old new lent rest more start s h e r =
-    ap vertices_view r ∙ ap (λ (n : ℕ). vertices_view (drop n lent)) s ∙ ap (λ (l : List ReadVertex). vertices_view (drop (length old) l)) e ∙ tail_of old new more h
+    ap vertices_view r ∙ ap (λ (n : ℕ). vertices_view (drop n lent)) s
+    ∙ ap (λ (l : List ReadVertex). vertices_view (drop (length old) l)) e
+    ∙ tail_of old new more h
 
 -- a line whose vertices are all clean
 pub stroke_clean : (role : Role) (l : LineForm) (vs : List Vertex) (rest : List Seen)
@@ -180,18 +208,26 @@ pub stroke_unclean : (role : Role) (l : LineForm) (vs : List Vertex) → are_cle
     → false ≡ is_sound_stroke role l vs
 stroke_unclean role l vs h = rw h refl
 
-pub found_clean : (role : Role) (l : LineForm) (column : ℕ) (vs : List Vertex) (rest : List Seen) (old more new : List Finding)
+pub found_clean : (role : Role) (l : LineForm) (column : ℕ) (vs : List Vertex) (rest : List Seen)
+    (old more new : List Finding)
     → rest ≡ sound_vertices l vs → are_clean l vs ≡ true
-    → more ≡ old ++ flat_map (vertex_finding l column) vs → new ≡ more ++ (short_finding role column rest ++ arc_findings column rest) → new ≡ old ++ stroke_findings role l column vs
+    → more ≡ old ++ flat_map (vertex_finding l column) vs
+    → new ≡ more ++ (short_finding role column rest ++ arc_findings column rest)
+    → new ≡ old ++ stroke_findings role l column vs
 found_clean role l column vs rest old more new e h m n =
     let seen_all : rest ≡ all_seen l vs = e ∙ clean_seen l vs h in
-    let same : more ≡ old = m ∙ ap (λ (fs : List Finding). old ++ fs) (clean_silent l column vs h) ∙ append-nil old in
-    n ∙ ap (λ (fs : List Finding). fs ++ (short_finding role column rest ++ arc_findings column rest)) same
-    ∙ ap (λ (ss : List Seen). old ++ (short_finding role column ss ++ arc_findings column ss)) seen_all ∙ rw h refl
+    let same : more ≡ old = m ∙ ap (λ (fs : List Finding). old ++ fs) (clean_silent l column vs h)
+    ∙ append-nil old in
+    n ∙ ap (λ (fs : List Finding). fs
+    ++ (short_finding role column rest ++ arc_findings column rest)) same
+    ∙ ap (λ (ss : List Seen). old ++ (short_finding role column ss ++ arc_findings column ss))
+    seen_all ∙ rw h refl
 
-pub found_unclean : (role : Role) (l : LineForm) (column : ℕ) (vs : List Vertex) (old more : List Finding)
+pub found_unclean : (role : Role) (l : LineForm) (column : ℕ) (vs : List Vertex)
+    (old more : List Finding)
     → are_clean l vs ≡ false
-    → more ≡ old ++ flat_map (vertex_finding l column) vs → more ≡ old ++ stroke_findings role l column vs
+    → more ≡ old ++ flat_map (vertex_finding l column) vs
+    → more ≡ old ++ stroke_findings role l column vs
 found_unclean role l column vs old more h m = m ∙ rw h refl
 
 pub err_same : (A : Type 0) (c d : Code) → c ≡ d → ◌≡◌ {A = Result A Code} (Err c) (Err d)

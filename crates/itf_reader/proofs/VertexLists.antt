@@ -27,12 +27,15 @@ take_all {A} (suc n) (x ∷ xs) h = ap (λ (l : List A). x ∷ l) (take_all n xs
 -- one more vertex with its fields
 pub with_fields_push : (hs : List Head) (fs : List (List ℕ)) (h : Head) (gs : List (List ℕ))
     → field_count hs ≡ length fs → h.count ≡ length gs
-    → with_fields (hs ++ h ∷ []) (fs ++ gs) ≡ with_fields hs fs ++ vertex (kind_of h.kind) h.line gs ∷ []
-with_fields_push [] [] h gs e n = ap (λ (l : List (List ℕ)). vertex (kind_of h.kind) h.line l ∷ []) (take_all h.count gs n)
+    → with_fields (hs ++ h ∷ []) (fs ++ gs)
+    ≡ with_fields hs fs ++ vertex (kind_of h.kind) h.line gs ∷ []
+with_fields_push [] [] h gs e n =
+    ap (λ (l : List (List ℕ)). vertex (kind_of h.kind) h.line l ∷ []) (take_all h.count gs n)
 with_fields_push [] (f ∷ fs) h gs e n = absurd (omega arith)
 with_fields_push (x ∷ hs) fs h gs e n =
     rw (take-append-le x.count fs gs (omega arith), drop_front x.count fs gs (omega arith))
-    (ap (λ (l : List Vertex). vertex (kind_of x.kind) x.line (take x.count fs) ∷ l) (with_fields_push hs (drop x.count fs) h gs (length_after x.count (field_count hs) fs e) n))
+    (ap (λ (l : List Vertex). vertex (kind_of x.kind) x.line (take x.count fs) ∷ l)
+    (with_fields_push hs (drop x.count fs) h gs (length_after x.count (field_count hs) fs e) n))
 
 pub field_count_push : (hs : List Head) (h : Head)
     → field_count (hs ++ h ∷ []) ≡ field_count hs + h.count
@@ -45,7 +48,8 @@ length_with_fields [] fs = refl
 length_with_fields (h ∷ hs) fs = ap suc (length_with_fields hs (drop h.count fs))
 
 -- the same, where each part was added or memory ran out
-pub push_counted : {V E : Type 0} (r : Result V E) (hs new : List Head) (h : Head) (fs kept gs : List (List ℕ))
+pub push_counted : {V E : Type 0} (r : Result V E) (hs new : List Head) (h : Head)
+    (fs kept gs : List (List ℕ))
     → false ≡ is_err r → OnOk r (new ≡ hs ++ h ∷ []) → OnOk r (kept ≡ fs ++ gs)
     → field_count hs ≡ length fs → h.count ≡ length gs → field_count new ≡ length kept
 push_counted (Ok u) hs new h fs kept gs t a b inv n =
@@ -56,9 +60,11 @@ push_counted (Ok u) hs new h fs kept gs t a b inv n =
     omega (arith, x, y, p, q, inv, n)
 push_counted (Err e) hs new h fs kept gs t a b inv n = cc
 
-pub pushed : {V E : Type 0} (r : Result V E) (hs new : List Head) (h : Head) (fs kept gs : List (List ℕ)) (vs : List Vertex)
+pub pushed : {V E : Type 0} (r : Result V E) (hs new : List Head) (h : Head)
+    (fs kept gs : List (List ℕ)) (vs : List Vertex)
     → OnOk r (new ≡ hs ++ h ∷ []) → OnOk r (kept ≡ fs ++ gs)
-    → field_count hs ≡ length fs → h.count ≡ length gs → vs ≡ with_fields hs fs → OnOk r (with_fields new kept ≡ vs ++ vertex (kind_of h.kind) h.line gs ∷ [])
+    → field_count hs ≡ length fs → h.count ≡ length gs → vs ≡ with_fields hs fs
+    → OnOk r (with_fields new kept ≡ vs ++ vertex (kind_of h.kind) h.line gs ∷ [])
 pushed (Ok u) hs new h fs kept gs vs a b inv n v = rw (a, b, v) (with_fields_push hs fs h gs inv n)
 pushed (Err e) hs new h fs kept gs vs a b inv n v = tt
 

@@ -11,7 +11,8 @@ use Rattle.itf_reader.specs.Views.{strokes_of}
 
 -- nothing is left
 pub all_done : {X : Type 0} (done left all : List X) → left ≡ [] → done ++ left ≡ all → done ≡ all
-all_done {X} done left all e h = sym (append-nil done) ∙ (ap (λ (s : List X). done ++ s) (sym e) ∙ h)
+all_done {X} done left all e h = sym (append-nil done)
+    ∙ (ap (λ (s : List X). done ++ s) (sym e) ∙ h)
 
 pub findings_end : (role : Role) (line column : ℕ) (ls : List LineForm) (ss : List Stroke)
     → (ls ≡ []) ⊎ (ss ≡ []) → lines_findings role line column (lines_view ls) (strokes_of ss) ≡ []

@@ -34,13 +34,16 @@ RowWords (r ∷ rows) = AreWords r.fields × StrokeWords r.strokes × RowWords r
 vertices_words : (vs : List Vertex) (w r : List LogicalLine) → IsVertices vs w r → HaveWords w
     → VertexWords vs × HaveWords r
 vertices_words _ _ _ (no_vertex r) h = (tt, h)
-vertices_words _ _ _ (straight_vertex n fs vs w r k) h = let i = vertices_words vs w r k h.1 in ((h.0, i.0), i.1)
-vertices_words _ _ _ (arc_vertex n m fs gs vs w r k) h = let i = vertices_words vs w r k h.1.1 in ((h.0, (h.1.0, i.0)), i.1)
+vertices_words _ _ _ (straight_vertex n fs vs w r k) h =
+    let i = vertices_words vs w r k h.1 in ((h.0, i.0), i.1)
+vertices_words _ _ _ (arc_vertex n m fs gs vs w r k) h =
+    let i = vertices_words vs w r k h.1.1 in ((h.0, (h.1.0, i.0)), i.1)
 
 stroke_words : (s : List Vertex) (w r : List LogicalLine) → IsStroke s w r → HaveWords w
     → VertexWords s × HaveWords r
 stroke_words _ _ _ (undefined_stroke n fs r) h = (tt, h.1)
-stroke_words _ _ _ (defined_stroke n m fs gs vs w r k) h = let i = vertices_words vs w _ k h.1 in ((h.0, i.0), i.1.1)
+stroke_words _ _ _ (defined_stroke n m fs gs vs w r k) h =
+    let i = vertices_words vs w _ k h.1 in ((h.0, i.0), i.1.1)
 
 strokes_words : (ss : List (List Vertex)) (w r : List LogicalLine) → IsStrokes ss w r → HaveWords w
     → StrokeWords ss × HaveWords r
@@ -63,8 +66,14 @@ objects_words : (lines : ℕ) (rows : List Row) (w r : List LogicalLine) → IsO
 objects_words lines _ _ _ (no_object r) h = (tt, h)
 objects_words lines _ _ _ (more_objects n fs ss rows w u r k l i) h =
     let a = strokes_words ss w u k h.1 in
-    let b = objects_words lines rows u r i a.1 in
-    ((h.0, more_words ss (replicate (lines - length ss) []) a.0 (none_words (lines - length ss)), b.0), b.1)
+    let b = objects_words lines rows u r i a.1 in (
+      (
+        h.0,
+        more_words ss (replicate (lines - length ss) []) a.0 (none_words (lines - length ss)),
+        b.0,
+      ),
+      b.1,
+    )
 
 -- ---- names
 -- a table that came: by the name of a topic, and by a name in it
@@ -83,14 +92,30 @@ abbrev AllCame : Form → List TableRows → Type 0
 AllCame f [] = Unit {0}
 AllCame f (c ∷ cs) = Came f c.table c.rows × AllCame f cs
 
-tables_came : (f : Form) (topic : ℕ) (gs : List (List ℕ)) (earlier ts : List TableRows) (w r : List LogicalLine)
+tables_came : (f : Form) (topic : ℕ) (gs : List (List ℕ)) (earlier ts : List TableRows)
+    (w r : List LogicalLine)
     → topic_named 0 gs f.topics ≡ Some topic → AreWords gs
     → IsTables f topic earlier ts w r → HaveWords w → AllCame f ts × HaveWords r
 tables_came f topic gs _ _ _ _ e g (no_table earlier r) h = (tt, h)
 tables_came f topic gs _ _ _ _ e g (more_tables earlier n m i fs hs t rows ts w u r k l o s) h =
     let a = objects_words t.lines rows w _ o h.1 in
-    let b = tables_came f topic gs _ ts u r e g s a.1.1 in
-    ((record { topic = topic; topic_fields = gs; topic_named = e; topic_words = g; fields = fs; table = t; named = k; words = h.0; row_words = a.0 }, b.0), b.1)
+    let b = tables_came f topic gs _ ts u r e g s a.1.1 in (
+      (
+        record {
+          topic = topic;
+          topic_fields = gs;
+          topic_named = e;
+          topic_words = g;
+          fields = fs;
+          table = t;
+          named = k;
+          words = h.0;
+          row_words = a.0;
+        },
+        b.0,
+      ),
+      b.1,
+    )
 
 all_came-append : (f : Form) (a b : List TableRows) → AllCame f a → AllCame f b → AllCame f (a ++ b)
 all_came-append f [] b h k = k
@@ -113,10 +138,12 @@ Placed f n rows = (rows ≡ []) ⊎ Came f n rows
 
 placed_in : (f : Form) (n : ℕ) (cs : List TableRows) → AllCame f cs → Placed f n (rows_in n cs)
 placed_in f n [] h = inl refl
-placed_in f n (c ∷ cs) h = elim (nat_eq c.table n) as (λ b. nat_eq c.table n ≡ b → Placed f n (if b then c.rows else rows_in n cs)) [
-  | true ↦ λ e. inr (subst (λ (m : ℕ). Came f m c.rows) (eqb-true c.table n e) h.0)
-  | false ↦ λ e. placed_in f n cs h.1
-] refl
+placed_in f n (c ∷ cs) h =
+    elim (nat_eq c.table n) as (λ b. nat_eq c.table n ≡ b
+    → Placed f n (if b then c.rows else rows_in n cs)) [
+      | true ↦ λ e. inr (subst (λ (m : ℕ). Came f m c.rows) (eqb-true c.table n e) h.0)
+      | false ↦ λ e. placed_in f n cs h.1
+    ] refl
 
 abbrev pub AllPlaced : Form → ℕ → List Table → List (List Row) → Type 0
 AllPlaced f n [] [] = Unit {0}
@@ -140,11 +167,16 @@ only_name (f ∷ g ∷ fs) name h = absurd cc
 -- the rows of a text came by name, and its model has its name from a field
 pub text_placed : (f : Form) (ls : List LogicalLine) (transfer : List (List Row))
     → TransferText f ls transfer → HaveWords ls → AllPlaced f 0 f.tables transfer × IsWord f.model
-text_placed f ls transfer t h = (subst (λ (x : List (List Row)). AllPlaced f 0 f.tables x) (sym t.2) (placed_from f 0 f.tables (tables_of t.0) (came f t.0 ls t.1 h)), model f t.0 ls t.1 h)
+text_placed f ls transfer t h = (
+  subst (λ (x : List (List Row)). AllPlaced f 0 f.tables x) (sym t.2)
+      (placed_from f 0 f.tables (tables_of t.0) (came f t.0 ls t.1 h)),
+  model f t.0 ls t.1 h,
+)
   where
     came : (f : Form) (ts : List TopicRows) (ls : List LogicalLine) → IsText f ts ls → HaveWords ls
         → AllCame f (tables_of ts)
-    came f _ _ (text n m i j k e fs gs hs is js ks ts w u a b o) h = topics_came f [] ts u _ o (free_words w _ a h.1).1.1.1
+    came f _ _ (text n m i j k e fs gs hs is js ks ts w u a b o) h =
+        topics_came f [] ts u _ o (free_words w _ a h.1).1.1.1
 
     model : (f : Form) (ts : List TopicRows) (ls : List LogicalLine) → IsText f ts ls → HaveWords ls
         → IsWord f.model

@@ -90,13 +90,17 @@ stroke_spelt (v ∷ vs) h = (vertex_spelt v.kind, h.0, stroke_spelt vs h.1)
 
 strokes_spelt : (ss : List (List Vertex)) → StrokeWords ss → AreSpelt (flat_map stroke_lines ss)
 strokes_spelt [] h = tt
-strokes_spelt (s ∷ ss) h = subst (λ (ls : List LogicalLine). AreSpelt ls) (sym (flat_map-cons stroke_lines s ss)) (spelt-append (stroke_lines s) (flat_map stroke_lines ss) (stroke_spelt s h.0) (strokes_spelt ss h.1))
+strokes_spelt (s ∷ ss) h =
+    subst (λ (ls : List LogicalLine). AreSpelt ls) (sym (flat_map-cons stroke_lines s ss))
+    (spelt-append (stroke_lines s) (flat_map stroke_lines ss) (stroke_spelt s h.0)
+    (strokes_spelt ss h.1))
 
 rows_spelt : (rows : List Row) → RowWords rows → AreSpelt (flat_map row_lines rows)
 rows_spelt [] h = tt
 rows_spelt (r ∷ rows) h =
     subst (λ (ls : List LogicalLine). AreSpelt ls) (sym (flat_map-cons row_lines r rows))
-    (spelt-append (row_lines r) (flat_map row_lines rows) (inside Obje obje, h.0, strokes_spelt r.strokes h.1) (rows_spelt rows h.2))
+    (spelt-append (row_lines r) (flat_map row_lines rows)
+    (inside Obje obje, h.0, strokes_spelt r.strokes h.1) (rows_spelt rows h.2))
 
 -- ---- tables and topics
 table_spelt : {f : Form} {n : ℕ} (t : Table) (rows : List Row) → Known f n t rows
@@ -104,7 +108,12 @@ table_spelt : {f : Form} {n : ℕ} (t : Table) (rows : List Row) → Known f n t
 table_spelt t [] h = tt
 table_spelt t (r ∷ rows) h = elim h [
   | inl e ↦ absurd (not_none r rows e)
-  | inr c ↦ (inside Tabl tabl, (c.word, tt), spelt-append (flat_map row_lines (r ∷ rows)) (line Etab 0 [] ∷ []) (rows_spelt (r ∷ rows) c.row_words) (inside Etab etab, tt, tt))
+  | inr c ↦ (
+    inside Tabl tabl,
+    (c.word, tt),
+    spelt-append (flat_map row_lines (r ∷ rows)) (line Etab 0 [] ∷ [])
+        (rows_spelt (r ∷ rows) c.row_words) (inside Etab etab, tt, tt),
+  )
 ]
   where
     not_none : (r : Row) (rows : List Row) → r ∷ rows ≡ [] → ⊥
@@ -120,7 +129,10 @@ tables_spelt : (f : Form) (k n : ℕ) (ts : List Table) (transfer : List (List R
 tables_spelt f k n [] transfer h = tt
 tables_spelt f k n (t ∷ ts) [] h = absurd h
 tables_spelt f k n (t ∷ ts) (rows ∷ others) h =
-    spelt-append (if nat_eq t.topic k then table_lines t.name rows else []) (tables_lines k ts others) (spelt_if (nat_eq t.topic k) (table_lines t.name rows) (λ e. table_spelt {f = f} {n = n} t rows h.0)) (tables_spelt f k (n + 1) ts others h.1)
+    spelt-append (if nat_eq t.topic k then table_lines t.name rows else [])
+    (tables_lines k ts others)
+    (spelt_if (nat_eq t.topic k) (table_lines t.name rows)
+    (λ e. table_spelt {f = f} {n = n} t rows h.0)) (tables_spelt f k (n + 1) ts others h.1)
 
 topics_spelt : (f : Form) (k : ℕ) (names : List (List ℕ)) (transfer : List (List Row))
     → TopicRest f k names → AllKnown f 0 f.tables transfer
@@ -128,9 +140,15 @@ topics_spelt : (f : Form) (k : ℕ) (names : List (List ℕ)) (transfer : List (
 topics_spelt f k [] transfer h a = tt
 topics_spelt f k (name ∷ names) transfer h a =
     let ls = tables_lines k f.tables transfer in
-    spelt-append (topic_lines k name f.tables transfer) (topics_lines (k + 1) names f.tables transfer)
+    spelt-append (topic_lines k name f.tables transfer)
+    (topics_lines (k + 1) names f.tables transfer)
     (spelt_if (has_rows k f.tables transfer) (line Topi 0 (name ∷ []) ∷ (ls ++ line Etop 0 [] ∷ []))
-    (λ e. (inside Topi topi, ((topic_known f k name names transfer h e a).1, tt), spelt-append ls (line Etop 0 [] ∷ []) (tables_spelt f k 0 f.tables transfer a) (inside Etop etop, tt, tt))))
+    (λ e. (
+      inside Topi topi,
+      ((topic_known f k name names transfer h e a).1, tt),
+      spelt-append ls (line Etop 0 [] ∷ []) (tables_spelt f k 0 f.tables transfer a)
+          (inside Etop etop, tt, tt),
+    )))
     (topics_spelt f (k + 1) names transfer (topic_rest_later f k name names h) a)
 
 pub canon_spelt : (f : Form) (transfer : List (List Row)) → IsWord f.model
@@ -141,6 +159,8 @@ canon_spelt f transfer m a = (
   (
     inside Modl modl,
     (m, tt),
-    spelt-append (topics_lines 0 f.topics f.tables transfer) (line Emod 0 [] ∷ line Ende 0 [] ∷ []) (topics_spelt f 0 f.topics transfer (λ fs n l e. e) a) (inside Emod emod, tt, (inside Ende ende, tt, tt)),
+    spelt-append (topics_lines 0 f.topics f.tables transfer) (line Emod 0 [] ∷ line Ende 0 [] ∷ [])
+        (topics_spelt f 0 f.topics transfer (λ fs n l e. e) a)
+        (inside Emod emod, tt, (inside Ende ende, tt, tt)),
   ),
 )

@@ -25,24 +25,29 @@ map_append (c ∷ a) b = ap (λ (l : List TableRows). bare_table c ∷ l) (map_a
 
 bare_rows_in : (n : ℕ) (cs : List TableRows) → bare_rows (rows_in n cs) ≡ rows_in n (bare_tables cs)
 bare_rows_in n [] = refl
-bare_rows_in n (c ∷ cs) = elim (nat_eq c.table n) as (λ b. bare_rows (if b then c.rows else rows_in n cs) ≡ (if b then bare_rows c.rows else rows_in n (bare_tables cs))) [
-  | true ↦ refl
-  | false ↦ bare_rows_in n cs
-]
+bare_rows_in n (c ∷ cs) =
+    elim (nat_eq c.table n) as (λ b. bare_rows (if b then c.rows else rows_in n cs)
+    ≡ (if b then bare_rows c.rows else rows_in n (bare_tables cs))) [
+      | true ↦ refl
+      | false ↦ bare_rows_in n cs
+    ]
 
 bare_from : (n : ℕ) (ts : List Table) (cs : List TableRows)
     → bare (rows_from n ts cs) ≡ rows_from n ts (bare_tables cs)
 bare_from n [] cs = refl
 bare_from n (t ∷ ts) cs =
-    ap (λ (r : List Row). r ∷ bare (rows_from (n + 1) ts cs)) (bare_rows_in n cs) ∙ ap (λ (r : List (List Row)). rows_in n (bare_tables cs) ∷ r) (bare_from (n + 1) ts cs)
+    ap (λ (r : List Row). r ∷ bare (rows_from (n + 1) ts cs)) (bare_rows_in n cs)
+    ∙ ap (λ (r : List (List Row)). rows_in n (bare_tables cs) ∷ r) (bare_from (n + 1) ts cs)
 
 bare_tables_of : (ts : List TopicRows) → bare_tables (tables_of ts) ≡ tables_of (bare_topics ts)
 bare_tables_of [] = refl
-bare_tables_of (t ∷ ts) = map_append t.tables (tables_of ts) ∙ ap (λ (l : List TableRows). bare_tables t.tables ++ l) (bare_tables_of ts)
+bare_tables_of (t ∷ ts) = map_append t.tables (tables_of ts)
+    ∙ ap (λ (l : List TableRows). bare_tables t.tables ++ l) (bare_tables_of ts)
 
 bare_by_form : (f : Form) (ts : List TopicRows)
     → bare (rows_by_form f ts) ≡ rows_by_form f (bare_topics ts)
-bare_by_form f ts = bare_from 0 f.tables (tables_of ts) ∙ ap (rows_from 0 f.tables) (bare_tables_of ts)
+bare_by_form f ts = bare_from 0 f.tables (tables_of ts)
+    ∙ ap (rows_from 0 f.tables) (bare_tables_of ts)
 
 twice_stroke : (s : List Vertex) → bare_stroke (bare_stroke s) ≡ bare_stroke s
 twice_stroke [] = refl
@@ -51,17 +56,24 @@ twice_stroke (v ∷ vs) = ap (λ (l : List Vertex). bare_vertex v ∷ l) (twice_
 twice_strokes : (ss : List (List Vertex))
     → map bare_stroke (map bare_stroke ss) ≡ map bare_stroke ss
 twice_strokes [] = refl
-twice_strokes (s ∷ ss) = ap (λ (x : List Vertex). x ∷ map bare_stroke (map bare_stroke ss)) (twice_stroke s) ∙ ap (λ (l : List (List Vertex)). bare_stroke s ∷ l) (twice_strokes ss)
+twice_strokes (s ∷ ss) =
+    ap (λ (x : List Vertex). x ∷ map bare_stroke (map bare_stroke ss)) (twice_stroke s)
+    ∙ ap (λ (l : List (List Vertex)). bare_stroke s ∷ l) (twice_strokes ss)
 
 twice_rows : (rows : List Row) → bare_rows (bare_rows rows) ≡ bare_rows rows
 twice_rows [] = refl
 twice_rows (r ∷ rows) =
-    ap (λ (ss : List (List Vertex)). record { line = 0; fields = r.fields; strokes = ss } ∷ bare_rows (bare_rows rows)) (twice_strokes r.strokes)
+    ap (λ (ss : List (List Vertex)). record {
+      line = 0;
+      fields = r.fields;
+      strokes = ss;
+    } ∷ bare_rows (bare_rows rows)) (twice_strokes r.strokes)
     ∙ ap (λ (l : List Row). bare_row r ∷ l) (twice_rows rows)
 
 bare_twice : (t : List (List Row)) → bare (bare t) ≡ bare t
 bare_twice [] = refl
-bare_twice (rows ∷ t) = ap (λ (r : List Row). r ∷ bare (bare t)) (twice_rows rows) ∙ ap (λ (l : List (List Row)). bare_rows rows ∷ l) (bare_twice t)
+bare_twice (rows ∷ t) = ap (λ (r : List Row). r ∷ bare (bare t)) (twice_rows rows)
+    ∙ ap (λ (l : List (List Row)). bare_rows rows ∷ l) (bare_twice t)
 
 -- ---- codes
 other : (a b : ℕ) → (a ≡ b → ⊥) → (a == b) ≡ false
@@ -69,7 +81,10 @@ other a b h = ne_eqb a b h
 
 pub code_of_model : (code : ℕ) → 33 ≤ code → (code ≡ 84 → ⊥) → IsCode code
 code_of_model code h k = record {
-  blank = rw (other code 32 (λ e. absurd (omega (arith, h, e))), other code 9 (λ e. absurd (omega (arith, h, e)))) refl;
+  blank = rw (
+    other code 32 (λ e. absurd (omega (arith, h, e))),
+    other code 9 (λ e. absurd (omega (arith, h, e))),
+  ) refl;
   lf = other code 10 (λ e. absurd (omega (arith, h, e)));
   cr = other code 13 (λ e. absurd (omega (arith, h, e)));
   cont = other 84 code (λ e. k (sym e));
@@ -84,9 +99,12 @@ read_again code f given t c h w =
     let known = tables_known f t placed.0 in
     let lines = logical code (canon_text code f t) in
     let gives = text_gives code (canon_lines f t) c (canon_spelt f t placed.1 known) in
-    let built = canon_built f t known (rows_counted f given.lines t h.1) (rows_formed f given.lines t h.1) in
+    let built = canon_built f t known (rows_counted f given.lines t h.1)
+    (rows_formed f given.lines t h.1) in
     let ts = kept_topics 0 f.topics f.tables t in
     let r = renumbered f ts (head_lines ++ canon_lines f t) lines.lines (sym gives.0) built in
     let same : bare (rows_by_form f r.0) ≡ bare t =
-    bare_by_form f r.0 ∙ (ap (rows_by_form f) r.2 ∙ (sym (bare_by_form f ts) ∙ (ap bare (placed_again f t known) ∙ bare_twice t))) in
+    bare_by_form f r.0
+    ∙ (ap (rows_by_form f) r.2
+    ∙ (sym (bare_by_form f ts) ∙ (ap bare (placed_again f t known) ∙ bare_twice t))) in
     (rows_by_form f r.0, (gives.1, (r.0, r.1, refl)), sym same)

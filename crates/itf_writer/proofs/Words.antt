@@ -55,19 +55,23 @@ fields_are_words [] h = tt
 fields_are_words (c ∷ line) h =
     let p = both (c == 10) (has_no_lf line) h in
     let rest = fields_are_words line p.1 in
-    elim (is_blank c) as (λ b. is_blank c ≡ b → AreWords (cond b (fields line) (cond (ends_field line) ((c ∷ []) ∷ fields line) (with_first_byte c (fields line))))) [
+    elim (is_blank c) as (λ b. is_blank c ≡ b
+    → AreWords (cond b (fields line)
+    (cond (ends_field line) ((c ∷ []) ∷ fields line) (with_first_byte c (fields line))))) [
       | true ↦ λ e. rest
-      | false ↦ λ e. elim (ends_field line) as (λ b. AreWords (cond b ((c ∷ []) ∷ fields line) (with_first_byte c (fields line)))) [
-        | true ↦ (one_byte c e p.0, rest)
-        | false ↦ first_words c (fields line) e p.0 rest
-      ]
+      | false ↦ λ e. elim (ends_field line) as
+          (λ b. AreWords (cond b ((c ∷ []) ∷ fields line) (with_first_byte c (fields line)))) [
+            | true ↦ (one_byte c e p.0, rest)
+            | false ↦ first_words c (fields line) e p.0 rest
+          ]
     ] refl
 
 -- ---- physical lines hold no LF
 no_lf-take : (n : ℕ) (line : List ℕ) → has_no_lf line ≡ true → has_no_lf (take n line) ≡ true
 no_lf-take zero line h = refl
 no_lf-take (suc n) [] h = refl
-no_lf-take (suc n) (c ∷ line) h = let p = both (c == 10) (has_no_lf line) h in rw (p.0, no_lf-take n line p.1) refl
+no_lf-take (suc n) (c ∷ line) h =
+    let p = both (c == 10) (has_no_lf line) h in rw (p.0, no_lf-take n line p.1) refl
 
 no_lf-cond : (b : Bool) (x y : List ℕ) → has_no_lf x ≡ true → has_no_lf y ≡ true
     → has_no_lf (cond b x y) ≡ true
@@ -81,12 +85,14 @@ no_lf-trim : (line : List ℕ) → has_no_lf line ≡ true → has_no_lf (trim_e
 no_lf-trim [] h = refl
 no_lf-trim (c ∷ line) h =
     let p = both (c == 10) (has_no_lf line) h in
-    no_lf-cond (all_blank (c ∷ line)) [] (c ∷ trim_end line) refl (rw (p.0, no_lf-trim line p.1) refl)
+    no_lf-cond (all_blank (c ∷ line)) [] (c ∷ trim_end line) refl
+    (rw (p.0, no_lf-trim line p.1) refl)
 
 no_lf-code : (code : ℕ) (line : List ℕ) → has_no_lf line ≡ true
     → has_no_lf (without_code code line) ≡ true
 no_lf-code code line h =
-    no_lf-cond (goes_on code line) (without_last (trim_end line)) line (no_lf-take (length (trim_end line) - 1) (trim_end line) (no_lf-trim line h)) h
+    no_lf-cond (goes_on code line) (without_last (trim_end line)) line
+    (no_lf-take (length (trim_end line) - 1) (trim_end line) (no_lf-trim line h)) h
 
 -- a line as it is cut: without a LF, or with one at its end
 data IsCut : List ℕ → Type 0 where
@@ -100,13 +106,16 @@ more_cut c _ e (ended_cut x h) = ended_cut (c ∷ x) (rw (e, h) refl)
 first_cut : (bs : List ℕ) → IsCut (take (line_len bs) bs)
 unfolding line_len
 first_cut [] = open_cut [] refl
-first_cut (c ∷ bs) = elim (c == 10) as (λ t. (c == 10) ≡ t → IsCut (take (cond t 1 (suc (line_len bs))) (c ∷ bs))) [
-  | true ↦ λ e. subst (λ (d : ℕ). IsCut (d ∷ [])) (sym (eqb-true c 10 e)) (ended_cut [] refl)
-  | false ↦ λ e. more_cut c (take (line_len bs) bs) e (first_cut bs)
-] refl
+first_cut (c ∷ bs) =
+    elim (c == 10) as (λ t. (c == 10) ≡ t → IsCut (take (cond t 1 (suc (line_len bs))) (c ∷ bs))) [
+      | true ↦ λ e. subst (λ (d : ℕ). IsCut (d ∷ [])) (sym (eqb-true c 10 e)) (ended_cut [] refl)
+      | false ↦ λ e. more_cut c (take (line_len bs) bs) e (first_cut bs)
+    ] refl
 
 cut_plain : (x : List ℕ) → IsCut x → has_no_lf (without_terminator x) ≡ true
-cut_plain _ (open_cut x h) = no_lf-cond _ (no_cr (take (length x - 1) x)) x (no_lf-cr (take (length x - 1) x) (no_lf-take (length x - 1) x h)) h
+cut_plain _ (open_cut x h) =
+    no_lf-cond _ (no_cr (take (length x - 1) x)) x
+    (no_lf-cr (take (length x - 1) x) (no_lf-take (length x - 1) x h)) h
 cut_plain _ (ended_cut x h) = ap has_no_lf (terminator_off x) ∙ no_lf-cr x h
 
 abbrev ArePlain : List (List ℕ) → Type 0
@@ -117,7 +126,8 @@ cuts_plain : (n : ℕ) (bs : List ℕ) → ArePlain (map without_terminator (lin
 unfolding lines_from
 cuts_plain zero bs = tt
 cuts_plain (suc n) [] = tt
-cuts_plain (suc n) (c ∷ bs) = (cut_plain _ (first_cut (c ∷ bs)), cuts_plain n (drop (line_len (c ∷ bs)) (c ∷ bs)))
+cuts_plain (suc n) (c ∷ bs) =
+    (cut_plain _ (first_cut (c ∷ bs)), cuts_plain n (drop (line_len (c ∷ bs)) (c ∷ bs)))
 
 -- ---- the lines of a pass
 words_from_second : (fs : List (List ℕ)) → AreWords fs → AreWords (without_first fs)
@@ -132,7 +142,8 @@ words_added n (Some w) xs f h k = words-append xs (f ∷ []) h (k, tt)
 words_held : (held : OpenLine) (fs : List (List ℕ)) → AreWords held.fields → AreWords fs
     → AreWords (with_fields held fs).fields
 words_held held [] h k = h
-words_held held (f ∷ fs) h k = words_held (with_field held f) fs (words_added held.number held.word held.fields f h k.0) k.1
+words_held held (f ∷ fs) h k =
+    words_held (with_field held f) fs (words_added held.number held.word held.fields f h k.0) k.1
 
 words_by : (n : ℕ) (w : Option LineWord) (fs : List (List ℕ)) → AreWords fs
     → HaveWords (line_by_word n w fs)
@@ -161,17 +172,22 @@ head_next false = tt
 
 words_step : (code n : ℕ) (line : List ℕ) (state : PassState) → has_no_lf line ≡ true
     → HeldWords state → StepWords (step code n line state)
-words_step code n line in_the_head h k = ((words_from_second (fields line) (fields_are_words line h), tt), head_next (is_slashes line))
+words_step code n line in_the_head h k =
+    ((words_from_second (fields line) (fields_are_words line h), tt), head_next (is_slashes line))
 words_step code n line between h k =
     let fs = fields (without_code code line) in
     let words = fields_are_words (without_code code line) (no_lf-code code line h) in
-    words_if (is_cont fs) (fault_step (StrayCont n)) (end_step (goes_on code line) n (with_fields (no_fields n) fs)) (tt, tt)
-    (words_end (goes_on code line) n (with_fields (no_fields n) fs) (words_held (no_fields n) fs tt words))
+    words_if (is_cont fs) (fault_step (StrayCont n))
+    (end_step (goes_on code line) n (with_fields (no_fields n) fs)) (tt, tt)
+    (words_end (goes_on code line) n (with_fields (no_fields n) fs)
+    (words_held (no_fields n) fs tt words))
 words_step code n line (waiting held last) h k =
     let fs = fields (without_code code line) in
     let words = fields_are_words (without_code code line) (no_lf-code code line h) in
-    words_if (is_cont fs) (end_step (goes_on code line) n (with_fields held (without_first fs))) (fault_step (OpenContinue last))
-    (words_end (goes_on code line) n (with_fields held (without_first fs)) (words_held held (without_first fs) k (words_from_second fs words))) (tt, tt)
+    words_if (is_cont fs) (end_step (goes_on code line) n (with_fields held (without_first fs)))
+    (fault_step (OpenContinue last))
+    (words_end (goes_on code line) n (with_fields held (without_first fs))
+    (words_held held (without_first fs) k (words_from_second fs words))) (tt, tt)
 words_step code n line (broken fault) h k = (tt, tt)
 
 words_pass : (code n : ℕ) (state : PassState) (ls : List (List ℕ)) → ArePlain ls → HeldWords state
@@ -179,9 +195,12 @@ words_pass : (code n : ℕ) (state : PassState) (ls : List (List ℕ)) → ArePl
 words_pass code n state [] h k = tt
 words_pass code n state (l ∷ ls) h k =
     let s = words_step code n l state h.0 k in
-    have-append (step code n l state).lines (pass code (n + 1) (step code n l state).next ls).lines s.0 (words_pass code (n + 1) (step code n l state).next ls h.1 s.1)
+    have-append (step code n l state).lines
+    (pass code (n + 1) (step code n l state).next ls).lines s.0
+    (words_pass code (n + 1) (step code n l state).next ls h.1 s.1)
 
 -- the fields of the logical lines of a text are words
 pub logical_words : (code : ℕ) (text : List ℕ) → HaveWords (logical code text).lines
 logical_words code text =
-    subst (λ (g : LogicalLines). HaveWords g.lines) (whole_pass code (physical_lines text)) (words_pass code 1 in_the_head (physical_lines text) (cuts_plain (length text) text) tt)
+    subst (λ (g : LogicalLines). HaveWords g.lines) (whole_pass code (physical_lines text))
+    (words_pass code 1 in_the_head (physical_lines text) (cuts_plain (length text) text) tt)

@@ -12,12 +12,24 @@ use Rattle.level_breaks.specs.Groups.{Covers, HoldsAll}
 
 -- ---- points
 pub one_point : (p : Point) → InBox (record { low = p; high = p }) (point p)
-one_point p = record { left = omega (arith, ints); right = omega (arith, ints); under = omega (arith, ints); over = omega (arith, ints) }
+one_point p = record {
+  left = omega (arith, ints);
+  right = omega (arith, ints);
+  under = omega (arith, ints);
+  over = omega (arith, ints);
+}
 
-pub in_between : (low high p : Point) → low.x ≤ℤ p.x → low.y ≤ℤ p.y → p.x ≤ℤ high.x → p.y ≤ℤ high.y → InBox (record { low = low; high = high }) (point p)
-in_between low high p a b c d = record { left = omega (arith, ints, a); right = omega (arith, ints, c); under = omega (arith, ints, b); over = omega (arith, ints, d) }
+pub in_between : (low high p : Point) → low.x ≤ℤ p.x → low.y ≤ℤ p.y → p.x ≤ℤ high.x → p.y ≤ℤ high.y
+    → InBox (record { low = low; high = high }) (point p)
+in_between low high p a b c d = record {
+  left = omega (arith, ints, a);
+  right = omega (arith, ints, c);
+  under = omega (arith, ints, b);
+  over = omega (arith, ints, d);
+}
 
-pub bigger : (low high : Point) (a : Box) → low.x ≤ℤ a.low.x → low.y ≤ℤ a.low.y → a.high.x ≤ℤ high.x → a.high.y ≤ℤ high.y → Covers (record { low = low; high = high }) a
+pub bigger : (low high : Point) (a : Box) → low.x ≤ℤ a.low.x → low.y ≤ℤ a.low.y → a.high.x ≤ℤ high.x
+    → a.high.y ≤ℤ high.y → Covers (record { low = low; high = high }) a
 bigger low high a l u r o = record { left = l; right = r; under = u; over = o }
 
 -- ---- what is covered
@@ -34,10 +46,20 @@ covered b a p k h =
     let hr = h.right in
     let hu = h.under in
     let ho = h.over in
-    record { left = omega (arith, ints, l, hl); right = omega (arith, ints, r, hr); under = omega (arith, ints, u, hu); over = omega (arith, ints, o, ho) }
+    record {
+      left = omega (arith, ints, l, hl);
+      right = omega (arith, ints, r, hr);
+      under = omega (arith, ints, u, hu);
+      over = omega (arith, ints, o, ho);
+    }
 
 pub covers_itself : (a : Box) → Covers a a
-covers_itself a = record { left = omega (arith, ints); right = omega (arith, ints); under = omega (arith, ints); over = omega (arith, ints) }
+covers_itself a = record {
+  left = omega (arith, ints);
+  right = omega (arith, ints);
+  under = omega (arith, ints);
+  over = omega (arith, ints);
+}
 
 pub covers_through : (c b a : Box) → Covers c b → Covers b a → Covers c a
 covers_through c b a h k =
@@ -49,7 +71,12 @@ covers_through c b a h k =
     let r = k.right in
     let u = k.under in
     let o = k.over in
-    record { left = omega (arith, ints, l, hl); right = omega (arith, ints, r, hr); under = omega (arith, ints, u, hu); over = omega (arith, ints, o, ho) }
+    record {
+      left = omega (arith, ints, l, hl);
+      right = omega (arith, ints, r, hr);
+      under = omega (arith, ints, u, hu);
+      over = omega (arith, ints, o, ho);
+    }
 
 pub all_covered : (b a : Box) (ps : List Point) → Covers b a → HoldsAll a ps → HoldsAll b ps
 all_covered b a [] k h = tt
@@ -61,7 +88,13 @@ all_of_both b [] qs h k = k
 all_of_both b (p ∷ ps) qs h k = (h.0, all_of_both b ps qs h.1 k)
 
 -- ---- edges that share a place
-module _ (law : (b : Box) (z : Vector) (p q : Point) → Place z → InBox b (point p) → InBox b (point q) → IsOnStraight (point p) (point q) z → InBox b z) where
+module _ (law : (b : Box) (z : Vector) (p q : Point) → Place z → InBox b (point p)
+    → InBox b (point q) → IsOnStraight (point p) (point q) z → InBox b z) where
   pub bad_shares : (e f : Edge) (a b : Box) → InBox a (point e.low) → InBox a (point e.high)
       → InBox b (point f.low) → InBox b (point f.high) → Bad e f → ShareAPlace a b
-  bad_shares e f a b el eh fl fh h = (h.at, h.place, law a h.at e.low e.high h.place el eh h.of_first, law b h.at f.low f.high h.place fl fh h.of_second)
+  bad_shares e f a b el eh fl fh h = (
+    h.at,
+    h.place,
+    law a h.at e.low e.high h.place el eh h.of_first,
+    law b h.at f.low f.high h.place fl fh h.of_second,
+  )

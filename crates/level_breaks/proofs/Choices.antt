@@ -46,7 +46,8 @@ itself A = ((λ a. a), (λ a. a))
 -- ---- in a loop
 pub none_more : (P : ℕ → Type 0) (n : ℕ) → ((k : ℕ) → k < n → P k → ⊥) → (P n → ⊥) → (k : ℕ)
     → k < n + 1 → P k → ⊥
-none_more P n f g k l p = by_lt k n (λ (m : k < n). f k m p) (λ (m : n ≤ k). g (subst P (omega (arith, l, m)) p))
+none_more P n f g k l p =
+    by_lt k n (λ (m : k < n). f k m p) (λ (m : n ≤ k). g (subst P (omega (arith, l, m)) p))
 
 pub some_now : (P : ℕ → Type 0) (n k : ℕ) → k < n → P k → IsTrue true ↔ ((k : ℕ) × (k < n) × P k)
 some_now P n k l h = ((λ t. (k, l, h)), (λ s. refl))
@@ -60,20 +61,33 @@ pub bow_is : (c : Curve) (p : Point)
     → bow (arc c) (point p) ≡ pos 0 -ℤ (cross c.from c.to c.third *ℤ cross c.from c.to p)
 unfolding bow bend
 bow_is c p = ring
-    (minus (num (pos 0)) (times (minus (times (minus (at 2) (at 0)) (minus (at 5) (at 1))) (times (minus (at 3) (at 1)) (minus (at 4) (at 0)))) (minus (times (minus (at 2) (at 0)) (minus (at 7) (times (at 1) (num (pos 1))))) (times (minus (at 3) (at 1)) (minus (at 6) (times (at 0) (num (pos 1))))))))
-    (minus (num (pos 0)) (times (minus (times (minus (at 2) (at 0)) (minus (at 5) (at 1))) (times (minus (at 3) (at 1)) (minus (at 4) (at 0)))) (minus (times (minus (at 2) (at 0)) (minus (at 7) (at 1))) (times (minus (at 3) (at 1)) (minus (at 6) (at 0))))))
+    (minus (num (pos 0))
+    (times (minus (times (minus (at 2) (at 0)) (minus (at 5) (at 1)))
+    (times (minus (at 3) (at 1)) (minus (at 4) (at 0))))
+    (minus (times (minus (at 2) (at 0)) (minus (at 7) (times (at 1) (num (pos 1)))))
+    (times (minus (at 3) (at 1)) (minus (at 6) (times (at 0) (num (pos 1))))))))
+    (minus (num (pos 0))
+    (times (minus (times (minus (at 2) (at 0)) (minus (at 5) (at 1)))
+    (times (minus (at 3) (at 1)) (minus (at 4) (at 0))))
+    (minus (times (minus (at 2) (at 0)) (minus (at 7) (at 1)))
+    (times (minus (at 3) (at 1)) (minus (at 6) (at 0))))))
     (vars (c.from.x ∷ c.from.y ∷ c.to.x ∷ c.to.y ∷ c.third.x ∷ c.third.y ∷ p.x ∷ p.y ∷ [])) refl
 
 turned_product : (a b : ℤ) → (pos 0 -ℤ a) *ℤ (pos 0 -ℤ b) ≡ a *ℤ b
-turned_product a b = ring (times (minus (num (pos 0)) (at 0)) (minus (num (pos 0)) (at 1))) (times (at 0) (at 1)) (vars (a ∷ b ∷ [])) refl
+turned_product a b =
+    ring (times (minus (num (pos 0)) (at 0)) (minus (num (pos 0)) (at 1))) (times (at 0) (at 1))
+    (vars (a ∷ b ∷ [])) refl
 
 pub low_by_left : (c : Curve) (p : Point) → pos 0 <ℤ cross c.from c.to c.third
     → (pos 0 ≤ℤ cross c.from c.to p) ↔ (bow (arc c) (point p) ≤ℤ pos 0)
 low_by_left c p d =
     let e = bow_is c p in (
-      (λ h. let q = product_nonnegative (cross c.from c.to c.third) (cross c.from c.to p) (omega (arith, ints, d)) h in omega (arith, ints, e, q)),
+      (λ h. let q = product_nonnegative (cross c.from c.to c.third) (cross c.from c.to p)
+          (omega (arith, ints, d)) h in omega (arith, ints, e, q)),
       (λ l. by_lt_z (cross c.from c.to p) (pos 0)
-          (λ (n : cross c.from c.to p <ℤ pos 0). let q = product_negative (cross c.from c.to c.third) (cross c.from c.to p) d n in absurd (omega (arith, ints, e, q, l)))
+          (λ (n : cross c.from c.to p <ℤ pos 0). let q = product_negative
+          (cross c.from c.to c.third) (cross c.from c.to p) d n in
+          absurd (omega (arith, ints, e, q, l)))
           (λ (n : pos 0 ≤ℤ cross c.from c.to p). n)),
     )
 
@@ -84,9 +98,12 @@ low_by_right c p d =
     let D = cross c.from c.to c.third in
     let X = cross c.from c.to p in
     let t = turned_product D X in (
-      (λ h. let q = product_nonnegative (pos 0 -ℤ D) (pos 0 -ℤ X) (omega (arith, ints, d)) (omega (arith, ints, h)) in omega (arith, ints, e, q, t)),
+      (λ h. let q = product_nonnegative (pos 0 -ℤ D) (pos 0 -ℤ X) (omega (arith, ints, d))
+          (omega (arith, ints, h)) in omega (arith, ints, e, q, t)),
       (λ l. by_lt_z (pos 0) X
-          (λ (n : pos 0 <ℤ X). let q = product_negative (pos 0 -ℤ D) (pos 0 -ℤ X) (omega (arith, ints, d)) (omega (arith, ints, n)) in absurd (omega (arith, ints, e, q, t, l)))
+          (λ (n : pos 0 <ℤ X). let q = product_negative (pos 0 -ℤ D) (pos 0 -ℤ X)
+          (omega (arith, ints, d)) (omega (arith, ints, n)) in
+          absurd (omega (arith, ints, e, q, t, l)))
           (λ (n : X ≤ℤ pos 0). n)),
     )
 

@@ -56,7 +56,8 @@ module _ (d : Plan) (level : ℕ) (tubes : List (Option Tube)) (ht : AreTubesAt 
 
   -- a curve that breaks the level with itself is one
   alone_is_bare : (i j : ℕ) → i ≡ j → Breaks d level i j → IsBare d.curves tubes i
-  alone_is_bare i j e (missing q h n) = elim (has_tube_or i h) [ inl (vs, os, t) ↦ absurd (n vs os t) | inr b ↦ b ]
+  alone_is_bare i j e (missing q h n) =
+      elim (has_tube_or i h) [ inl (vs, os, t) ↦ absurd (n vs os t) | inr b ↦ b ]
   alone_is_bare i j e (edges n g h m) = absurd (n e)
   alone_is_bare i j e (corners n g h m) = absurd (n e)
 
@@ -64,7 +65,10 @@ module _ (d : Plan) (level : ℕ) (tubes : List (Option Tube)) (ht : AreTubesAt 
   second_there i j l h = (groups_of d level i j (λ e. omega (arith, l, e)) h).1.there
 
   -- ---- the first of all
-  module _ (pair : Option NearPair) (bare : Option ℕ) (some : IfSome pair (λ p. IsLeastPair (Breaks d level) (length d.curves) p)) (none : pair ≡ None → (i j : ℕ) → i < j → j < length d.curves → Breaks d level i j → ⊥) (first : IsFirstBare d.curves tubes bare) where
+  module _ (pair : Option NearPair) (bare : Option ℕ)
+      (some : IfSome pair (λ p. IsLeastPair (Breaks d level) (length d.curves) p))
+      (none : pair ≡ None → (i j : ℕ) → i < j → j < length d.curves → Breaks d level i j → ⊥)
+      (first : IsFirstBare d.curves tubes bare) where
     -- no two curves that break the level are less than r
     no_two : (r : LevelBreak) → IsLesser pair bare r → (k l : ℕ) → k < l → Breaks d level k l
         → IsLess k l r.first r.second → ⊥
@@ -72,15 +76,25 @@ module _ (d : Plan) (level : ℕ) (tubes : List (Option Tube)) (ht : AreTubesAt 
       where
         not_after : (p : NearPair) → (IsLess p.first p.second r.first r.second → ⊥)
             → IsLess k l r.first r.second → IsLess k l p.first p.second
-        not_after p n (inl q) = by_lt k p.first (λ (x : k < p.first). inl x) (λ (x : p.first ≤ k). absurd (n (inl (omega (arith, x, q)))))
-        not_after p n (inr (e, q)) = by_lt k p.first (λ (x : k < p.first). inl x) (λ (x : p.first ≤ k). by_lt p.first k (λ (y : p.first < k). absurd (n (inl (omega (arith, y, e)))))
-            (λ (y : k ≤ p.first). by_lt l p.second (λ (z : l < p.second). inr (omega (arith, x, y), z)) (λ (z : p.second ≤ l). absurd (n (inr (omega (arith, x, y, e), omega (arith, z, q)))))))
+        not_after p n (inl q) =
+            by_lt k p.first (λ (x : k < p.first). inl x)
+            (λ (x : p.first ≤ k). absurd (n (inl (omega (arith, x, q)))))
+        not_after p n (inr (e, q)) =
+            by_lt k p.first (λ (x : k < p.first). inl x)
+            (λ (x : p.first ≤ k). by_lt p.first k
+            (λ (y : p.first < k). absurd (n (inl (omega (arith, y, e)))))
+            (λ (y : k ≤ p.first). by_lt l p.second
+            (λ (z : l < p.second). inr (omega (arith, x, y), z))
+            (λ (z : p.second ≤ l). absurd
+            (n (inr (omega (arith, x, y, e), omega (arith, z, q)))))))
 
         by : (o : Option NearPair) → pair ≡ o → ⊥
         by None e = none e k l m (second_there k l m b) b
         by (Some p) e =
-            let s = subst (λ o. IfSome o (λ p. IsLeastPair (Breaks d level) (length d.curves) p)) e some in
-            let n = subst (λ o. IfSome o (λ p. IsLess p.first p.second r.first r.second → ⊥)) e h.not_pair in
+            let s = subst (λ o. IfSome o (λ p. IsLeastPair (Breaks d level) (length d.curves) p)) e
+            some in
+            let n = subst (λ o. IfSome o (λ p. IsLess p.first p.second r.first r.second → ⊥)) e
+            h.not_pair in
             s.least k l m (second_there k l m b) b (not_after p n less)
 
     no_one : (r : LevelBreak) → IsLesser pair bare r → (k : ℕ) → IsBare d.curves tubes k
@@ -89,7 +103,9 @@ module _ (d : Plan) (level : ℕ) (tubes : List (Option Tube)) (ht : AreTubesAt 
       where
         not_after : (i : ℕ) → i ≤ k → IsLess k k r.first r.second → IsLess i i r.first r.second
         not_after i l (inl q) = inl (omega (arith, l, q))
-        not_after i l (inr (e, q)) = by_lt i k (λ (x : i < k). inl (omega (arith, x, e))) (λ (x : k ≤ i). inr (omega (arith, l, x, e), omega (arith, l, q)))
+        not_after i l (inr (e, q)) =
+            by_lt i k (λ (x : i < k). inl (omega (arith, x, e)))
+            (λ (x : k ≤ i). inr (omega (arith, l, x, e), omega (arith, l, q)))
 
         by : (o : Option ℕ) → bare ≡ o → ⊥
         by None e = subst (IsFirstBare d.curves tubes) e first k b
@@ -101,7 +117,9 @@ module _ (d : Plan) (level : ℕ) (tubes : List (Option Tube)) (ht : AreTubesAt 
     no_less : (r : LevelBreak) → IsLesser pair bare r → (k l : ℕ) → k ≤ l → Breaks d level k l
         → IsLess k l r.first r.second → ⊥
     no_less r h k l m b less = by_lt k l (λ (x : k < l). no_two r h k l x b less)
-        (λ (x : l ≤ k). let e : k ≡ l = omega (arith, m, x) in no_one r h k (alone_is_bare k l e b) (subst (λ (n : ℕ). IsLess k n r.first r.second) (sym e) less))
+        (λ (x : l ≤ k). let e : k ≡ l = omega (arith, m, x) in
+        no_one r h k (alone_is_bare k l e b)
+        (subst (λ (n : ℕ). IsLess k n r.first r.second) (sym e) less))
 
     pub lesser_is_first : (r : LevelBreak) → IsLesser pair bare r
         → IsFirstBreak d level r.first r.second
@@ -112,26 +130,50 @@ module _ (d : Plan) (level : ℕ) (tubes : List (Option Tube)) (ht : AreTubesAt 
       no_second = λ l m x b. no_less r h r.first l x b (inr (refl, m));
     }
       where
-        of_pair : pair ≡ Some (record { first = r.first; second = r.second }) → IsLeastPair (Breaks d level) (length d.curves) (record { first = r.first; second = r.second })
-        of_pair e = subst (λ o. IfSome o (λ p. IsLeastPair (Breaks d level) (length d.curves) p)) e some
+        of_pair : pair ≡ Some (record { first = r.first; second = r.second })
+            → IsLeastPair (Breaks d level) (length d.curves) (record {
+              first = r.first;
+              second = r.second;
+            })
+        of_pair e = subst (λ o. IfSome o (λ p. IsLeastPair (Breaks d level) (length d.curves) p)) e
+            some
 
-        by_order : (pair ≡ Some (record { first = r.first; second = r.second })) ⊎ ((bare ≡ Some r.first) × (r.first ≡ r.second)) → r.first ≤ r.second
+        by_order : (pair ≡ Some (record { first = r.first; second = r.second }))
+            ⊎ ((bare ≡ Some r.first) × (r.first ≡ r.second)) → r.first ≤ r.second
         by_order (inl e) = let l = (of_pair e).pair.order in omega (arith, l)
         by_order (inr (e, q)) = omega (arith, q)
 
-        by_kind : (pair ≡ Some (record { first = r.first; second = r.second })) ⊎ ((bare ≡ Some r.first) × (r.first ≡ r.second)) → Breaks d level r.first r.second
+        by_kind : (pair ≡ Some (record { first = r.first; second = r.second }))
+            ⊎ ((bare ≡ Some r.first) × (r.first ≡ r.second)) → Breaks d level r.first r.second
         by_kind (inl e) = (of_pair e).pair.sought
-        by_kind (inr (e, q)) = subst (λ (n : ℕ). Breaks d level r.first n) q (bare_breaks r.first (subst (IsFirstBare d.curves tubes) e first).0)
+        by_kind (inr (e, q)) =
+            subst (λ (n : ℕ). Breaks d level r.first n) q
+            (bare_breaks r.first (subst (IsFirstBare d.curves tubes) e first).0)
 
-    module _ (any_meet : (p q r s : Point) → (Disjoint (edge_from p q) (edge_from r s) ⊎ Touch (edge_from p q) (edge_from r s)) ⊎ Bad (edge_from p q) (edge_from r s))
-        (own_meet : (i e f : ℕ) (a b : Edge) → (curve d i).kind ≡ kind.HalfArc → IsTube (arc (curve d i)) (drawn_bays d level i) → e < length (runs.edge_list (drawn_bays d level) 0 d.curves) → f < length (runs.edge_list (drawn_bays d level) 0 d.curves)
-        → (owned_at d level e).curve ≡ i → (owned_at d level f).curve ≡ i → (e ≡ f → ⊥) → runs.Connects a (owned_at d level e).from (owned_at d level e).to
-        → runs.Connects b (owned_at d level f).from (owned_at d level f).to → Disjoint a b ⊎ Touch a b)
-        (own_enter : (i e : ℕ) (a : Edge) (p : Point) (t : Tile) → (curve d i).kind ≡ kind.HalfArc → IsTube (arc (curve d i)) (drawn_bays d level i) → e < length (runs.edge_list (drawn_bays d level) 0 d.curves)
-        → (owned_at d level e).curve ≡ i → runs.Connects a (owned_at d level e).from (owned_at d level e).to → IsEnd a p → Has t (tiles (curve d i).from (drawn_bays d level i)) → InTile t (point p) → IsCornerOf t p)
-        (tube_is : (i : ℕ) → HasTube (arc (curve d i)) level → IsTube (arc (curve d i)) (drawn_bays d level i)) where
+    module _ (any_meet : (p q r s : Point)
+        → (Disjoint (edge_from p q) (edge_from r s) ⊎ Touch (edge_from p q) (edge_from r s))
+        ⊎ Bad (edge_from p q) (edge_from r s))
+        (own_meet : (i e f : ℕ) (a b : Edge) → (curve d i).kind ≡ kind.HalfArc
+        → IsTube (arc (curve d i)) (drawn_bays d level i)
+        → e < length (runs.edge_list (drawn_bays d level) 0 d.curves)
+        → f < length (runs.edge_list (drawn_bays d level) 0 d.curves)
+        → (owned_at d level e).curve ≡ i → (owned_at d level f).curve ≡ i → (e ≡ f → ⊥)
+        → runs.Connects a (owned_at d level e).from (owned_at d level e).to
+        → runs.Connects b (owned_at d level f).from (owned_at d level f).to
+        → Disjoint a b ⊎ Touch a b)
+        (own_enter : (i e : ℕ) (a : Edge) (p : Point) (t : Tile) → (curve d i).kind ≡ kind.HalfArc
+        → IsTube (arc (curve d i)) (drawn_bays d level i)
+        → e < length (runs.edge_list (drawn_bays d level) 0 d.curves)
+        → (owned_at d level e).curve ≡ i
+        → runs.Connects a (owned_at d level e).from (owned_at d level e).to → IsEnd a p
+        → Has t (tiles (curve d i).from (drawn_bays d level i)) → InTile t (point p)
+        → IsCornerOf t p)
+        (tube_is : (i : ℕ) → HasTube (arc (curve d i)) level
+        → IsTube (arc (curve d i)) (drawn_bays d level i)) where
       pub none_is_settled : pair ≡ None → bare ≡ None → IsSettledAt d level
-      none_is_settled e q = settled d level (have_tubes (subst (IsFirstBare d.curves tubes) q first)) (λ i j l h. none e i j l (second_there i j l h) h) any_meet own_meet own_enter tube_is
+      none_is_settled e q =
+          settled d level (have_tubes (subst (IsFirstBare d.curves tubes) q first))
+          (λ i j l h. none e i j l (second_there i j l h) h) any_meet own_meet own_enter tube_is
 
 pub some_mapped : {A : Type 0} (o : Option A) (P Q : A → Type 0) → ((a : A) → P a → Q a)
     → IfSome o P → IfSome o Q

@@ -1,4 +1,5 @@
--- The edges of a curve with its tube, by number and as the list of the drawing has them, and the points in which they end.
+-- The edges of a curve with its tube, by number and as the list of the drawing has them, and the
+-- points in which they end.
 use Rattle.std.proofs.Common.{◌≡◌, ◌↔◌, ◌⊎◌, inl, inr, ℕ, zero, suc, ◌+◌, ◌*◌, ◌-◌, ◌^◌, ◌<◌, ◌≤◌}
 use Rattle.std.proofs.Common.{Bool, true, false, cond, Option, Some, None, List, [], ◌∷◌, ◌++◌}
 use Rattle.std.proofs.Common.{length, get_or, map, refl, arith, ap, sym, ◌∙◌, subst, add-one}
@@ -43,7 +44,8 @@ has_right x (y ∷ xs) ys h = inr (has_right x xs ys h)
 pub has_either : {X : Type 0} (x : X) (xs ys : List X) → Has x (xs ++ ys) → Has x xs ⊎ Has x ys
 has_either x [] ys h = inr h
 has_either x (y ∷ xs) ys (inl e) = inl (inl e)
-has_either x (y ∷ xs) ys (inr h) = elim (has_either x xs ys h) [ inl a ↦ inl (inr a) | inr b ↦ inr b ]
+has_either x (y ∷ xs) ys (inr h) =
+    elim (has_either x xs ys h) [ inl a ↦ inl (inr a) | inr b ↦ inr b ]
 
 pub has_mapped : {X Y : Type 0} (f : X → Y) (x : X) (xs : List X) → Has x xs → Has (f x) (map f xs)
 has_mapped f x [] h = absurd h
@@ -112,13 +114,16 @@ module _ (c : Curve) (t : Tube) (h : HasChains c t) where
   around_size = chain_size c.from (outer ++ c.to ∷ []) ∙ length-append outer (c.to ∷ [])
 
   pub count_is : 2 * length outer + 1 ≡ length (edges_with c (Some t))
-  count_is = let a = length-append through around in let b = through_size in let e = around_size in omega (arith, a, b, e)
+  count_is =
+      let a = length-append through around in
+      let b = through_size in let e = around_size in omega (arith, a, b, e)
 
   pub few_edges : length outer < 2 ^ 20
   few_edges = let a = h.sizes in let b = h.few in omega (arith, a, b)
 
   inner_next : (k : ℕ) → nth h.after k ≡ nth t.inner.items (k + 1)
-  inner_next k = ap (λ (n : ℕ). nth (c.from ∷ h.after) n) (sym (add-one k)) ∙ ap (λ ps. nth ps (k + 1)) (sym h.inner)
+  inner_next k = ap (λ (n : ℕ). nth (c.from ∷ h.after) n) (sym (add-one k))
+      ∙ ap (λ ps. nth ps (k + 1)) (sym h.inner)
 
   inner_now : (k : ℕ) → nth (c.from ∷ h.after) k ≡ nth t.inner.items k
   inner_now k = ap (λ ps. nth ps k) (sym h.inner)
@@ -128,7 +133,10 @@ module _ (c : Curve) (t : Tube) (h : HasChains c t) where
 
   pub inner_differs : (k : ℕ) → k < length outer → nth t.inner.items k ≡ nth t.inner.items (k + 1)
       → ⊥
-  inner_differs k l e = let b = h.sizes in number_differs c.from h.after k (omega (arith, l, b)) h.inner_distinct (inner_now k ∙ e ∙ sym (inner_next k))
+  inner_differs k l e =
+      let b = h.sizes in
+      number_differs c.from h.after k (omega (arith, l, b)) h.inner_distinct (inner_now k ∙ e
+      ∙ sym (inner_next k))
 
   pub inner_edge : (k : ℕ) (e : Edge) → k < length outer → Before e.low e.high
       → HasEnds e (nth t.inner.items k) (nth t.inner.items (k + 1))
@@ -157,7 +165,9 @@ module _ (c : Curve) (t : Tube) (h : HasChains c t) where
 pub outer_differs : (c : Curve) (outer : List Point) (k : ℕ) → k ≤ length outer
     → AreDistinct c.from (outer ++ c.to ∷ []) → nth (c.from ∷ outer) k ≡ nth (outer ++ c.to ∷ []) k
     → ⊥
-outer_differs c outer k l d e = number_differs c.from (outer ++ c.to ∷ []) k (let a = length-append outer (c.to ∷ []) in omega (arith, a, l)) d (front c.from outer k l ∙ e)
+outer_differs c outer k l d e =
+    number_differs c.from (outer ++ c.to ∷ []) k (let a = length-append outer (c.to ∷ []) in
+    omega (arith, a, l)) d (front c.from outer k l ∙ e)
   where
     front : (p : Point) (qs : List Point) (k : ℕ) → k ≤ length qs
         → nth (p ∷ (qs ++ c.to ∷ [])) k ≡ nth (p ∷ qs) k
@@ -171,7 +181,8 @@ pub outer_is : (c : Curve) (outer : List Point) (k : ℕ) (e : Edge) → k ≤ l
 outer_is c outer k e l s ends =
     one_edge e _ _ s ends
     ∙ ap (λ p. edge_from p (nth (outer ++ c.to ∷ []) k)) (front c.from outer k l)
-    ∙ sym (chain_number c.from (outer ++ c.to ∷ []) k (let a = length-append outer (c.to ∷ []) in omega (arith, a, l)))
+    ∙ sym (chain_number c.from (outer ++ c.to ∷ []) k (let a = length-append outer (c.to ∷ []) in
+    omega (arith, a, l)))
   where
     front : (p : Point) (qs : List Point) (k : ℕ) → k ≤ length qs
         → nth (p ∷ qs) k ≡ nth (p ∷ (qs ++ c.to ∷ [])) k
@@ -181,7 +192,8 @@ outer_is c outer k e l s ends =
 
 pub only_edge : (c : Curve) (e : Edge) (k : ℕ) → k < 1 → Before e.low e.high → HasEnds e c.from c.to
     → e ≡ edge_of (edges_with c None) k
-only_edge c e k l s ends = one_edge e _ _ s ends ∙ ap (λ (n : ℕ). edge_of (edges_with c None) n) (zero_is k l)
+only_edge c e k l s ends = one_edge e _ _ s ends
+    ∙ ap (λ (n : ℕ). edge_of (edges_with c None) n) (zero_is k l)
   where
     zero_is : (k : ℕ) → k < 1 → 0 ≡ k
     zero_is k l = omega (arith, l)
@@ -203,13 +215,17 @@ edged_with low high level c (Some t) l d (e, m) =
 -- ---- the same edges as the list of the drawing has them
 pub edges_map : (i level : ℕ) (c : Curve) (t : Option Tube) → IsTubed level c t
     → map edge_as (runs.edges_of i c.kind c (bays_at (arc c) level)) ≡ edges_with c t
-edges_map i level c None e = ap (λ (k : CurveKind). map edge_as (runs.edges_of i k c (bays_at (arc c) level))) e
+edges_map i level c None e =
+    ap (λ (k : CurveKind). map edge_as (runs.edges_of i k c (bays_at (arc c) level))) e
 edges_map i level c (Some t) (e, m) =
     ap (λ (k : CurveKind). map edge_as (runs.edges_of i k c (bays_at (arc c) level))) e
     ∙ ap (map edge_as) (owned_are i c level m.after t.outer.items m.tube)
-    ∙ map_app edge_as (runs.chain i runs.inner c.from m.after) (runs.chain i runs.outer c.from (t.outer.items ++ c.to ∷ []))
-    ∙ ap (λ es. es ++ map edge_as (runs.chain i runs.outer c.from (t.outer.items ++ c.to ∷ []))) (edges_are i runs.inner c.from m.after)
-    ∙ ap (λ es. chain_edges c.from m.after ++ es) (edges_are i runs.outer c.from (t.outer.items ++ c.to ∷ []))
+    ∙ map_app edge_as (runs.chain i runs.inner c.from m.after)
+    (runs.chain i runs.outer c.from (t.outer.items ++ c.to ∷ []))
+    ∙ ap (λ es. es ++ map edge_as (runs.chain i runs.outer c.from (t.outer.items ++ c.to ∷ [])))
+    (edges_are i runs.inner c.from m.after)
+    ∙ ap (λ es. chain_edges c.from m.after ++ es)
+    (edges_are i runs.outer c.from (t.outer.items ++ c.to ∷ []))
     ∙ ap (λ ps. chain_through ps ++ chain_edges c.from (t.outer.items ++ c.to ∷ [])) (sym m.inner)
 
 -- ---- the points in which they end
@@ -220,7 +236,9 @@ EndsOf es v = (e : Edge) × Has e es × IsEnd e v
 pub ends_of_one : (p q v : Point) → IsEnd (edge_from p q) v ↔ ((p ≡ v) ⊎ (q ≡ v))
 ends_of_one p q v = by_test (comes_first p q)
   where
-    by_test : (b : Bool) → IsEnd (cond b (record { low = p; high = q }) (record { low = q; high = p })) v ↔ ((p ≡ v) ⊎ (q ≡ v))
+    by_test : (b : Bool)
+        → IsEnd (cond b (record { low = p; high = q }) (record { low = q; high = p })) v
+        ↔ ((p ≡ v) ⊎ (q ≡ v))
     by_test true = ((λ h. h), (λ h. h))
     by_test false = ((λ h. turned h), (λ h. turned h))
       where
@@ -231,7 +249,11 @@ ends_of_one p q v = by_test (comes_first p q)
 chain_ends : (p : Point) (qs : List Point) (v : Point) → EndsOf (chain_edges p qs) v
     → Has v (p ∷ qs)
 chain_ends p [] v (e, h, i) = absurd h
-chain_ends p (q ∷ qs) v (e, inl s, i) = elim ((ends_of_one p q v).0 (subst (λ f. IsEnd f v) s i)) [ inl a ↦ inl (sym a) | inr b ↦ inr (inl (sym b)) ]
+chain_ends p (q ∷ qs) v (e, inl s, i) =
+    elim ((ends_of_one p q v).0 (subst (λ f. IsEnd f v) s i)) [
+      | inl a ↦ inl (sym a)
+      | inr b ↦ inr (inl (sym b))
+    ]
 chain_ends p (q ∷ qs) v (e, inr h, i) = inr (chain_ends q qs v (e, h, i))
 
 ends_more : (f : Edge) (es : List Edge) (v : Point) → EndsOf es v → EndsOf (f ∷ es) v
@@ -245,7 +267,8 @@ chain_starts p (q ∷ qs) v l e = (edge_from p q, inl refl, (ends_of_one p q v).
 chain_reaches : (p : Point) (qs : List Point) (v : Point) → Has v qs → EndsOf (chain_edges p qs) v
 chain_reaches p [] v h = absurd h
 chain_reaches p (q ∷ qs) v (inl e) = (edge_from p q, inl refl, (ends_of_one p q v).1 (inr (sym e)))
-chain_reaches p (q ∷ qs) v (inr h) = ends_more (edge_from p q) (chain_edges q qs) v (chain_reaches q qs v h)
+chain_reaches p (q ∷ qs) v (inr h) =
+    ends_more (edge_from p q) (chain_edges q qs) v (chain_reaches q qs v h)
 
 ends_left : (es fs : List Edge) (v : Point) → EndsOf es v → EndsOf (es ++ fs) v
 ends_left es fs v (e, h, i) = (e, has_left e es fs h, i)
@@ -261,16 +284,23 @@ last_has to (v ∷ (w ∷ vs)) l h = inr (last_has to (w ∷ vs) (omega arith) h
 
 pub some_after : (level : ℕ) (c : Curve) (t : Tube) (m : IsMade (arc c) level t)
     → 0 < length m.after
-some_after level c t m = subst (λ (n : ℕ). 0 < n) (sym (inner_are (arc c) (level + 1) m.after m.tube.inner_made).size) (power_positive (level + 1))
+some_after level c t m =
+    subst (λ (n : ℕ). 0 < n) (sym (inner_are (arc c) (level + 1) m.after m.tube.inner_made).size)
+    (power_positive (level + 1))
 
 pub to_is_inner : (level : ℕ) (c : Curve) (t : Tube) (m : IsMade (arc c) level t) → Has c.to m.after
-to_is_inner level c t m = last_has c.to m.after (some_after level c t m) (inner_are (arc c) (level + 1) m.after m.tube.inner_made).end
+to_is_inner level c t m =
+    last_has c.to m.after (some_after level c t m)
+    (inner_are (arc c) (level + 1) m.after m.tube.inner_made).end
 
 pub ends_are : (level : ℕ) (c : Curve) (t : Option Tube) (v : Point) → IsTubed level c t
     → EndsOf (edges_with c t) v ↔ Has v (corners c t)
 ends_are level c None v k = (
   (λ s. chain_ends c.from (c.to ∷ []) v s),
-  (λ h. elim h [ inl e ↦ chain_starts c.from (c.to ∷ []) v (omega arith) e | inr m ↦ chain_reaches c.from (c.to ∷ []) v m ]),
+  (λ h. elim h [
+    | inl e ↦ chain_starts c.from (c.to ∷ []) v (omega arith) e
+    | inr m ↦ chain_reaches c.from (c.to ∷ []) v m
+  ]),
 )
 ends_are level c (Some t) v (k, m) = (onward, back)
   where
@@ -281,14 +311,22 @@ ends_are level c (Some t) v (k, m) = (onward, back)
     of_outer (inl e) = has_left v t.inner.items t.outer.items (inner_has (inl e))
     of_outer (inr h) = elim (has_either v t.outer.items (c.to ∷ []) h) [
       | inl a ↦ has_right v t.inner.items t.outer.items a
-      | inr b ↦ elim b [ inl e ↦ has_left v t.inner.items t.outer.items (inner_has (inr (subst (λ p. Has p m.after) (sym e) (to_is_inner level c t m)))) | inr n ↦ absurd n ]
+      | inr b ↦ elim b [
+        | inl e ↦ has_left v t.inner.items t.outer.items
+            (inner_has (inr (subst (λ p. Has p m.after) (sym e) (to_is_inner level c t m))))
+        | inr n ↦ absurd n
+      ]
     ]
 
     onward : EndsOf (edges_with c (Some t)) v → Has v (corners c (Some t))
-    onward (e, h, i) = elim (has_either e (chain_through t.inner.items) (chain_edges c.from (t.outer.items ++ c.to ∷ [])) h) [
-      | inl a ↦ has_left v t.inner.items t.outer.items (inner_has (chain_ends c.from m.after v (e, subst (Has e) (ap chain_through m.inner) a, i)))
-      | inr b ↦ of_outer (chain_ends c.from (t.outer.items ++ c.to ∷ []) v (e, b, i))
-    ]
+    onward (e, h, i) =
+        elim (has_either e (chain_through t.inner.items)
+        (chain_edges c.from (t.outer.items ++ c.to ∷ [])) h) [
+          | inl a ↦ has_left v t.inner.items t.outer.items
+              (inner_has (chain_ends c.from m.after v
+              (e, subst (Has e) (ap chain_through m.inner) a, i)))
+          | inr b ↦ of_outer (chain_ends c.from (t.outer.items ++ c.to ∷ []) v (e, b, i))
+        ]
 
     of_inner : Has v (c.from ∷ m.after) → EndsOf (chain_edges c.from m.after) v
     of_inner (inl e) = chain_starts c.from m.after v (some_after level c t m) e
@@ -296,6 +334,10 @@ ends_are level c (Some t) v (k, m) = (onward, back)
 
     back : Has v (corners c (Some t)) → EndsOf (edges_with c (Some t)) v
     back h = elim (has_either v t.inner.items t.outer.items h) [
-      | inl a ↦ ends_left (chain_through t.inner.items) _ v (subst (λ ps. EndsOf (chain_through ps) v) (sym m.inner) (of_inner (subst (Has v) m.inner a)))
-      | inr b ↦ ends_right (chain_through t.inner.items) _ v (chain_reaches c.from (t.outer.items ++ c.to ∷ []) v (has_left v t.outer.items (c.to ∷ []) b))
+      | inl a ↦ ends_left (chain_through t.inner.items) _ v
+          (subst (λ ps. EndsOf (chain_through ps) v) (sym m.inner)
+          (of_inner (subst (Has v) m.inner a)))
+      | inr b ↦ ends_right (chain_through t.inner.items) _ v
+          (chain_reaches c.from (t.outer.items ++ c.to ∷ []) v
+          (has_left v t.outer.items (c.to ∷ []) b))
     ]

@@ -21,7 +21,8 @@ use Rattle.level_breaks.proofs.GroupEdges.{at_has, has_at, has_either}
 pub joins : (p q : Point) → runs.Connects (edge_from p q) p q
 joins p q = by_test (comes_first p q)
   where
-    by_test : (b : Bool) → runs.Connects (cond b (record { low = p; high = q }) (record { low = q; high = p })) p q
+    by_test : (b : Bool)
+        → runs.Connects (cond b (record { low = p; high = q }) (record { low = q; high = p })) p q
     by_test true = inl (refl, refl)
     by_test false = inr (refl, refl)
 
@@ -60,7 +61,9 @@ module _ (d : Plan) (level : ℕ) where
 
   pub connects : (e : ℕ) → e < length (edges_at d level)
       → runs.Connects (edge_at d level e) (owned_at d level e).from (owned_at d level e).to
-  connects e l = subst (λ x. runs.Connects x (owned_at d level e).from (owned_at d level e).to) (sym (edge_is e l)) (joins (owned_at d level e).from (owned_at d level e).to)
+  connects e l =
+      subst (λ x. runs.Connects x (owned_at d level e).from (owned_at d level e).to)
+      (sym (edge_is e l)) (joins (owned_at d level e).from (owned_at d level e).to)
 
   -- edge e belongs to the curve of that number and is one of its edges
   pub record IsOf (e i : ℕ) : Type 0 where
@@ -75,16 +78,27 @@ module _ (d : Plan) (level : ℕ) where
   owner_of e l =
       let g = group_of B no_curve 0 d.curves e (listed e l) in
       let n : g.curve ≡ g.index = (let a = g.number in omega (arith, a)) in
-      let q : runs.owned d B e ≡ get_or (runs.edges_of g.curve (curve d g.index).kind (curve d g.index) (B g.curve)) g.place runs.no_edge =
-      ap (runs.owned d B) g.is ∙ from_at (runs.owned d B) (runs.first_edge B 0 d.curves g.index) g.place _ (group_at B no_curve 0 d.curves g.index g.curve g.fits g.number) g.there in
-      let c : runs.Owned.curve (runs.owned d B e) ≡ g.index = ap (λ (y : runs.Owned). y.curve) q ∙ edge_curve (curve d g.index).kind (curve d g.index) (B g.curve) g.curve g.place g.there ∙ n in
+      let q : runs.owned d B e ≡ get_or
+      (runs.edges_of g.curve (curve d g.index).kind (curve d g.index) (B g.curve)) g.place
+      runs.no_edge =
+      ap (runs.owned d B) g.is
+      ∙ from_at (runs.owned d B) (runs.first_edge B 0 d.curves g.index) g.place _
+      (group_at B no_curve 0 d.curves g.index g.curve g.fits g.number) g.there in
+      let c : runs.Owned.curve (runs.owned d B e) ≡ g.index = ap (λ (y : runs.Owned). y.curve) q
+      ∙ edge_curve (curve d g.index).kind (curve d g.index) (B g.curve) g.curve g.place g.there
+      ∙ n in
       subst (IsOf e) (sym c) (record {
         there = g.fits;
         curve = c;
-        has = subst (λ (k : ℕ). Has (runs.owned d B e) (runs.edges_of k (curve d g.index).kind (curve d g.index) (B k))) n
-            (subst (λ o. Has o (runs.edges_of g.curve (curve d g.index).kind (curve d g.index) (B g.curve))) (sym q) (at_has runs.no_edge _ g.place g.there));
+        has = subst (λ (k : ℕ). Has (runs.owned d B e)
+            (runs.edges_of k (curve d g.index).kind (curve d g.index) (B k))) n
+            (subst (λ o. Has o
+            (runs.edges_of g.curve (curve d g.index).kind (curve d g.index) (B g.curve)))
+            (sym q) (at_has runs.no_edge _ g.place g.there));
         place = g.place;
-        fits = subst (λ (k : ℕ). g.place < length (runs.edges_of k (curve d g.index).kind (curve d g.index) (B k))) n g.there;
+        fits = subst
+            (λ (k : ℕ). g.place < length
+            (runs.edges_of k (curve d g.index).kind (curve d g.index) (B k))) n g.there;
         number = g.is;
       })
 
@@ -96,7 +110,8 @@ module _ (d : Plan) (level : ℕ) where
       let f = group_fits B no_curve 0 d.curves i i l (omega arith) in (
         runs.first_edge B 0 d.curves i + k,
         counted _ (omega (arith, lk, f)),
-        from_at (runs.owned d B) (runs.first_edge B 0 d.curves i) k _ (group_at B no_curve 0 d.curves i i l (omega arith)) lk ∙ e,
+        from_at (runs.owned d B) (runs.first_edge B 0 d.curves i) k _
+            (group_at B no_curve 0 d.curves i i l (omega arith)) lk ∙ e,
       )
 
   pub group_curve : (i : ℕ) (o : runs.Owned) → Has o (group d level i) → o.curve ≡ i
@@ -107,10 +122,13 @@ module _ (d : Plan) (level : ℕ) where
   -- edges of half arcs are of tubes
   pub arc_part : (i : ℕ) (o : runs.Owned) → (curve d i).kind ≡ kind.HalfArc
       → Has o (group d level i) → runs.IsOfTube o.part
-  arc_part i o e h = elim (has_either o (runs.chain i runs.inner (curve d i).from (runs.inner_corners (B i))) (runs.chain i runs.outer (curve d i).from (runs.outer_corners (B i) ++ (curve d i).to ∷ [])) (subst (λ (k : CurveKind). Has o (runs.edges_of i k (curve d i) (B i))) e h)) [
-    | inl a ↦ subst runs.IsOfTube (sym (chain_part i runs.inner _ _ o a)) tt
-    | inr b ↦ subst runs.IsOfTube (sym (chain_part i runs.outer _ _ o b)) tt
-  ]
+  arc_part i o e h =
+      elim (has_either o (runs.chain i runs.inner (curve d i).from (runs.inner_corners (B i)))
+      (runs.chain i runs.outer (curve d i).from (runs.outer_corners (B i) ++ (curve d i).to ∷ []))
+      (subst (λ (k : CurveKind). Has o (runs.edges_of i k (curve d i) (B i))) e h)) [
+        | inl a ↦ subst runs.IsOfTube (sym (chain_part i runs.inner _ _ o a)) tt
+        | inr b ↦ subst runs.IsOfTube (sym (chain_part i runs.outer _ _ o b)) tt
+      ]
 
   -- and those of straights are not
   pub tube_kind : (i : ℕ) (o : runs.Owned) → runs.IsOfTube o.part → Has o (group d level i)
@@ -119,13 +137,18 @@ module _ (d : Plan) (level : ℕ) where
     where
       by_kind : (k : CurveKind) → (curve d i).kind ≡ k → k ≡ kind.HalfArc
       by_kind kind.HalfArc e = refl
-      by_kind kind.Straight e = absurd (subst runs.IsOfTube (chain_part i runs.whole (curve d i).from ((curve d i).to ∷ []) o (subst (λ (k : CurveKind). Has o (runs.edges_of i k (curve d i) (B i))) e h)) t)
+      by_kind kind.Straight e =
+          absurd (subst runs.IsOfTube
+          (chain_part i runs.whole (curve d i).from ((curve d i).to ∷ []) o
+          (subst (λ (k : CurveKind). Has o (runs.edges_of i k (curve d i) (B i))) e h)) t)
 
   -- a straight has one edge
   pub one_edge : (e f i : ℕ) → (curve d i).kind ≡ kind.Straight → IsOf e i → IsOf f i → e ≡ f
   one_edge e f i s a b =
-      let la = subst (λ (k : CurveKind). a.place < length (runs.edges_of i k (curve d i) (B i))) s a.fits in
-      let lb = subst (λ (k : CurveKind). b.place < length (runs.edges_of i k (curve d i) (B i))) s b.fits in
+      let la = subst (λ (k : CurveKind). a.place < length (runs.edges_of i k (curve d i) (B i))) s
+      a.fits in
+      let lb = subst (λ (k : CurveKind). b.place < length (runs.edges_of i k (curve d i) (B i))) s
+      b.fits in
       let na = a.number in
       let nb = b.number in
       same (runs.first_edge B 0 d.curves i) la lb na nb

@@ -36,15 +36,20 @@ pub record IsCurveAt (d : Plan) (level i : ℕ) (g : Group) : Type 0 where
   pub holds : HoldsAll (box_of g.reach) (groups.corners g.curve.now g.tube.now)
 
 -- what is taken from lists of tubes and boxes
-pub listed_at : (d : Plan) (level i : ℕ) (tubes : List (Option Tube)) (boxes : List Reach) (g : Group)
+pub listed_at : (d : Plan) (level i : ℕ) (tubes : List (Option Tube)) (boxes : List Reach)
+    (g : Group)
     → i < length d.curves → AreTubesAt d level tubes
     → AreBoxesTo d.curves tubes (length d.curves) boxes
-    → g.curve.now ≡ curve d i → g.tube.now ≡ tube_of tubes i → g.reach ≡ reach_of boxes i → IsCurveAt d level i g
+    → g.curve.now ≡ curve d i → g.tube.now ≡ tube_of tubes i → g.reach ≡ reach_of boxes i
+    → IsCurveAt d level i g
 listed_at d level i tubes boxes g l ht hb curve_is tube_is reach_is = record {
   curve_is = curve_is;
   tube = subst (IsTubeFor (curve d i) level) (sym tube_is) (ht.each i l);
   holds = subst (λ r. HoldsAll (box_of r) (groups.corners g.curve.now g.tube.now)) (sym reach_is)
-      (subst (λ c. HoldsAll (box_of (reach_of boxes i)) (groups.corners c g.tube.now)) (sym curve_is) (subst (λ t. HoldsAll (box_of (reach_of boxes i)) (groups.corners (curve d i) t)) (sym tube_is) (hb.holds i l)));
+      (subst (λ c. HoldsAll (box_of (reach_of boxes i)) (groups.corners c g.tube.now))
+      (sym curve_is)
+      (subst (λ t. HoldsAll (box_of (reach_of boxes i)) (groups.corners (curve d i) t))
+      (sym tube_is) (hb.holds i l)));
 }
 
 -- ---- curves by number
@@ -55,7 +60,8 @@ indexed_at d i c x l e = e ∙ one_default d.curves i x _ l
 pub fit_at : (d : Plan) (i : ℕ) (c x : Curve) → i < length d.curves
     → All (λ (c : Curve). IsDrawn d.window.low d.window.high c) d.curves → c ≡ get_or d.curves i x
     → IsFit c
-fit_at d i c x l drawn e = subst IsFit (sym (indexed_at d i c x l e)) (fit d.window (curve d i) (drawn i _ l))
+fit_at d i c x l drawn e =
+    subst IsFit (sym (indexed_at d i c x l e)) (fit d.window (curve d i) (drawn i _ l))
 
 -- what is made for one curve
 pub made_at : (d : Plan) (level i : ℕ) (c : Curve) (t : Option Tube) (g : Group) → c ≡ curve d i
@@ -63,17 +69,21 @@ pub made_at : (d : Plan) (level i : ℕ) (c : Curve) (t : Option Tube) (g : Grou
     → HoldsAll (box_of g.reach) (groups.corners c t) → IsCurveAt d level i g
 made_at d level i c t g e told curve_is tube_is holds = record {
   curve_is = curve_is ∙ e;
-  tube = subst (IsTubeFor (curve d i) level) (sym tube_is) (subst (λ x. IsTubeFor x level t) e told);
-  holds = subst (λ x. HoldsAll (box_of g.reach) (groups.corners x g.tube.now)) (sym curve_is) (subst (λ u. HoldsAll (box_of g.reach) (groups.corners c u)) (sym tube_is) holds);
+  tube = subst (IsTubeFor (curve d i) level) (sym tube_is)
+      (subst (λ x. IsTubeFor x level t) e told);
+  holds = subst (λ x. HoldsAll (box_of g.reach) (groups.corners x g.tube.now)) (sym curve_is)
+      (subst (λ u. HoldsAll (box_of g.reach) (groups.corners c u)) (sym tube_is) holds);
 }
 
-module _ (d : Plan) (level i j : ℕ) (order : i < j) (there : j < length d.curves) (g h : Group) (gi : IsCurveAt d level i g) (hj : IsCurveAt d level j h) where
+module _ (d : Plan) (level i j : ℕ) (order : i < j) (there : j < length d.curves) (g h : Group)
+    (gi : IsCurveAt d level i g) (hj : IsCurveAt d level j h) where
   first_there : i < length d.curves
   first_there = omega (arith, order, there)
 
   tubed_by : (k : ℕ) (x : Group) → IsCurveAt d level k x → HasEdges x.curve.now x.tube.now
       → IsTubed level (curve d k) x.tube.now
-  tubed_by k x n e = tubed_of level (curve d k) x.tube.now n.tube (subst (λ c. HasEdges c x.tube.now) n.curve_is e)
+  tubed_by k x n e =
+      tubed_of level (curve d k) x.tube.now n.tube (subst (λ c. HasEdges c x.tube.now) n.curve_is e)
 
   group_by : (k : ℕ) (x : Group) → k < length d.curves
       → All (λ (c : Curve). IsDrawn d.window.low d.window.high c) d.curves → IsCurveAt d level k x
@@ -99,21 +109,31 @@ module _ (d : Plan) (level i j : ℕ) (order : i < j) (there : j < length d.curv
   differ : i ≡ j → ⊥
   differ e = omega (arith, order, e)
 
-  module _ (own_enter : (i e : ℕ) (a : Edge) (p : Point) (t : Tile) → (curve d i).kind ≡ kind.HalfArc → IsTube (arc (curve d i)) (drawn_bays d level i) → e < length (runs.edge_list (drawn_bays d level) 0 d.curves)
-      → (owned_at d level e).curve ≡ i → runs.Connects a (owned_at d level e).from (owned_at d level e).to → IsEnd a p → Has t (tiles (curve d i).from (drawn_bays d level i)) → InTile t (point p) → IsCornerOf t p) where
+  module _ (own_enter : (i e : ℕ) (a : Edge) (p : Point) (t : Tile)
+      → (curve d i).kind ≡ kind.HalfArc → IsTube (arc (curve d i)) (drawn_bays d level i)
+      → e < length (runs.edge_list (drawn_bays d level) 0 d.curves)
+      → (owned_at d level e).curve ≡ i
+      → runs.Connects a (owned_at d level e).from (owned_at d level e).to → IsEnd a p
+      → Has t (tiles (curve d i).from (drawn_bays d level i)) → InTile t (point p)
+      → IsCornerOf t p) where
     broken_by : HasEdges g.curve.now g.tube.now → HasEdges h.curve.now h.tube.now
         → AreBroken g.curve.now g.tube.now h.curve.now h.tube.now ↔ Breaks d level i j
     broken_by eg eh =
-        subst (λ c. AreBroken c g.tube.now h.curve.now h.tube.now ↔ Breaks d level i j) (sym gi.curve_is)
-        (subst (λ c. AreBroken (curve d i) g.tube.now c h.tube.now ↔ Breaks d level i j) (sym hj.curve_is)
-        (broken_is d level own_enter i j g.tube.now h.tube.now differ first_there there (tubed_by i g gi eg) (tubed_by j h hj eh)))
+        subst (λ c. AreBroken c g.tube.now h.curve.now h.tube.now ↔ Breaks d level i j)
+        (sym gi.curve_is)
+        (subst (λ c. AreBroken (curve d i) g.tube.now c h.tube.now ↔ Breaks d level i j)
+        (sym hj.curve_is)
+        (broken_is d level own_enter i j g.tube.now h.tube.now differ first_there there
+        (tubed_by i g gi eg) (tubed_by j h hj eh)))
 
     have_edges : Breaks d level i j
         → HasEdges g.curve.now g.tube.now × HasEdges h.curve.now h.tube.now
     have_edges s =
         let a = groups_of d level i j differ s in (
-          subst (λ c. HasEdges c g.tube.now) (sym gi.curve_is) (group_has_edges d level i g.tube.now gi.tube a.0),
-          subst (λ c. HasEdges c h.tube.now) (sym hj.curve_is) (group_has_edges d level j h.tube.now hj.tube a.1),
+          subst (λ c. HasEdges c g.tube.now) (sym gi.curve_is)
+              (group_has_edges d level i g.tube.now gi.tube a.0),
+          subst (λ c. HasEdges c h.tube.now) (sym hj.curve_is)
+              (group_has_edges d level j h.tube.now hj.tube a.1),
         )
 
     pub breaks_is : (b : Bool)

@@ -1,4 +1,5 @@
--- Two curves break a level exactly where two of their parts clash or one is a straight under the other's chord.
+-- Two curves break a level exactly where two of their parts clash or one is a straight under the
+-- other's chord.
 use Rattle.std.proofs.Common.{◌↔◌, ◌⊎◌, inl, inr, ℕ, suc, ◌<◌, ◌≤◌, Option, Some, None, length}
 use Rattle.std.proofs.Common.{refl, arith, sym, subst}
 use Rattle.plane.specs.Forms.Meets.{Bad, IsEnd}
@@ -46,8 +47,11 @@ part_of c t z h s = elim ((held_is t.inner.items t.outer.items z (sizes_of c t h
 
 of_part : (c : Curve) (t : Tube) (z : Vector) (j : ℕ) → HasChains c t → IsInPart t z j
     → InTubeOf t z
-of_part c t z j h (l, inl b) = (held_is t.inner.items t.outer.items z (sizes_of c t h)).0 (inl (j, l, b))
-of_part c t z j h (l, inr (i, e, g)) = (held_is t.inner.items t.outer.items z (sizes_of c t h)).0 (inr (i, subst (λ (n : ℕ). n < length t.outer.items) (sym e) l, g))
+of_part c t z j h (l, inl b) =
+    (held_is t.inner.items t.outer.items z (sizes_of c t h)).0 (inl (j, l, b))
+of_part c t z j h (l, inr (i, e, g)) =
+    (held_is t.inner.items t.outer.items z (sizes_of c t h)).0
+    (inr (i, subst (λ (n : ℕ). n < length t.outer.items) (sym e) l, g))
 
 enters_to : (level : ℕ) (c : Curve) (t : Option Tube) (e : Curve) (u : Option Tube) → IsEdged c t
     → IsEdged e u → IsTubed level c t → IsEntered e u (corners c t)
@@ -59,8 +63,17 @@ enters_to level c t e (Some u) h k d (n, l, s) =
     let (m, lm, fm) = has_at f no_edge (edges_with c t) hf in
     let (i, li, hi) = has_part c t m h lm in
     let (j, there) = part_of e u (point p) k s.there in
-    let lj = there.0 in
-    (i, li, j, omega (arith, lj), (edge_of (edges_with c t) m, hi, (p, subst (λ x. IsEnd x p) (sym fm) end, (s.no_end, there))))
+    let lj = there.0 in (
+      i,
+      li,
+      j,
+      omega (arith, lj),
+      (
+        edge_of (edges_with c t) m,
+        hi,
+        (p, subst (λ x. IsEnd x p) (sym fm) end, (s.no_end, there)),
+      ),
+    )
 
 enters_from : (level : ℕ) (c : Curve) (t : Option Tube) (e : Curve) (u : Option Tube) (i j : ℕ)
     → IsEdged c t → IsEdged e u → IsTubed level c t → i ≤ bays_of t → EndsEnter c t i e u j
@@ -68,9 +81,19 @@ enters_from : (level : ℕ) (c : Curve) (t : Option Tube) (e : Curve) (u : Optio
 enters_from level c t e None i j h k d li (f, hf, (p, end, none)) = absurd none
 enters_from level c t e (Some u) i j h k d li (f, hf, (p, end, (away, there))) =
     let (n, l, a) = edge_number c t i f h li hf in
-    let has : Has p (corners c t) = (ends_are level c t p d).0 (edge_of (edges_with c t) n, at_has no_edge (edges_with c t) n l, subst (λ x. IsEnd x p) a end) in
-    let (m, lm, q) = has_at p no_point (corners c t) has in
-    (m, lm, subst (IsInTube e u) (sym q) (record { no_end = away; there = of_part e u (point p) j k there }))
+    let has : Has p (corners c t) = (ends_are level c t p d).0 (
+      edge_of (edges_with c t) n,
+      at_has no_edge (edges_with c t) n l,
+      subst (λ x. IsEnd x p) a end,
+    ) in
+    let (m, lm, q) = has_at p no_point (corners c t) has in (
+      m,
+      lm,
+      subst (IsInTube e u) (sym q) (record {
+        no_end = away;
+        there = of_part e u (point p) j k there;
+      }),
+    )
 
 -- ---- in all
 abbrev pub AnyClash : Group → Group → Type 0
@@ -95,9 +118,16 @@ module _ (g h : Group) (G : AreGroups g h) where
 
   broken_by : (i j : ℕ) → i ≤ bays_of g.tube.now → j ≤ bays_of h.tube.now
       → PartsClash g.curve.now g.tube.now h.curve.now h.tube.now i j → Broken g h
-  broken_by i j l m (inl e) = inl (meets_from g.curve.now g.tube.now h.curve.now h.tube.now i j mine other l m e)
-  broken_by i j l m (inr (inl e)) = inr (inr (inl (enters_from G.level g.curve.now g.tube.now h.curve.now h.tube.now i j mine other G.first.tubed l e)))
-  broken_by i j l m (inr (inr e)) = inr (inl (inl (enters_from G.level h.curve.now h.tube.now g.curve.now g.tube.now j i other mine G.second.tubed m e)))
+  broken_by i j l m (inl e) =
+      inl (meets_from g.curve.now g.tube.now h.curve.now h.tube.now i j mine other l m e)
+  broken_by i j l m (inr (inl e)) =
+      inr (inr (inl
+      (enters_from G.level g.curve.now g.tube.now h.curve.now h.tube.now i j mine other
+      G.first.tubed l e)))
+  broken_by i j l m (inr (inr e)) =
+      inr (inl (inl
+      (enters_from G.level h.curve.now h.tube.now g.curve.now g.tube.now j i other mine
+      G.second.tubed m e)))
 
   onward : AnyClash g h ⊎ UnderChord g h → Broken g h
   onward (inl (i, a, l, (j, b, m, p))) = broken_by i j (omega (arith, l)) (omega (arith, m)) p
@@ -105,10 +135,18 @@ module _ (g h : Group) (G : AreGroups g h) where
   onward (inr (inr u)) = inr (inr (inr u))
 
   back : Broken g h → AnyClash g h ⊎ UnderChord g h
-  back (inl s) = let (i, l, j, m, e) = meets_to g.curve.now g.tube.now h.curve.now h.tube.now mine other s in inl (clash_at g h i j l m (inl e))
-  back (inr (inl (inl s))) = let (j, m, i, l, e) = enters_to G.level h.curve.now h.tube.now g.curve.now g.tube.now other mine G.second.tubed s in inl (clash_at g h i j l m (inr (inr e)))
+  back (inl s) =
+      let (i, l, j, m, e) = meets_to g.curve.now g.tube.now h.curve.now h.tube.now mine other s in
+      inl (clash_at g h i j l m (inl e))
+  back (inr (inl (inl s))) =
+      let (j, m, i, l, e) = enters_to G.level h.curve.now h.tube.now g.curve.now g.tube.now other
+      mine G.second.tubed s in
+      inl (clash_at g h i j l m (inr (inr e)))
   back (inr (inl (inr u))) = inr (inl u)
-  back (inr (inr (inl s))) = let (i, l, j, m, e) = enters_to G.level g.curve.now g.tube.now h.curve.now h.tube.now mine other G.first.tubed s in inl (clash_at g h i j l m (inr (inl e)))
+  back (inr (inr (inl s))) =
+      let (i, l, j, m, e) = enters_to G.level g.curve.now g.tube.now h.curve.now h.tube.now mine
+      other G.first.tubed s in
+      inl (clash_at g h i j l m (inr (inl e)))
   back (inr (inr (inr u))) = inr (inr u)
 
   pub broken_is : (AnyClash g h ⊎ UnderChord g h) ↔ Broken g h

@@ -11,7 +11,8 @@ use Rattle.level_breaks.proofs.Choices.{clash}
 -- ---- in a loop
 pub none_more_from : (P : ℕ → Type 0) (a n : ℕ) → ((k : ℕ) → a ≤ k → k < n → P k → ⊥) → (P n → ⊥)
     → (k : ℕ) → a ≤ k → k < n + 1 → P k → ⊥
-none_more_from P a n f g k m l p = by_lt k n (λ (s : k < n). f k m s p) (λ (s : n ≤ k). g (subst P (omega (arith, l, s)) p))
+none_more_from P a n f g k m l p =
+    by_lt k n (λ (s : k < n). f k m s p) (λ (s : n ≤ k). g (subst P (omega (arith, l, s)) p))
 
 pub some_here : (P : ℕ → Type 0) (a b n : ℕ) → a ≤ n → n < b → P n → IsTrue true ↔ SomeOf P a b
 some_here P a b n l m p = ((λ t. (n, l, m, p)), (λ s. refl))
@@ -21,7 +22,8 @@ pub none_here : (P : ℕ → Type 0) (a b n : ℕ) → b ≤ n → ((k : ℕ) �
 none_here P a b n l f = ((λ t. clash t), (λ (k, m, s, p). absurd (f k m (omega (arith, l, s)) p)))
 
 pub placed_more : (P : ℕ → Type 0) (a n : ℕ) → IsPlaced P a n → P n → IsPlaced P a (n + 1)
-placed_more P a n f p k m l = by_lt k n (λ (s : k < n). f k m s) (λ (s : n ≤ k). subst P (omega (arith, l, s)) p)
+placed_more P a n f p k m l =
+    by_lt k n (λ (s : k < n). f k m s) (λ (s : n ≤ k). subst P (omega (arith, l, s)) p)
 
 pub placed_to : (P : ℕ → Type 0) (a b n : ℕ) → b ≤ n → IsPlaced P a n → IsPlaced P a b
 placed_to P a b n l f k m s = f k m (omega (arith, l, s))
@@ -34,15 +36,19 @@ pub placed_one : (P : ℕ → Type 0) (a : ℕ) → IsPlaced P a (a + 1) → P a
 placed_one P a f = f a (omega arith) (omega arith)
 
 -- ---- no place, no pair
-pub apart : (sought : ℕ → ℕ → Type 0) (inf : Box → ℕ → Type 0) (ins : Box → ℕ → Type 0) (m n : ℕ) (s t : Stretch)
+pub apart : (sought : ℕ → ℕ → Type 0) (inf : Box → ℕ → Type 0) (ins : Box → ℕ → Type 0) (m n : ℕ)
+    (s t : Stretch)
     → IsStretch inf m s → IsStretch ins n t
-    → ((i j : ℕ) (a b : Box) → i < m → j < n → sought i j → inf a i → ins b j → ShareAPlace a b) → (ShareAPlace (box_of s.reach) (box_of t.reach) → ⊥) → IsTrue false ↔ SomePair sought s t
+    → ((i j : ℕ) (a b : Box) → i < m → j < n → sought i j → inf a i → ins b j → ShareAPlace a b)
+    → (ShareAPlace (box_of s.reach) (box_of t.reach) → ⊥) → IsTrue false ↔ SomePair sought s t
 apart sought inf ins m n s t h k law none = (
   (λ x. clash x),
   (λ (i, fi, li, (j, fj, lj, p)).
       let hi = h.there in
       let kj = k.there in
-      absurd (none (law i j (box_of s.reach) (box_of t.reach) (omega (arith, hi, li)) (omega (arith, kj, lj)) p (h.placed i fi li) (k.placed j fj lj)))),
+      absurd (none
+      (law i j (box_of s.reach) (box_of t.reach) (omega (arith, hi, li))
+      (omega (arith, kj, lj)) p (h.placed i fi li) (k.placed j fj lj)))),
 )
 
 -- ---- all of both

@@ -32,7 +32,8 @@ pub one_more : {X : Type 0} (P : X → Type 0) (cells : List X) (i : ℕ) (b : X
     → k < i + 1 → P (get_or cells k d)
 one_more P cells i b l f p k d m =
     by_lt k i (λ (n : k < i). f k d n)
-    (λ (n : i ≤ k). subst P (same_cell cells i b d l ∙ ap (λ (j : ℕ). get_or cells j d) (last k i m n)) p)
+    (λ (n : i ≤ k). subst P (same_cell cells i b d l
+    ∙ ap (λ (j : ℕ). get_or cells j d) (last k i m n)) p)
   where
     last : (k i : ℕ) → k < i + 1 → i ≤ k → i ≡ k
     last k i m n = omega (arith, m, n)

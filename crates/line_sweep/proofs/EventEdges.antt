@@ -30,13 +30,17 @@ none_left : (xs : List ℕ) (e : ℕ) → Has e xs → 0 < length xs
 none_left [] e h = absurd h
 none_left (x ∷ xs) e h = omega arith
 
-module _ (edges : List Edge) (table : List Timed) (k : ℕ) (t : IsTimetable (length edges) (edge_of edges) table) (l : k < length table) where
+module _ (edges : List Edge) (table : List Timed) (k : ℕ)
+    (t : IsTimetable (length edges) (edge_of edges) table) (l : k < length table) where
   pub event_timed : IsTimed (length edges) (edge_of edges) (get_or table k no_event)
-  event_timed = each_has (IsTimed (length edges) (edge_of edges)) table (get_or table k no_event) t.timed (has_at table k no_event l)
+  event_timed =
+      each_has (IsTimed (length edges) (edge_of edges)) table (get_or table k no_event) t.timed
+      (has_at table k no_event l)
 
   -- the event is an end of some edge
   event_end : (e : ℕ) × (e < length edges) × IsEnd (edge_of edges e) (get_or table k no_event).at
-  event_end = t.events.events (get_or table k no_event).at (map_has table (get_or table k no_event) (has_at table k no_event l))
+  event_end = t.events.events (get_or table k no_event).at
+      (map_has table (get_or table k no_event) (has_at table k no_event l))
 
   pub close_event : AreAllClose edges → IsCloseToAll edges (get_or table k no_event).at
   close_event close =
@@ -53,8 +57,13 @@ module _ (edges : List Edge) (table : List Timed) (k : ℕ) (t : IsTimetable (le
       near d e c (inr q) = subst (λ p. AreClose (edge_of edges e).low p) q c.low_high
 
   pub start_end : 0 < length (get_or table k no_event).starting
-      → (get_or (get_or table k no_event).starting 0 0 < length edges) × IsEnd (edge_of edges (get_or (get_or table k no_event).starting 0 0)) (get_or table k no_event).at
-  start_end n = let h = (event_timed.starting (get_or (get_or table k no_event).starting 0 0)).0 (has_at (get_or table k no_event).starting 0 0 n) in (h.0, inl h.1)
+      → (get_or (get_or table k no_event).starting 0 0 < length edges)
+      × IsEnd (edge_of edges (get_or (get_or table k no_event).starting 0 0))
+      (get_or table k no_event).at
+  start_end n =
+      let h = (event_timed.starting (get_or (get_or table k no_event).starting 0 0)).0
+      (has_at (get_or table k no_event).starting 0 0 n) in
+      (h.0, inl h.1)
 
   pub starting_below : (starting : List ℕ) → starting ≡ (get_or table k no_event).starting → (e : ℕ)
       → Has e starting → e < length edges
@@ -66,10 +75,17 @@ module _ (edges : List Edge) (table : List Timed) (k : ℕ) (t : IsTimetable (le
   some_end n =
       let (e, m, end) = event_end in
       elim end [
-        | inl q ↦ absurd (let p = none_left (get_or table k no_event).starting e ((event_timed.starting e).1 (m, q)) in omega (arith, p, n))
+        | inl q ↦ absurd
+            (let p = none_left (get_or table k no_event).starting e
+            ((event_timed.starting e).1 (m, q)) in omega (arith, p, n))
         | inr q ↦ none_left (get_or table k no_event).ending e ((event_timed.ending e).1 (m, q))
       ]
 
   pub end_end : 0 < length (get_or table k no_event).ending
-      → (get_or (get_or table k no_event).ending 0 0 < length edges) × IsEnd (edge_of edges (get_or (get_or table k no_event).ending 0 0)) (get_or table k no_event).at
-  end_end n = let h = (event_timed.ending (get_or (get_or table k no_event).ending 0 0)).0 (has_at (get_or table k no_event).ending 0 0 n) in (h.0, inr h.1)
+      → (get_or (get_or table k no_event).ending 0 0 < length edges)
+      × IsEnd (edge_of edges (get_or (get_or table k no_event).ending 0 0))
+      (get_or table k no_event).at
+  end_end n =
+      let h = (event_timed.ending (get_or (get_or table k no_event).ending 0 0)).0
+      (has_at (get_or table k no_event).ending 0 0 n) in
+      (h.0, inr h.1)

@@ -33,7 +33,10 @@ replaced m old new more from upto q b f = below_all m new (λ e h. by e (subst (
     by : (e : ℕ) → Has e (take from old ++ (more ++ drop upto old)) → e < m
     by e h = elim (has_append e (take from old) (more ++ drop upto old) h) [
       | inl k ↦ all_below m old b e (has_take e from old k)
-      | inr k ↦ elim (has_append e more (drop upto old) k) [ inl l ↦ f e l | inr l ↦ all_below m old b e (has_drop e upto old l) ]
+      | inr k ↦ elim (has_append e more (drop upto old) k) [
+        | inl l ↦ f e l
+        | inr l ↦ all_below m old b e (has_drop e upto old l)
+      ]
     ]
 
 -- one number more of a list

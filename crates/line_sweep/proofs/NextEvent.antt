@@ -1,4 +1,5 @@
--- One event of a sweep: the step that its block makes, what the fault of a block shows, and what is so after the event.
+-- One event of a sweep: the step that its block makes, what the fault of a block shows, and what is
+-- so after the event.
 use Rattle.std.proofs.Common.{◌≡◌, ℕ, zero, suc, ◌+◌, ◌^◌, ◌<◌, ◌≤◌, ℤ, pos, ◌<ℤ◌, ◌≤ℤ◌, inl, inr}
 use Rattle.std.proofs.Common.{Option, None, List, [], ◌∷◌, ◌++◌, length, take, drop, filter}
 use Rattle.std.proofs.Common.{replicate, get_or, refl, arith, ap, sym, ◌∙◌, subst}
@@ -41,10 +42,14 @@ drop_points (t ∷ table) (suc k) l = drop_points table k (omega (arith, l))
 turn_end : (E : ℕ → Edge) (e : ℕ) (v : Point) → (E e).high ≡ v → turn_at E e v ≡ pos 0
 turn_end E e v q =
     ap (λ (p : Point). turn_at E e p) (sym q)
-    ∙ ring (minus (times (minus (at 2) (at 0)) (minus (at 3) (at 1))) (times (minus (at 3) (at 1)) (minus (at 2) (at 0)))) (num (pos 0)) (vars ((E e).low.x ∷ (E e).low.y ∷ (E e).high.x ∷ (E e).high.y ∷ [])) refl
+    ∙ ring (minus (times (minus (at 2) (at 0)) (minus (at 3) (at 1)))
+    (times (minus (at 3) (at 1)) (minus (at 2) (at 0)))) (num (pos 0))
+    (vars ((E e).low.x ∷ (E e).low.y ∷ (E e).high.x ∷ (E e).high.y ∷ [])) refl
 
 below_zero : (z : ℤ) → z ≤ℤ pos 0 → (z ≡ pos 0 → ⊥) → z <ℤ pos 0
-below_zero z l n = by_lt_z z (pos 0) (λ (k : z <ℤ pos 0). k) (λ (k : pos 0 ≤ℤ z). absurd (n (omega (arith, ints, l, k))))
+below_zero z l n =
+    by_lt_z z (pos 0) (λ (k : z <ℤ pos 0). k)
+    (λ (k : pos 0 ≤ℤ z). absurd (n (omega (arith, ints, l, k))))
 
 at_drop : (xs : List ℕ) (p j d : ℕ) → get_or (drop p xs) j d ≡ get_or xs (p + j) d
 at_drop xs zero j d = ap (λ (k : ℕ). get_or xs k d) (none j)
@@ -67,15 +72,25 @@ in_block : (now : List ℕ) (p n e : ℕ) → p + n ≤ length now → Has e (ta
     → (i : ℕ) × (p ≤ i) × (i < p + n) × (get_or now i 0 ≡ e)
 in_block now p n e w h =
     let (k, l, q) = index e (take n (drop p now)) h in
-    let s : length (take n (drop p now)) ≡ n = length-take-le n (drop p now) (let d = length-drop p now in omega (arith, d, w)) in
-    let j : k < n = omega (arith, l, s) in
-    (p + k, omega arith, omega (arith, j), sym (at_drop now p k 0) ∙ sym (get_or-take n (drop p now) k 0 j) ∙ q)
+    let s : length (take n (drop p now))
+    ≡ n = length-take-le n (drop p now) (let d = length-drop p now in omega (arith, d, w)) in
+    let j : k < n = omega (arith, l, s) in (
+      p + k,
+      omega arith,
+      omega (arith, j),
+      sym (at_drop now p k 0)
+          ∙ sym (get_or-take n (drop p now) k 0 j) ∙ q,
+    )
 
 pub opened_is : (k : ℕ) (live : List ℕ) (t : Timed) (p n : ℕ) → p ≤ length live
-    → gaps_between k (edge_before live p) t.starting (edge_at live (p + n)) ≡ opened k (step_of live (move_at_block t p n))
+    → gaps_between k (edge_before live p) t.starting (edge_at live (p + n))
+    ≡ opened k (step_of live (move_at_block t p n))
 opened_is k live t p n l =
-    ap (λ (o : Option ℕ). gaps_between k o t.starting (edge_at live (p + n))) (sym (last_before live p l))
-    ∙ ap (λ (o : Option ℕ). gaps_between k (last_or None (take p live)) t.starting o) (sym (first_after live (p + n)) ∙ ap (λ (ns : List ℕ). first_or None ns) (sym (drop_twice p n live)))
+    ap (λ (o : Option ℕ). gaps_between k o t.starting (edge_at live (p + n)))
+    (sym (last_before live p l))
+    ∙ ap (λ (o : Option ℕ). gaps_between k (last_or None (take p live)) t.starting o)
+    (sym (first_after live (p + n))
+    ∙ ap (λ (ns : List ℕ). first_or None ns) (sym (drop_twice p n live)))
 
 -- the same from the edges beside the block
 pub opened_as : (k : ℕ) (lower upper : Option ℕ) (live : List ℕ) (t : Timed) (p n : ℕ)
@@ -91,13 +106,17 @@ no_elements : {X : Type 0} (xs : List X) → ((x : X) → Has x xs → ⊥) → 
 no_elements [] f = refl
 no_elements (x ∷ xs) f = absurd (f x (inl refl))
 
-module _ (edges : List Edge) (table : List Timed) (k : ℕ) (live since ended : List ℕ) (moves : List Move) (told : List Gap) (sorted : AreSorted edges)
-    (t : IsTimetable (length edges) (edge_of edges) table) (l : k < length table) (s : IsSweptTo edges table k live since ended moves told) where
+module _ (edges : List Edge) (table : List Timed) (k : ℕ) (live since ended : List ℕ)
+    (moves : List Move) (told : List Gap) (sorted : AreSorted edges)
+    (t : IsTimetable (length edges) (edge_of edges) table) (l : k < length table)
+    (s : IsSweptTo edges table k live since ended moves told) where
   abbrev pub timed : Timed
   timed = get_or table k no_event
 
-  way : IsUnderWay (length edges) (edge_of edges) (points_of table) (made [] moves) (timed.at ∷ drop (suc k) (points_of table))
-  way = subst (λ ps. IsUnderWay (length edges) (edge_of edges) (points_of table) (made [] moves) ps) (drop_points table k l) s.way
+  way : IsUnderWay (length edges) (edge_of edges) (points_of table) (made [] moves)
+      (timed.at ∷ drop (suc k) (points_of table))
+  way = subst (λ ps. IsUnderWay (length edges) (edge_of edges) (points_of table) (made [] moves) ps)
+      (drop_points table k l) s.way
 
   is_live : live ≡ lives (made [] moves)
   is_live = s.lives ∙ sym (live_made [] moves)
@@ -106,31 +125,40 @@ module _ (edges : List Edge) (table : List Timed) (k : ℕ) (live since ended : 
   timed_is = event_timed edges table k t l
 
   pub live_known : (i : ℕ) → i < length live → get_or live i 0 < length edges
-  live_known i j = (known_live (length edges) (edge_of edges) (points_of table) (made [] moves) (timed.at ∷ drop (suc k) (points_of table)) (get_or live i 0) way (subst (λ (ns : List ℕ). Has (get_or live i 0) ns) is_live (has_at live i 0 j))).0
+  live_known i j =
+      (known_live (length edges) (edge_of edges) (points_of table) (made [] moves)
+      (timed.at ∷ drop (suc k) (points_of table)) (get_or live i 0) way
+      (subst (λ (ns : List ℕ). Has (get_or live i 0) ns) is_live (has_at live i 0 j))).0
 
   pub live_size : length live ≤ length edges
   live_size =
-      let r = room_live (length edges) (edge_of edges) (points_of table) (made [] moves) timed.at (drop (suc k) (points_of table)) way in
+      let r = room_live (length edges) (edge_of edges) (points_of table) (made [] moves) timed.at
+      (drop (suc k) (points_of table)) way in
       let e = ap length is_live in
       omega (arith, r, e)
 
   pub since_size : length since ≡ suc (length live)
-  since_size = ap length s.opened ∙ length-map (open_gaps moves) _ ∙ open_size moves s.fit ∙ ap (λ (ns : List ℕ). suc (length ns)) (sym s.lives)
+  since_size = ap length s.opened ∙ length-map (open_gaps moves) _ ∙ open_size moves s.fit
+      ∙ ap (λ (ns : List ℕ). suc (length ns)) (sym s.lives)
 
   -- ---- a live edge through the event
   pub through_is_bad : (e d : ℕ) → IsThrough (edge_of edges) live timed.at e → d < length edges
       → IsEnd (edge_of edges d) timed.at → AreBad edges e d
   through_is_bad e d b m end =
-      let has : Has e (lives (made [] moves)) = subst (λ (ns : List ℕ). Has e ns) is_live (subst (λ (i : ℕ). Has i live) (sym b.is) (has_at live b.place 0 b.within)) in
+      let has : Has e (lives (made [] moves)) = subst (λ (ns : List ℕ). Has e ns) is_live
+      (subst (λ (i : ℕ). Has i live) (sym b.is) (has_at live b.place 0 b.within)) in
       let on : OnLive (edge_of edges) (lives (made [] moves)) timed.at = record {
         edge = e;
         lives = has;
-        on = on_live_line (length edges) (edge_of edges) (points_of table) (made [] moves) timed.at (drop (suc k) (points_of table)) e way has b.line;
+        on = on_live_line (length edges) (edge_of edges) (points_of table) (made [] moves) timed.at
+            (drop (suc k) (points_of table)) e way has b.line;
         no_end = b.no_end;
       } in
-      let bad = on_live_is_bad (length edges) (edge_of edges) (points_of table) (made [] moves) timed.at (drop (suc k) (points_of table)) way on d m end in
+      let bad = on_live_is_bad (length edges) (edge_of edges) (points_of table)
+      (made [] moves) timed.at (drop (suc k) (points_of table)) way on d m end in
       record {
-        first = (known_live (length edges) (edge_of edges) (points_of table) (made [] moves) (timed.at ∷ drop (suc k) (points_of table)) e way has).0;
+        first = (known_live (length edges) (edge_of edges) (points_of table) (made [] moves)
+            (timed.at ∷ drop (suc k) (points_of table)) e way has).0;
         second = m;
         differ = bad.0;
         bad = bad.1;
@@ -152,15 +180,24 @@ module _ (edges : List Edge) (table : List Timed) (k : ℕ) (live since ended : 
 
     made_step : Made (length edges) (edge_of edges) (lives (made [] moves)) the_step
     made_step =
-        made_by_turns (length edges) (edge_of edges) timed.at (lives (made [] moves)) p n timed.starting block.within (λ e. (timed_is.starting e).0) (λ e a q. (timed_is.starting e).1 (a, q))
-        (λ i j. slopes_rise (length edges) (edge_of edges) timed i timed_is j) block.below block.first
-        (λ i q. let z = turn_end (edge_of edges) (get_or (lives (made [] moves)) (p + i) 0) timed.at (block.ends (p + i) (omega arith) (omega (arith, q))) in omega (arith, ints, z))
-        (λ j. below_zero _ (false_after_event (length edges) (edge_of edges) (points_of table) (made [] moves) timed.at (drop (suc k) (points_of table)) p (p + n) 0 way (omega arith) j (block.first (omega (arith, j)))) (block.next j))
+        made_by_turns (length edges) (edge_of edges) timed.at
+        (lives (made [] moves)) p n timed.starting block.within (λ e. (timed_is.starting e).0)
+        (λ e a q. (timed_is.starting e).1 (a, q))
+        (λ i j. slopes_rise (length edges) (edge_of edges) timed i timed_is j) block.below
+        block.first
+        (λ i q. let z = turn_end (edge_of edges) (get_or (lives (made [] moves)) (p + i) 0) timed.at
+        (block.ends (p + i) (omega arith) (omega (arith, q))) in omega (arith, ints, z))
+        (λ j. below_zero _
+        (false_after_event (length edges) (edge_of edges) (points_of table)
+        (made [] moves) timed.at (drop (suc k) (points_of table)) p (p + n) 0 way
+        (omega arith) j (block.first (omega (arith, j)))) (block.next j))
 
     clear : Clear (edge_of edges) (lives (made [] moves)) timed.at
     clear =
-        block_ends (length edges) (edge_of edges) (points_of table) (made [] moves) the_step (drop (suc k) (points_of table)) way made_step
-        (λ e h. let (i, a, c, q) = in_block (lives (made [] moves)) p n e block.within h in subst (λ (j : ℕ). (edge_of edges j).high ≡ timed.at) q (block.ends i a c))
+        block_ends (length edges) (edge_of edges) (points_of table) (made [] moves) the_step
+        (drop (suc k) (points_of table)) way made_step
+        (λ e h. let (i, a, c, q) = in_block (lives (made [] moves)) p n e block.within h in
+        subst (λ (j : ℕ). (edge_of edges j).high ≡ timed.at) q (block.ends i a c))
 
     same_step : step_of live move ≡ the_step
     same_step = ap (λ (ns : List ℕ). step_of ns move) is_live
@@ -174,14 +211,21 @@ module _ (edges : List Edge) (table : List Timed) (k : ℕ) (live since ended : 
           → (d < length edges) × (e < length edges) × (d ≡ e → ⊥)
       neighbours_known d e h =
           let (g, i, q, r) = neighbour_gap k lower timed.starting upper d e h in
-          opened_differ (length edges) (edge_of edges) (points_of table) (made [] moves) the_step (drop (suc k) (points_of table)) way made_step k g d e (starting_once (length edges) (edge_of edges) sorted timed timed_is)
+          opened_differ (length edges) (edge_of edges) (points_of table) (made [] moves) the_step
+          (drop (suc k) (points_of table)) way made_step k g d e
+          (starting_once (length edges) (edge_of edges) sorted timed timed_is)
           (subst (λ st. Has g (opened k st)) same_step (subst (Has g) opened_here i)) q r
 
       module _ (fine : AreFine edges lower timed.starting upper) where
-        goes_on : IsUnderWay (length edges) (edge_of edges) (points_of table) (the_step ∷ made [] moves) (drop (suc k) (points_of table))
+        goes_on : IsUnderWay (length edges) (edge_of edges) (points_of table)
+            (the_step ∷ made [] moves) (drop (suc k) (points_of table))
         goes_on =
-            opened_go_on (length edges) (edge_of edges) (points_of table) (made [] moves) the_step (drop (suc k) (points_of table)) way made_step k clear
-            (λ g d e h q r. fine d e (gap_neighbour k lower timed.starting upper g d e (subst (Has g) (sym opened_here) (subst (λ st. Has g (opened k st)) (sym same_step) h)) q r))
+            opened_go_on (length edges) (edge_of edges) (points_of table) (made [] moves) the_step
+            (drop (suc k) (points_of table)) way made_step k clear
+            (λ g d e h q r. fine d e
+            (gap_neighbour k lower timed.starting upper g d e
+            (subst (Has g) (sym opened_here)
+            (subst (λ st. Has g (opened k st)) (sym same_step) h)) q r))
 
         -- the live list after the event
         abbrev pub next_live : List ℕ
@@ -192,23 +236,41 @@ module _ (edges : List Edge) (table : List Timed) (k : ℕ) (live since ended : 
             ap (λ (ns : List ℕ). take p live ++ (timed.starting ++ ns)) (sym (drop_twice p n live))
             ∙ ap (λ (ns : List ℕ). take p ns ++ (timed.starting ++ drop n (drop p ns))) is_live
 
-        next_since : take p since ++ (replicate (length timed.starting + 1) k ++ drop (suc (p + n)) since) ≡ events_of (open_gaps (moves ++ move ∷ []))
+        next_since : take p since
+            ++ (replicate (length timed.starting + 1) k ++ drop (suc (p + n)) since)
+            ≡ events_of (open_gaps (moves ++ move ∷ []))
         next_since =
-            ap (λ (ks : List ℕ). take p ks ++ (replicate (length timed.starting + 1) k ++ drop (suc (p + n)) ks)) s.opened
-            ∙ ap (λ (j : ℕ). take p (events_of (open_gaps moves)) ++ (replicate (length timed.starting + 1) j ++ drop (suc (p + n)) (events_of (open_gaps moves)))) (sym s.size)
-            ∙ sym (events_next (length moves) (live_from [] moves) (open_gaps moves) move) ∙ ap events_of (sym (open_more moves move))
+            ap (λ (ks : List ℕ). take p ks
+            ++ (replicate (length timed.starting + 1) k ++ drop (suc (p + n)) ks)) s.opened
+            ∙ ap (λ (j : ℕ). take p (events_of (open_gaps moves))
+            ++ (replicate (length timed.starting + 1) j
+            ++ drop (suc (p + n)) (events_of (open_gaps moves)))) (sym s.size)
+            ∙ sym (events_next (length moves) (live_from [] moves) (open_gaps moves) move)
+            ∙ ap events_of (sym (open_more moves move))
 
         pub swept_next : (ended' : List ℕ) (told' : List Gap)
             → ended' ≡ ended ++ take n (drop p live)
             → told' ≡ told ++ filter is_real (take (suc n) (drop p (gaps_by since None live None)))
-            → IsSweptTo edges table (suc k) next_live (take p since ++ (replicate (length timed.starting + 1) k ++ drop (suc (p + n)) since)) ended' (moves ++ move ∷ []) told'
+            → IsSweptTo edges table (suc k) next_live
+            (take p since
+            ++ (replicate (length timed.starting + 1) k ++ drop (suc (p + n)) since)) ended'
+            (moves ++ move ∷ []) told'
         swept_next ended' told' a c = record {
           size = (let a = length-append moves (move ∷ []) in let z = s.size in omega (arith, a, z));
-          way = subst (λ d. IsUnderWay (length edges) (edge_of edges) (points_of table) d (drop (suc k) (points_of table))) (sym (made_more [] moves move)) goes_on;
-          fit = fit_more [] moves move s.fit (subst (λ (ns : List ℕ). (p + n) ≤ length ns) s.lives b.within);
-          lives = next_is ∙ ap (λ (ns : List ℕ). after (step_of ns move)) (live_made [] moves) ∙ sym (live_more [] moves move);
+          way = subst (λ d. IsUnderWay (length edges) (edge_of edges) (points_of table) d
+              (drop (suc k) (points_of table))) (sym (made_more [] moves move)) goes_on;
+          fit = fit_more [] moves move s.fit
+              (subst (λ (ns : List ℕ). (p + n) ≤ length ns) s.lives b.within);
+          lives = next_is ∙ ap (λ (ns : List ℕ). after (step_of ns move)) (live_made [] moves)
+              ∙ sym (live_more [] moves move);
           opened = next_since;
-          closed = c ∙ ap (λ gs. gs ++ filter is_real (take (suc n) (drop p (gaps_by since None live None)))) s.closed
-              ∙ ap (λ gs. closed_gaps moves ++ filter is_real (take (suc n) (drop p gs))) (open_are moves live since s.fit s.lives s.opened) ∙ sym (all_closed_more moves move);
-          endings = a ∙ ap (λ (es : List ℕ). es ++ take n (drop p live)) s.endings ∙ ap (λ (ns : List ℕ). ended_at (steps_from [] moves) ++ take n (drop p ns)) s.lives ∙ sym (ended_more moves move);
+          closed = c ∙ ap
+              (λ gs. gs ++ filter is_real (take (suc n) (drop p (gaps_by since None live None))))
+              s.closed
+              ∙ ap (λ gs. closed_gaps moves ++ filter is_real (take (suc n) (drop p gs)))
+              (open_are moves live since s.fit s.lives s.opened)
+              ∙ sym (all_closed_more moves move);
+          endings = a ∙ ap (λ (es : List ℕ). es ++ take n (drop p live)) s.endings
+              ∙ ap (λ (ns : List ℕ). ended_at (steps_from [] moves) ++ take n (drop p ns)) s.lives
+              ∙ sym (ended_more moves move);
         }

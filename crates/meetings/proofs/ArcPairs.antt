@@ -32,7 +32,8 @@ same_place : (p q : Point) → Same (point p) (point q) → q ≡ p
 same_place p q s = same_points p q (times_one p.x q.x s.x) (times_one p.y q.y s.y)
 
 same_itself : (p q : Point) → q ≡ p → Same (point p) (point q)
-same_itself p q e = subst (λ (r : Point). Same (point p) (point r)) (sym e) (record { x = refl; y = refl })
+same_itself p q e =
+    subst (λ (r : Point). Same (point p) (point r)) (sym e) (record { x = refl; y = refl })
 
 control_is_end : (c : Curve) (p : Point) → IsControl c (point p) → IsEndOf c p
 control_is_end c p (inl s) = inl (same_place p c.from s)
@@ -51,7 +52,8 @@ beside_ends c p q r h f k = (
 
 pub at_end : (c : Curve) (p : Point) (q : Bool) → (IsTrue q ↔ IsEndOf c p) → q ≡ true
     → IsTrue (not q) ↔ IsBesideEnds c p
-at_end c p q h t = (λ n. clash (sym (ap not t) ∙ n), λ s. absurd (s.no_control (end_is_control c p (h.0 t))))
+at_end c p q h t =
+    (λ n. clash (sym (ap not t) ∙ n), λ s. absurd (s.no_control (end_is_control c p (h.0 t))))
 
 -- ---- a straight and a half arc
 no_common : (c d : Curve) (q : Bool) → (IsTrue q ↔ (IsEndOf c d.from ⊎ IsEndOf c d.to)) → q ≡ false
@@ -59,12 +61,20 @@ no_common : (c d : Curve) (q : Bool) → (IsTrue q ↔ (IsEndOf c d.from ⊎ IsE
 no_common c d q h f p e (inl g) = clash (sym f ∙ h.1 (inl (subst (IsEndOf c) (sym g) e)))
 no_common c d q h f p e (inr g) = clash (sym f ∙ h.1 (inr (subst (IsEndOf c) (sym g) e)))
 
-module _ (c d : Curve) (straight : c.kind ≡ kind.Straight) (half_arc : d.kind ≡ kind.HalfArc) (q : Bool) (h : IsTrue q ↔ (IsEndOf c d.from ⊎ IsEndOf c d.to)) where
+module _ (c d : Curve) (straight : c.kind ≡ kind.Straight) (half_arc : d.kind ≡ kind.HalfArc)
+    (q : Bool) (h : IsTrue q ↔ (IsEndOf c d.from ⊎ IsEndOf c d.to)) where
   pub crossed_is : (t : Option Trial) (r : Bool) → r ≡ is_some t → q ≡ false
       → IsFirstTrial t c (arc d) → IsTrue r ↔ IsCrossedOnTrial c d
   crossed_is None r e f k = (λ t. clash (sym e ∙ t), λ s. absurd (k s.k s.within s.crossing))
   crossed_is (Some t) r e f k = (
-    λ y. record { straight = straight; half_arc = half_arc; no_common = no_common c d q h f; k = t.sixteenth; within = k.0; crossing = k.1 },
+    λ y. record {
+      straight = straight;
+      half_arc = half_arc;
+      no_common = no_common c d q h f;
+      k = t.sixteenth;
+      within = k.0;
+      crossing = k.1;
+    },
     λ s. e,
   )
 
@@ -88,18 +98,24 @@ placed_close c d a = record {
 pub on_other_side : (c h : HalfArc) (z : Vector) (w : Bool) → h ≡ c
     → (IsTrue w ↔ (pos 0 ≤ℤ bow h z)) → IsOnCircle h z
     → IsTrue (not w) ↔ (IsOnCircle c z × (bow c z <ℤ pos 0))
-on_other_side c h z w e k o = subst (λ (g : HalfArc). IsTrue (not w) ↔ (IsOnCircle g z × (bow g z <ℤ pos 0))) e (by w k)
+on_other_side c h z w e k o =
+    subst (λ (g : HalfArc). IsTrue (not w) ↔ (IsOnCircle g z × (bow g z <ℤ pos 0))) e (by w k)
   where
     by : (t : Bool) → (IsTrue t ↔ (pos 0 ≤ℤ bow h z))
         → IsTrue (not t) ↔ (IsOnCircle h z × (bow h z <ℤ pos 0))
-    by true j = (λ n. clash n, λ s. let l = s.1 in let g = j.0 refl in absurd (omega (arith, ints, l, g)))
+    by true j = (
+      λ n. clash n,
+      λ s. let l = s.1 in let g = j.0 refl in
+          absurd (omega (arith, ints, l, g)),
+    )
     by false j = (λ n. (o, below j), λ s. refl)
       where
         below : (IsTrue false ↔ (pos 0 ≤ℤ bow h z)) → bow h z <ℤ pos 0
         below j = by_sign (λ (g : pos 0 ≤ℤ bow h z). clash (j.1 g))
           where
             by_sign : ((pos 0 ≤ℤ bow h z) → bow h z <ℤ pos 0) → bow h z <ℤ pos 0
-            by_sign f = by_lt_z (bow h z) (pos 0) (λ (l : bow h z <ℤ pos 0). l) (λ (g : pos 0 ≤ℤ bow h z). f g)
+            by_sign f = by_lt_z (bow h z) (pos 0) (λ (l : bow h z <ℤ pos 0). l)
+                (λ (g : pos 0 ≤ℤ bow h z). f g)
 
 -- ---- the four ways
 not_straights : (c d : Curve) → c.kind ≡ kind.Straight → d.kind ≡ kind.Straight → HaveHalfArc c d

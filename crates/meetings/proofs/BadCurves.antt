@@ -18,13 +18,25 @@ bad_back edges a b h = record {
   first = h.second;
   second = h.first;
   differ = λ q. h.differ (sym q);
-  bad = record { at = h.bad.at; place = h.bad.place; of_first = h.bad.of_second; of_second = h.bad.of_first; no_end = λ c. h.bad.no_end (record { at = c.at; of_first = c.of_second; of_second = c.of_first; is = c.is }) };
+  bad = record {
+    at = h.bad.at;
+    place = h.bad.place;
+    of_first = h.bad.of_second;
+    of_second = h.bad.of_first;
+    no_end = λ c. h.bad.no_end (record {
+      at = c.at;
+      of_first = c.of_second;
+      of_second = c.of_first;
+      is = c.is;
+    });
+  };
 }
 
 pub not_half_arc : (c : Curve) → c.kind ≡ kind.Straight → c.kind ≡ kind.HalfArc → ⊥
 not_half_arc c s h = cc
 
-module _ (d : Plan) (edges : List Edge) (straights : AreStraights d.curves) (e : AreEdgesTo d.curves (length d.curves) edges) where
+module _ (d : Plan) (edges : List Edge) (straights : AreStraights d.curves)
+    (e : AreEdgesTo d.curves (length d.curves) edges) where
   known : (i : ℕ) → i < length edges → i < length d.curves
   known i l = let z = e.size in omega (arith, l, z)
 
@@ -35,10 +47,14 @@ module _ (d : Plan) (edges : List Edge) (straights : AreStraights d.curves) (e :
   pair_is_bad a b h l = record {
     order = l;
     there = known b h.second;
-    bad = straights_meet ((bad_edges_is (edge_of edges a) (edge_of edges b) (curve d a) (curve d b) (e.ends a (known a h.first)) (e.ends b (known b h.second)) (straights a (known a h.first)) (straights b (known b h.second))).0 h.bad);
+    bad = straights_meet
+        ((bad_edges_is (edge_of edges a) (edge_of edges b) (curve d a) (curve d b)
+        (e.ends a (known a h.first)) (e.ends b (known b h.second)) (straights a (known a h.first))
+        (straights b (known b h.second))).0 h.bad);
   }
 
-  pub none_is_bad : ((a b : ℕ) → a < length edges → b < length edges → (a ≡ b → ⊥) → Bad (edge_of edges a) (edge_of edges b) → ⊥)
+  pub none_is_bad : ((a b : ℕ) → a < length edges → b < length edges → (a ≡ b → ⊥)
+      → Bad (edge_of edges a) (edge_of edges b) → ⊥)
       → (i j : ℕ) → IsBadPair d i j → ⊥
   none_is_bad clear i j p = by_cases p.bad
     where
@@ -53,9 +69,15 @@ module _ (d : Plan) (edges : List Edge) (straights : AreStraights d.curves) (e :
 
       by_cases : CurvesAreBad (curve d i) (curve d j) → ⊥
       by_cases (straights_meet h) =
-          clear i j (within i first) (within j p.there) (λ q. let o = p.order in omega (arith, o, q))
-          ((bad_edges_is (edge_of edges i) (edge_of edges j) (curve d i) (curve d j) (e.ends i first) (e.ends j p.there) straight_first straight_second).1 h)
-      by_cases (end_meets h) = elim h.half_arc [ inl q ↦ not_half_arc (curve d i) straight_first q | inr q ↦ not_half_arc (curve d j) straight_second q ]
+          clear i j (within i first) (within j p.there) (λ q. let o = p.order in
+          omega (arith, o, q))
+          ((bad_edges_is (edge_of edges i) (edge_of edges j) (curve d i) (curve d j)
+          (e.ends i first) (e.ends j p.there) straight_first straight_second).1 h)
+      by_cases (end_meets h) =
+          elim h.half_arc [
+            | inl q ↦ not_half_arc (curve d i) straight_first q
+            | inr q ↦ not_half_arc (curve d j) straight_second q
+          ]
       by_cases (crossed (inl h)) = not_half_arc (curve d j) straight_second h.half_arc
       by_cases (crossed (inr h)) = not_half_arc (curve d i) straight_first h.half_arc
       by_cases (one_arc h) = not_half_arc (curve d i) straight_first h.first

@@ -22,10 +22,15 @@ pub facing_is : (c : Curve) (x y : ℤ) → x ≡ (c.third.x -ℤ c.from.x) *ℤ
     → y ≡ (c.third.y -ℤ c.from.y) *ℤ (c.third.y -ℤ c.to.y) → facing (arc c) ≡ x +ℤ y
 unfolding facing
 facing_is c x y e f =
-    let FX = at 0 in let FY = at 1 in let TX = at 2 in let TY = at 3 in let X = at 4 in let Y = at 5 in
-    let r = ring (plus (times (minus X FX) (minus (minus X FX) (minus TX FX))) (times (minus Y FY) (minus (minus Y FY) (minus TY FY))))
-    (plus (times (minus X FX) (minus X TX)) (times (minus Y FY) (minus Y TY))) (vars (c.from.x ∷ c.from.y ∷ c.to.x ∷ c.to.y ∷ c.third.x ∷ c.third.y ∷ [])) refl in
-    r ∙ ap (λ (z : ℤ). z +ℤ ((c.third.y -ℤ c.from.y) *ℤ (c.third.y -ℤ c.to.y))) (sym e) ∙ ap (λ (z : ℤ). x +ℤ z) (sym f)
+    let FX = at 0 in
+    let FY = at 1 in let TX = at 2 in let TY = at 3 in let X = at 4 in let Y = at 5 in
+    let r = ring
+    (plus (times (minus X FX) (minus (minus X FX) (minus TX FX)))
+    (times (minus Y FY) (minus (minus Y FY) (minus TY FY))))
+    (plus (times (minus X FX) (minus X TX)) (times (minus Y FY) (minus Y TY)))
+    (vars (c.from.x ∷ c.from.y ∷ c.to.x ∷ c.to.y ∷ c.third.x ∷ c.third.y ∷ [])) refl in
+    r ∙ ap (λ (z : ℤ). z +ℤ ((c.third.y -ℤ c.from.y) *ℤ (c.third.y -ℤ c.to.y))) (sym e)
+    ∙ ap (λ (z : ℤ). x +ℤ z) (sym f)
 
 times_one : (a : ℤ) → (a *ℤ pos 1) ≡ a
 times_one a = omega (arith, ints)
@@ -50,11 +55,17 @@ between a b z h k l m = omega (arith, ints, h, k, l, m)
 
 pub inside_short : (low high p : Point) → IsShort low → IsShort high → IsInside low high p
     → IsShort p
-inside_short low high p a b i = record { x = between low.x high.x p.x a.x b.x i.left i.right; y = between low.y high.y p.y a.y b.y i.bottom i.top }
+inside_short low high p a b i = record {
+  x = between low.x high.x p.x a.x b.x i.left i.right;
+  y = between low.y high.y p.y a.y b.y i.bottom i.top;
+}
 
 pub beyond : (p : Point) (x y left right under over : ℤ) → (left +ℤ x) ≤ℤ p.x → (p.x +ℤ x) ≤ℤ right
     → (under +ℤ y) ≤ℤ p.y → (p.y +ℤ y) ≤ℤ over
-    → GoesBeyond p x y (record { low = record { x = left; y = under }; high = record { x = right; y = over } })
+    → GoesBeyond p x y (record {
+      low = record { x = left; y = under };
+      high = record { x = right; y = over };
+    })
 beyond p x y left right under over h k l m = record { left = h; right = k; under = l; over = m }
 
 pub sum_fits : (x y : ℤ) → IsWithin (2 ^ 82) x → IsWithin (2 ^ 82) y → FitsSigned w128 (x +ℤ y)

@@ -44,9 +44,15 @@ none_yet curves edges numbers e f =
 
 kept : (curves : List Curve) (k : ℕ) (e : Edge) (n : ℕ) → IsStraightEdge curves k e n
     → IsStraightEdge curves (k + 1) e n
-kept curves k e n s = record { known = (let l = s.known in omega (arith, l)); kind = s.kind; sorted = s.sorted; ends = s.ends }
+kept curves k e n s = record {
+  known = (let l = s.known in omega (arith, l));
+  kind = s.kind;
+  sorted = s.sorted;
+  ends = s.ends;
+}
 
-module _ (curves : List Curve) (k : ℕ) (edges : List Edge) (numbers : List ℕ) (a : AreStraightsTo curves k edges numbers) where
+module _ (curves : List Curve) (k : ℕ) (edges : List Edge) (numbers : List ℕ)
+    (a : AreStraightsTo curves k edges numbers) where
   pub passed_over : ((curve_of curves k).kind ≡ kind.Straight → ⊥)
       → AreStraightsTo curves (k + 1) edges numbers
   passed_over n = record {
@@ -54,10 +60,13 @@ module _ (curves : List Curve) (k : ℕ) (edges : List Edge) (numbers : List ℕ
     few = (let f = a.few in omega (arith, f));
     each = λ m l. kept curves k (edge_of edges m) (number_of numbers m) (a.each m l);
     rising = a.rising;
-    whole = λ i l s. by_lt i k (λ (b : i < k). a.whole i b s) (λ (b : k ≤ i). absurd (n (subst (λ (j : ℕ). (curve_of curves j).kind ≡ kind.Straight) (last i k l b) s)));
+    whole = λ i l s. by_lt i k (λ (b : i < k). a.whole i b s)
+        (λ (b : k ≤ i). absurd
+        (n (subst (λ (j : ℕ). (curve_of curves j).kind ≡ kind.Straight) (last i k l b) s)));
   }
 
-  module _ (e : Edge) (new : List Edge) (more : List ℕ) (q : new ≡ edges ++ e ∷ []) (r : more ≡ numbers ++ k ∷ []) where
+  module _ (e : Edge) (new : List Edge) (more : List ℕ) (q : new ≡ edges ++ e ∷ [])
+      (r : more ≡ numbers ++ k ∷ []) where
     new_size : length new ≡ length edges + 1
     new_size = ap length q ∙ length-append edges (e ∷ [])
 
@@ -68,13 +77,17 @@ module _ (curves : List Curve) (k : ℕ) (edges : List Edge) (numbers : List ℕ
     edge_front m l = ap (λ es. edge_of es m) q ∙ get_or_append_left edges (e ∷ []) no_edge m l
 
     edge_back : (m : ℕ) → m ≡ length edges → edge_of new m ≡ e
-    edge_back m l = ap (λ es. edge_of es m) q ∙ ap (λ (j : ℕ). edge_of (edges ++ e ∷ []) j) l ∙ get_or-append_seam edges e [] no_edge
+    edge_back m l = ap (λ es. edge_of es m) q ∙ ap (λ (j : ℕ). edge_of (edges ++ e ∷ []) j) l
+        ∙ get_or-append_seam edges e [] no_edge
 
     number_front : (m : ℕ) → m < length edges → number_of more m ≡ number_of numbers m
-    number_front m l = ap (λ ns. number_of ns m) r ∙ get_or_append_left numbers (k ∷ []) 0 m (let z = a.size in omega (arith, l, z))
+    number_front m l = ap (λ ns. number_of ns m) r
+        ∙ get_or_append_left numbers (k ∷ []) 0 m (let z = a.size in omega (arith, l, z))
 
     number_back : (m : ℕ) → m ≡ length edges → number_of more m ≡ k
-    number_back m l = ap (λ ns. number_of ns m) r ∙ ap (λ (j : ℕ). number_of (numbers ++ k ∷ []) j) (l ∙ sym a.size) ∙ get_or-append_seam numbers k [] 0
+    number_back m l = ap (λ ns. number_of ns m) r
+        ∙ ap (λ (j : ℕ). number_of (numbers ++ k ∷ []) j) (l ∙ sym a.size)
+        ∙ get_or-append_seam numbers k [] 0
 
     pub one_more : (curve_of curves k).kind ≡ kind.Straight → Before e.low e.high
         → IsEdgeOf e (curve_of curves k) → AreStraightsTo curves (k + 1) new more
@@ -82,16 +95,33 @@ module _ (curves : List Curve) (k : ℕ) (edges : List Edge) (numbers : List ℕ
       size = (let z = a.size in let x = new_size in let y = more_size in omega (arith, x, y, z));
       few = (let f = a.few in let x = new_size in omega (arith, f, x));
       each = λ m l. by_lt m (length edges)
-          (λ (g : m < length edges). subst (λ (x : Edge). IsStraightEdge curves (k + 1) x (number_of more m)) (sym (edge_front m g))
-          (subst (λ (x : ℕ). IsStraightEdge curves (k + 1) (edge_of edges m) x) (sym (number_front m g)) (kept curves k (edge_of edges m) (number_of numbers m) (a.each m g))))
-          (λ (g : length edges ≤ m). let p = at_end m l g in subst (λ (x : Edge). IsStraightEdge curves (k + 1) x (number_of more m)) (sym (edge_back m p))
-          (subst (λ (x : ℕ). IsStraightEdge curves (k + 1) e x) (sym (number_back m p)) (record { known = omega arith; kind = s; sorted = b; ends = ends })));
+          (λ (g : m < length edges). subst
+          (λ (x : Edge). IsStraightEdge curves (k + 1) x (number_of more m))
+          (sym (edge_front m g))
+          (subst (λ (x : ℕ). IsStraightEdge curves (k + 1) (edge_of edges m) x)
+          (sym (number_front m g))
+          (kept curves k (edge_of edges m) (number_of numbers m) (a.each m g))))
+          (λ (g : length edges ≤ m). let p = at_end m l g in
+          subst (λ (x : Edge). IsStraightEdge curves (k + 1) x (number_of more m))
+          (sym (edge_back m p))
+          (subst (λ (x : ℕ). IsStraightEdge curves (k + 1) e x) (sym (number_back m p))
+          (record { known = omega arith; kind = s; sorted = b; ends = ends })));
       rising = λ m n l g. by_lt n (length edges)
-          (λ (h : n < length edges). let x = number_front m (omega (arith, l, h)) in let y = number_front n h in let z = a.size in let w = a.rising m n l (omega (arith, h, z)) in omega (arith, x, y, w))
-          (λ (h : length edges ≤ n). let y = number_back n (at_last n g h) in let mm = front_of m n l g in let x = number_front m mm in let w = (a.each m mm).known in omega (arith, x, y, w));
+          (λ (h : n < length edges). let x = number_front m (omega (arith, l, h)) in
+          let y = number_front n h in let z = a.size in
+          let w = a.rising m n l (omega (arith, h, z)) in omega (arith, x, y, w))
+          (λ (h : length edges ≤ n). let y = number_back n (at_last n g h) in
+          let mm = front_of m n l g in let x = number_front m mm in
+          let w = (a.each m mm).known in omega (arith, x, y, w));
       whole = λ i l t. by_lt i k
-          (λ (g : i < k). let (m, lm, em) = a.whole i g t in (m, let x = new_size in omega (arith, lm, x), number_front m lm ∙ em))
-          (λ (g : k ≤ i). (length edges, let x = new_size in omega (arith, x), number_back (length edges) refl ∙ sym (last i k l g)));
+          (λ (g : i < k). let (m, lm, em) = a.whole i g t in
+          (m, let x = new_size in omega (arith, lm, x), number_front m lm ∙ em))
+          (λ (g : k ≤ i). (
+            length edges,
+            let x = new_size in
+                omega (arith, x),
+            number_back (length edges) refl ∙ sym (last i k l g),
+          ));
     }
       where
         at_end : (m : ℕ) → m < length new → length edges ≤ m → m ≡ length edges
@@ -104,59 +134,84 @@ module _ (curves : List Curve) (k : ℕ) (edges : List Edge) (numbers : List ℕ
         front_of m n l g = let x = more_size in let z = a.size in omega (arith, l, g, x, z)
 
 -- as the loop lends the curves
-pub more_lent : (lent curves : List Curve) (k : ℕ) (edges : List Edge) (numbers : List ℕ) (e : Edge) (new : List Edge) (more : List ℕ)
+pub more_lent : (lent curves : List Curve) (k : ℕ) (edges : List Edge) (numbers : List ℕ) (e : Edge)
+    (new : List Edge) (more : List ℕ)
     → lent ≡ curves → AreStraightsTo curves k edges numbers → new ≡ edges ++ e ∷ []
     → more ≡ numbers ++ k ∷ []
-    → (curve_of lent k).kind ≡ kind.Straight → Before e.low e.high → IsEdgeOf e (curve_of lent k) → AreStraightsTo curves (k + 1) new more
+    → (curve_of lent k).kind ≡ kind.Straight → Before e.low e.high → IsEdgeOf e (curve_of lent k)
+    → AreStraightsTo curves (k + 1) new more
 more_lent lent curves k edges numbers e new more v a q r s b ends =
-    one_more curves k edges numbers a e new more q r (subst (λ (cs : List Curve). (curve_of cs k).kind ≡ kind.Straight) v s) b (subst (λ (cs : List Curve). IsEdgeOf e (curve_of cs k)) v ends)
+    one_more curves k edges numbers a e new more q r
+    (subst (λ (cs : List Curve). (curve_of cs k).kind ≡ kind.Straight) v s) b
+    (subst (λ (cs : List Curve). IsEdgeOf e (curve_of cs k)) v ends)
 
-pub over_lent : (lent curves : List Curve) (k : ℕ) (edges : List Edge) (numbers : List ℕ) (new : List Edge) (more : List ℕ) (t : Bool)
+pub over_lent : (lent curves : List Curve) (k : ℕ) (edges : List Edge) (numbers : List ℕ)
+    (new : List Edge) (more : List ℕ) (t : Bool)
     → lent ≡ curves → AreStraightsTo curves k edges numbers → new ≡ edges → more ≡ numbers
-    → (IsTrue t ↔ ((curve_of lent k).kind ≡ kind.Straight)) → t ≡ false → AreStraightsTo curves (k + 1) new more
+    → (IsTrue t ↔ ((curve_of lent k).kind ≡ kind.Straight)) → t ≡ false
+    → AreStraightsTo curves (k + 1) new more
 over_lent lent curves k edges numbers new more t v a q r h f =
     subst (λ (es : List Edge). AreStraightsTo curves (k + 1) es more) (sym q)
     (subst (λ (ns : List ℕ). AreStraightsTo curves (k + 1) edges ns) (sym r)
-    (passed_over curves k edges numbers a (λ s. clash (sym f ∙ h.1 (subst (λ (cs : List Curve). (curve_of cs k).kind ≡ kind.Straight) (sym v) s)))))
+    (passed_over curves k edges numbers a
+    (λ s. clash (sym f
+    ∙ h.1 (subst (λ (cs : List Curve). (curve_of cs k).kind ≡ kind.Straight) (sym v) s)))))
 
 pub whole_list : (curves : List Curve) (k : ℕ) (edges : List Edge) (numbers : List ℕ)
     → length curves ≤ k → k ≤ length curves → AreStraightsTo curves k edges numbers
     → AreStraightsTo curves (length curves) edges numbers
-whole_list curves k edges numbers l m a = subst (λ (n : ℕ). AreStraightsTo curves n edges numbers) (omega (arith, l, m)) a
+whole_list curves k edges numbers l m a =
+    subst (λ (n : ℕ). AreStraightsTo curves n edges numbers) (omega (arith, l, m)) a
 
 -- ---- the edges of a window
-module _ (low high : Point) (curves : List Curve) (edges : List Edge) (numbers : List ℕ) (n : IsNarrow low high) (drawn : All (IsDrawn low high) curves) (a : AreStraightsTo curves (length curves) edges numbers) where
+module _ (low high : Point) (curves : List Curve) (edges : List Edge) (numbers : List ℕ)
+    (n : IsNarrow low high) (drawn : All (IsDrawn low high) curves)
+    (a : AreStraightsTo curves (length curves) edges numbers) where
   pub all_sorted : AreSorted edges
   all_sorted m l = (a.each m l).sorted
 
   both_inside : (e : Edge) (c : Curve) → IsDrawn low high c → IsEdgeOf e c
       → IsInside low high e.low × IsInside low high e.high
-  both_inside e c d (inl q) = (subst (IsInside low high) (sym q.0) d.from, subst (IsInside low high) (sym q.1) d.to)
-  both_inside e c d (inr q) = (subst (IsInside low high) (sym q.0) d.to, subst (IsInside low high) (sym q.1) d.from)
+  both_inside e c d (inl q) =
+      (subst (IsInside low high) (sym q.0) d.from, subst (IsInside low high) (sym q.1) d.to)
+  both_inside e c d (inr q) =
+      (subst (IsInside low high) (sym q.0) d.to, subst (IsInside low high) (sym q.1) d.from)
 
   pub inside : (m : ℕ) → m < length edges
       → IsInside low high (edge_of edges m).low × IsInside low high (edge_of edges m).high
-  inside m l = let s = a.each m l in both_inside (edge_of edges m) (curve_of curves (number_of numbers m)) (drawn (number_of numbers m) _ s.known) s.ends
+  inside m l =
+      let s = a.each m l in
+      both_inside (edge_of edges m) (curve_of curves (number_of numbers m))
+      (drawn (number_of numbers m) _ s.known) s.ends
 
   pub all_close : AreAllClose edges
-  all_close i j l m = let p = inside i l in let q = inside j m in window_close low high (edge_of edges i) (edge_of edges j) n p.0 p.1 q.0 q.1
+  all_close i j l m =
+      let p = inside i l in
+      let q = inside j m in
+      window_close low high (edge_of edges i) (edge_of edges j) n p.0 p.1 q.0 q.1
 
 -- ---- pairs
-module _ (d : Plan) (edges : List Edge) (numbers : List ℕ) (e : AreStraightsTo d.curves (length d.curves) edges numbers) where
+module _ (d : Plan) (edges : List Edge) (numbers : List ℕ)
+    (e : AreStraightsTo d.curves (length d.curves) edges numbers) where
   pub pair_is_bad : (first second a b : ℕ) → AreBad edges a b → first ≡ number_of numbers a
       → second ≡ number_of numbers b → first < second → IsBadPair d first second
   pair_is_bad first second a b h f g l =
       let p = e.each a h.first in
       let q = e.each b h.second in
       let bad : CurvesAreBad (curve d (number_of numbers a)) (curve d (number_of numbers b)) =
-      straights_meet ((bad_edges_is (edge_of edges a) (edge_of edges b) (curve d (number_of numbers a)) (curve d (number_of numbers b)) p.ends q.ends p.kind q.kind).0 h.bad) in
+      straights_meet
+      ((bad_edges_is (edge_of edges a) (edge_of edges b) (curve d (number_of numbers a))
+      (curve d (number_of numbers b)) p.ends q.ends p.kind q.kind).0 h.bad) in
       record {
         order = l;
         there = (let k = q.known in omega (arith, g, k));
-        bad = subst (λ (i : ℕ). CurvesAreBad (curve d i) (curve d second)) (sym f) (subst (λ (j : ℕ). CurvesAreBad (curve d (number_of numbers a)) (curve d j)) (sym g) bad);
+        bad = subst (λ (i : ℕ). CurvesAreBad (curve d i) (curve d second)) (sym f)
+            (subst (λ (j : ℕ). CurvesAreBad (curve d (number_of numbers a)) (curve d j))
+            (sym g) bad);
       }
 
-  pub none_is_bad : ((a b : ℕ) → a < length edges → b < length edges → (a ≡ b → ⊥) → Bad (edge_of edges a) (edge_of edges b) → ⊥)
+  pub none_is_bad : ((a b : ℕ) → a < length edges → b < length edges → (a ≡ b → ⊥)
+      → Bad (edge_of edges a) (edge_of edges b) → ⊥)
       → (i j : ℕ) → AreBothStraight (curve d i) (curve d j) → IsBadPair d i j → ⊥
   none_is_bad clear i j s p = by_cases p.bad
     where
@@ -167,11 +222,19 @@ module _ (d : Plan) (edges : List Edge) (numbers : List ℕ) (e : AreStraightsTo
       by_cases (straights_meet h) =
           let (m, lm, em) = e.whole i first s.0 in
           let (n, ln, en) = e.whole j p.there s.1 in
-          let ends_m : IsEdgeOf (edge_of edges m) (curve d i) = subst (λ (k : ℕ). IsEdgeOf (edge_of edges m) (curve d k)) em (e.each m lm).ends in
-          let ends_n : IsEdgeOf (edge_of edges n) (curve d j) = subst (λ (k : ℕ). IsEdgeOf (edge_of edges n) (curve d k)) en (e.each n ln).ends in
-          clear m n lm ln (λ q. let o = p.order in let same = ap (λ (k : ℕ). number_of numbers k) q in omega (arith, o, em, en, same))
-          ((bad_edges_is (edge_of edges m) (edge_of edges n) (curve d i) (curve d j) ends_m ends_n s.0 s.1).1 h)
-      by_cases (end_meets h) = elim h.half_arc [ inl q ↦ not_half_arc (curve d i) s.0 q | inr q ↦ not_half_arc (curve d j) s.1 q ]
+          let ends_m : IsEdgeOf (edge_of edges m) (curve d i) = subst
+          (λ (k : ℕ). IsEdgeOf (edge_of edges m) (curve d k)) em (e.each m lm).ends in
+          let ends_n : IsEdgeOf (edge_of edges n) (curve d j) = subst
+          (λ (k : ℕ). IsEdgeOf (edge_of edges n) (curve d k)) en (e.each n ln).ends in
+          clear m n lm ln (λ q. let o = p.order in
+          let same = ap (λ (k : ℕ). number_of numbers k) q in omega (arith, o, em, en, same))
+          ((bad_edges_is (edge_of edges m) (edge_of edges n) (curve d i)
+          (curve d j) ends_m ends_n s.0 s.1).1 h)
+      by_cases (end_meets h) =
+          elim h.half_arc [
+            | inl q ↦ not_half_arc (curve d i) s.0 q
+            | inr q ↦ not_half_arc (curve d j) s.1 q
+          ]
       by_cases (crossed (inl h)) = not_half_arc (curve d j) s.1 h.half_arc
       by_cases (crossed (inr h)) = not_half_arc (curve d i) s.0 h.half_arc
       by_cases (one_arc h) = not_half_arc (curve d i) s.0 h.first

@@ -31,8 +31,10 @@ both_straight c d q h f = (by c.kind (λ e. inl e), by d.kind (λ e. inr e))
 -- ---- the edges
 both_inside : (low high : Point) (e : Edge) (c : Curve) → IsDrawn low high c → IsEdgeOf e c
     → IsInside low high e.low × IsInside low high e.high
-both_inside low high e c d (inl q) = (subst (IsInside low high) (sym q.0) d.from, subst (IsInside low high) (sym q.1) d.to)
-both_inside low high e c d (inr q) = (subst (IsInside low high) (sym q.0) d.to, subst (IsInside low high) (sym q.1) d.from)
+both_inside low high e c d (inl q) =
+    (subst (IsInside low high) (sym q.0) d.from, subst (IsInside low high) (sym q.1) d.to)
+both_inside low high e c d (inr q) =
+    (subst (IsInside low high) (sym q.0) d.to, subst (IsInside low high) (sym q.1) d.from)
 
 module _ (c d : Curve) (s t : Edge) (of_first : IsEdgeOf s c) (of_second : IsEdgeOf t d) where
   pub edges_close : ArePlaced c d → EdgesAreClose s t
@@ -47,7 +49,11 @@ module _ (c d : Curve) (s t : Edge) (of_first : IsEdgeOf s c) (of_second : IsEdg
     where
       by : AreBad c d → StraightsMeet c d
       by (straights_meet m) = m
-      by (end_meets m) = elim m.half_arc [ inl q ↦ absurd (not_half_arc c k.0 q) | inr q ↦ absurd (not_half_arc d k.1 q) ]
+      by (end_meets m) =
+          elim m.half_arc [
+            | inl q ↦ absurd (not_half_arc c k.0 q)
+            | inr q ↦ absurd (not_half_arc d k.1 q)
+          ]
       by (crossed (inl m)) = absurd (not_half_arc d k.1 m.half_arc)
       by (crossed (inr m)) = absurd (not_half_arc c k.0 m.half_arc)
       by (one_arc m) = absurd (not_half_arc c k.0 m.first)
@@ -59,7 +65,8 @@ pub pair_bad : (d : Plan) (i j : ℕ) (c e x y : Curve) (r : Bool) → i < j →
 pair_bad d i j c e x y r order there f g h =
     let p = f ∙ same d.curves i x _ (omega (arith, order, there)) in
     let q = g ∙ same d.curves j y _ there in
-    let k = subst (λ (z : Curve). IsTrue r ↔ AreBad (curve d i) z) q (subst (λ (z : Curve). IsTrue r ↔ AreBad z e) p h) in
+    let k = subst (λ (z : Curve). IsTrue r ↔ AreBad (curve d i) z) q
+    (subst (λ (z : Curve). IsTrue r ↔ AreBad z e) p h) in
     ((λ t. record { order = order; there = there; bad = k.0 t }), (λ b. k.1 b.bad))
   where
     same : (cs : List Curve) (i : ℕ) (x y : Curve) → i < length cs → get_or cs i x ≡ get_or cs i y

@@ -36,14 +36,20 @@ pub one_more : (boxes : List Reach) (k : ℕ) (column new : List Item) → IsCol
     → k < length boxes → new ≡ column ++ item_of k (reach_of boxes k) ∷ []
     → IsColumnTo boxes (k + 1) new
 one_more boxes k column new h m e = subst (IsColumnTo boxes (k + 1)) (sym e) (record {
-  known = All-push (λ (item : Item). item.number < length boxes) column (item_of k (reach_of boxes k)) h.known m;
+  known = All-push (λ (item : Item). item.number < length boxes) column
+      (item_of k (reach_of boxes k)) h.known m;
   whole = λ i l. by i (last_or_before i k l);
 })
   where
     by : (i : ℕ) → (i < k) ⊎ (i ≡ k)
         → Contains (column ++ item_of k (reach_of boxes k) ∷ []) (item_of i (reach_of boxes i))
-    by i (inl l) = Contains-append_left column (item_of k (reach_of boxes k) ∷ []) (item_of i (reach_of boxes i)) (h.whole i l)
-    by i (inr q) = subst (λ (j : ℕ). Contains (column ++ item_of k (reach_of boxes k) ∷ []) (item_of j (reach_of boxes j))) (sym q) (Contains-push column (item_of k (reach_of boxes k)))
+    by i (inl l) =
+        Contains-append_left column (item_of k (reach_of boxes k) ∷ [])
+        (item_of i (reach_of boxes i)) (h.whole i l)
+    by i (inr q) =
+        subst (λ (j : ℕ). Contains (column ++ item_of k (reach_of boxes k) ∷ [])
+        (item_of j (reach_of boxes j))) (sym q)
+        (Contains-push column (item_of k (reach_of boxes k)))
 
 -- ---- sorted
 not_less : (a b : ℤ) → is_lt (int_cmp b a) ≡ false → a ≤ℤ b
@@ -62,9 +68,12 @@ pub sorted_column : (boxes : List Reach) (k : ℕ) (xs ys : List Item) → lengt
     → IsColumn boxes ys
 sorted_column boxes k xs ys l h p up = record {
   rising = λ i j d m n.
-      not_less (get_or ys i d).low_x (get_or ys j d).low_x (sorted_far (λ (x y : Item). is_lt (int_cmp x.low_x y.low_x)) (ranks_by int_cmp_total low_x_of) ys up i j d (omega (arith, m)) n);
+      not_less (get_or ys i d).low_x (get_or ys j d).low_x
+      (sorted_far (λ (x y : Item). is_lt (int_cmp x.low_x y.low_x))
+      (ranks_by int_cmp_total low_x_of) ys up i j d (omega (arith, m)) n);
   known = All-permutation (λ (item : Item). item.number < length boxes) xs ys p h.known;
-  whole = λ i m. Contains-permutation xs ys (item_of i (reach_of boxes i)) p (h.whole i (omega (arith, l, m)));
+  whole = λ i m. Contains-permutation xs ys (item_of i (reach_of boxes i)) p
+      (h.whole i (omega (arith, l, m)));
 }
 
 -- ---- the marked boxes alone
@@ -73,13 +82,18 @@ marks_of marked column = filter (λ (item : Item). mark_of marked item.number) c
 
 pub marks_rise : (marked : List Bool) (column kept : List Item) → kept ≡ marks_of marked column
     → IsRising column → IsRising kept
-marks_rise marked column kept e up = subst IsRising (sym e) (AllPairs-filter (λ (a b : Item). a.low_x ≤ℤ b.low_x) (λ (item : Item). mark_of marked item.number) column up)
+marks_rise marked column kept e up =
+    subst IsRising (sym e)
+    (AllPairs-filter (λ (a b : Item). a.low_x ≤ℤ b.low_x)
+    (λ (item : Item). mark_of marked item.number) column up)
 
 pub marks_known : (marked : List Bool) (n : ℕ) (column kept : List Item)
     → kept ≡ marks_of marked column → All (λ item. item.number < n) column
     → All (λ item. item.number < n) kept
 marks_known marked n column kept e known =
-    subst (All (λ (item : Item). item.number < n)) (sym e) (All-filter (λ (item : Item). mark_of marked item.number) (λ (item : Item). item.number < n) column known)
+    subst (All (λ (item : Item). item.number < n)) (sym e)
+    (All-filter (λ (item : Item). mark_of marked item.number)
+    (λ (item : Item). item.number < n) column known)
 
 in_filter : (p : Item → Bool) (x : Item) (xs : List Item) → (k : ℕ) → k < length xs
     → get_or xs k x ≡ x → p x ≡ true → Contains (filter p xs) x
@@ -94,4 +108,6 @@ in_filter p x (y ∷ ys) (suc k) l e t = by (p y) (in_filter p x ys k (omega (ar
 pub marks_whole : (marked : List Bool) (item : Item) (column kept : List Item)
     → kept ≡ marks_of marked column → Contains column item → mark_of marked item.number ≡ true
     → Contains kept item
-marks_whole marked item column kept e (k, l, q) t = subst (λ (xs : List Item). Contains xs item) (sym e) (in_filter (λ (x : Item). mark_of marked x.number) item column k l q t)
+marks_whole marked item column kept e (k, l, q) t =
+    subst (λ (xs : List Item). Contains xs item) (sym e)
+    (in_filter (λ (x : Item). mark_of marked x.number) item column k l q t)

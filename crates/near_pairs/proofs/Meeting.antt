@@ -47,12 +47,17 @@ number_test a b c d low h k l least = (
 -- along one axis, from a place
 shared_number : (a b c d n z : ℤ) → pos 0 <ℤ n → (a *ℤ n) ≤ℤ z → z ≤ℤ (b *ℤ n) → (c *ℤ n) ≤ℤ z
     → z ≤ℤ (d *ℤ n) → ShareANumber a b c d
-shared_number a b c d n z place h k l m = number_from a b c d (at_most a b n z place h k) (at_most a d n z place h m) (at_most c b n z place l k) (at_most c d n z place l m)
+shared_number a b c d n z place h k l m =
+    number_from a b c d (at_most a b n z place h k) (at_most a d n z place h m)
+    (at_most c b n z place l k) (at_most c d n z place l m)
 
 pub shared_numbers : (a b : Box) → ShareAPlace a b
-    → ShareANumber a.low.x a.high.x b.low.x b.high.x × ShareANumber a.low.y a.high.y b.low.y b.high.y
-shared_numbers a b (z, place, p, q) =
-    (shared_number a.low.x a.high.x b.low.x b.high.x z.n z.x place p.left p.right q.left q.right, shared_number a.low.y a.high.y b.low.y b.high.y z.n z.y place p.under p.over q.under q.over)
+    → ShareANumber a.low.x a.high.x b.low.x b.high.x
+    × ShareANumber a.low.y a.high.y b.low.y b.high.y
+shared_numbers a b (z, place, p, q) = (
+  shared_number a.low.x a.high.x b.low.x b.high.x z.n z.x place p.left p.right q.left q.right,
+  shared_number a.low.y a.high.y b.low.y b.high.y z.n z.y place p.under p.over q.under q.over,
+)
 
 times_one : (a : ℤ) → (a *ℤ pos 1) ≡ a
 times_one a = omega (arith, ints)
@@ -69,6 +74,16 @@ shared_place a b (x, xa, xb, xc, xd) (y, ya, yb, yc, yd) =
     let z : Vector = record { x = x; y = y; n = pos 1 } in (
       z,
       omega (arith, ints),
-      record { left = one_below a.low.x x xa; right = one_above a.high.x x xb; under = one_below a.low.y y ya; over = one_above a.high.y y yb },
-      record { left = one_below b.low.x x xc; right = one_above b.high.x x xd; under = one_below b.low.y y yc; over = one_above b.high.y y yd },
+      record {
+        left = one_below a.low.x x xa;
+        right = one_above a.high.x x xb;
+        under = one_below a.low.y y ya;
+        over = one_above a.high.y y yb;
+      },
+      record {
+        left = one_below b.low.x x xc;
+        right = one_above b.high.x x xd;
+        under = one_below b.low.y y yc;
+        over = one_above b.high.y y yd;
+      },
     )

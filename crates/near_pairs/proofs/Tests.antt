@@ -10,7 +10,9 @@ below_true a b h = by (int_lt a b) refl
   where
     by : (t : Bool) → int_lt a b ≡ t → t ≡ true
     by true e = refl
-    by false e = let n : b ≤ℤ a = lt_z_no (subst (λ (t : Bool). T (not t)) (sym e) tt) in absurd (omega (arith, ints, h, n))
+    by false e =
+        let n : b ≤ℤ a = lt_z_no (subst (λ (t : Bool). T (not t)) (sym e) tt) in
+        absurd (omega (arith, ints, h, n))
 
 pub below_false : (a b : ℤ) → b ≤ℤ a → int_lt a b ≡ false
 below_false a b h = by (int_lt a b) refl

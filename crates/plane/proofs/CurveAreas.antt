@@ -1,4 +1,5 @@
--- Faces of a drawing with half arcs: labels and face numbers tell joined and outer places, points and sides.
+-- Faces of a drawing with half arcs: labels and face numbers tell joined and outer places, points
+-- and sides.
 -- Main lemmas: `TubedPartition`, that a certificate proves the rule, and `TubedCompleteness`.
 -- Serves the laws `arc_areas` and `cuts`.
 pub mod TubedFaces

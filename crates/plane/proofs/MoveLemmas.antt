@@ -1,4 +1,5 @@
--- Events with their positions make the steps of a replay, and the timetable of edges is the only one.
+-- Events with their positions make the steps of a replay, and the timetable of edges is the only
+-- one.
 -- Main lemma: `TimetableRuns`, that moves which pass their tests are a complete run.
 -- Serves the law `moves`.
 pub mod MadeSteps

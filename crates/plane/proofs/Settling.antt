@@ -1,4 +1,5 @@
--- When the edges of a drawing with half arcs settle it, and what face numbers then say of the tubes.
+-- When the edges of a drawing with half arcs settle it, and what face numbers then say of the
+-- tubes.
 -- Main lemmas: `RunFaces`, that face numbers of a settled run are labels, and `LabelsSettle`.
 -- Serves the law `settled`.
 pub mod EdgesAndTubes

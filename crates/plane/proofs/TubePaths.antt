@@ -1,4 +1,5 @@
--- Paths of a run with tubes are paths of the drawing, and each side of a half arc in its tube is one piece.
+-- Paths of a run with tubes are paths of the drawing, and each side of a half arc in its tube is
+-- one piece.
 -- Main lemmas: `Extended`, that a path keeps the label of its places, and `WaysOut`.
 -- Serves the laws `arc_drawings::places_have_labels` and `arc_areas::ways_lead_out_of_tubes`.
 pub mod Bounding

@@ -1,4 +1,5 @@
--- The half-edges round an event in their order, which one comes next, and the classes that this makes.
+-- The half-edges round an event in their order, which one comes next, and the classes that this
+-- makes.
 -- Main lemmas: `NextExists` and `NextOnly`.
 -- Serves the law `rotation`.
 pub mod ListPlaces

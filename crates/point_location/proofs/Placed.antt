@@ -24,13 +24,21 @@ compare : (i k : ℕ) → i < k + 1 → (i < k) ⊎ (i ≡ k)
 compare zero zero l = inr refl
 compare zero (suc k) l = inl (omega arith)
 compare (suc i) zero l = absurd (omega (arith, l))
-compare (suc i) (suc k) l = elim (compare i k (omega (arith, l))) [ inl h ↦ inl (omega (arith, h)) | inr q ↦ inr (ap (λ (n : ℕ). suc n) q) ]
+compare (suc i) (suc k) l =
+    elim (compare i k (omega (arith, l))) [
+      | inl h ↦ inl (omega (arith, h))
+      | inr q ↦ inr (ap (λ (n : ℕ). suc n) q)
+    ]
 
 same_or : (i k : ℕ) → (i ≡ k) ⊎ (i ≡ k → ⊥)
 same_or zero zero = inl refl
 same_or zero (suc k) = inr (λ (e : zero ≡ suc k). omega (arith, e))
 same_or (suc i) zero = inr (λ (e : suc i ≡ zero). omega (arith, e))
-same_or (suc i) (suc k) = elim (same_or i k) [ inl e ↦ inl (ap (λ (n : ℕ). suc n) e) | inr f ↦ inr (λ (e : suc i ≡ suc k). f (omega (arith, e))) ]
+same_or (suc i) (suc k) =
+    elim (same_or i k) [
+      | inl e ↦ inl (ap (λ (n : ℕ). suc n) e)
+      | inr f ↦ inr (λ (e : suc i ≡ suc k). f (omega (arith, e)))
+    ]
 
 written : (places : List Place) (n : ℕ) (a : Place) → n < length places
     → get_or (set places n a) n no_place ≡ a
@@ -40,24 +48,34 @@ kept : (places : List Place) (n i : ℕ) (a : Place) → (i ≡ n → ⊥)
     → get_or (set places n a) i no_place ≡ get_or places i no_place
 kept places n i a f = rw get_or-set_other refl
 
-module _ (P : Point → Place → Type 0) (points : List Point) (order : List Numbered) (o : IsInOrder points order) (places : List Place) (size : length places ≡ length points) (k : ℕ) (l : k < length order) (a : Place) (here : P (get_or order k nothing).at a)
-    (each : (i : ℕ) → i < k → P (get_or order i nothing).at (get_or places (get_or order i nothing).number no_place)) where
+module _ (P : Point → Place → Type 0) (points : List Point) (order : List Numbered)
+    (o : IsInOrder points order) (places : List Place) (size : length places ≡ length points)
+    (k : ℕ) (l : k < length order) (a : Place) (here : P (get_or order k nothing).at a)
+    (each : (i : ℕ) → i < k
+    → P (get_or order i nothing).at
+    (get_or places (get_or order i nothing).number no_place)) where
   pub placed_next : (i : ℕ) → i < k + 1
-      → P (get_or order i nothing).at (get_or (set places (get_or order k nothing).number a) (get_or order i nothing).number no_place)
+      → P (get_or order i nothing).at
+      (get_or (set places (get_or order k nothing).number a)
+      (get_or order i nothing).number no_place)
   placed_next i h =
       let n = (get_or order k nothing).number in
       let w : n < length places = let b = o.known k l in omega (arith, b, size) in
       elim (same_or (get_or order i nothing).number n) [
         | inl e ↦
             let m : i < length order = omega (arith, h, l) in
-            let at : (get_or order i nothing).at ≡ (get_or order k nothing).at = o.is i m ∙ ap (λ (j : ℕ). get_or points j no_point) e ∙ sym (o.is k l) in
-            subst (λ q. P q (get_or (set places n a) (get_or order i nothing).number no_place)) (sym at)
-            (subst (λ (j : ℕ). P (get_or order k nothing).at (get_or (set places n a) j no_place)) (sym e)
+            let at : (get_or order i nothing).at ≡ (get_or order k nothing).at = o.is i m
+            ∙ ap (λ (j : ℕ). get_or points j no_point) e ∙ sym (o.is k l) in
+            subst (λ q. P q (get_or (set places n a) (get_or order i nothing).number no_place))
+            (sym at)
+            (subst (λ (j : ℕ). P (get_or order k nothing).at (get_or (set places n a) j no_place))
+            (sym e)
             (subst (λ b. P (get_or order k nothing).at b) (sym (written places n a w)) here))
-        | inr f ↦ subst (λ b. P (get_or order i nothing).at b) (sym (kept places n (get_or order i nothing).number a f)) (elim (compare i k h) [
-          | inl b ↦ each i b
-          | inr q ↦ absurd (f (ap (λ (j : ℕ). (get_or order j nothing).number) q))
-        ])
+        | inr f ↦ subst (λ b. P (get_or order i nothing).at b)
+            (sym (kept places n (get_or order i nothing).number a f)) (elim (compare i k h) [
+              | inl b ↦ each i b
+              | inr q ↦ absurd (f (ap (λ (j : ℕ). (get_or order j nothing).number) q))
+            ])
       ]
 
 -- what comes before a point comes before the next one
@@ -66,7 +84,8 @@ pub before_next : (points : List Point) (order : List Numbered) → IsInOrder po
     → Before p (get_or order (k + 1) nothing).at
 before_next points order o k l p b =
     subst (λ (n : ℕ). Before p (get_or order n nothing).at) (sym (add-one k))
-    (weaker p (get_or order k nothing).at (get_or order (suc k) nothing).at b (o.rising k (omega (arith, l))))
+    (weaker p (get_or order k nothing).at (get_or order (suc k) nothing).at b
+    (o.rising k (omega (arith, l))))
   where
     x_less : (p q r : Point) → Before p q → q.x <ℤ r.x → p.x <ℤ r.x
     x_less p q r (inl a) k = omega (arith, ints, a, k)
@@ -91,7 +110,9 @@ before_next points order o k l p b =
 -- all that is applied comes before the point
 pub moment_at : (moves : List Move) (applied k : ℕ) (now : List ℕ) (at : Point)
     → ((j : ℕ) → j < applied → Before (get_or moves j no_move).at at)
-    → IsApplied moves k now → ((j : ℕ) → applied ≤ j → j < k → Before (get_or moves j no_move).at at) → (k < length moves → Before (get_or moves k no_move).at at → ⊥)
+    → IsApplied moves k now
+    → ((j : ℕ) → applied ≤ j → j < k → Before (get_or moves j no_move).at at)
+    → (k < length moves → Before (get_or moves k no_move).at at → ⊥)
     → IsMoment moves k now at
 moment_at moves applied k now at early a f g = record {
   known = a.known;
@@ -108,39 +129,60 @@ are_equal p q = int_eq p.x q.x && int_eq p.y q.y
 again : (last : Option Point) (at : Point) (r : Bool) → r ≡ not (option_eq are_equal last (Some at))
     → r ≡ false → last ≡ Some at
 again None at r e f = cc
-again (Some p) at r e f = ap (λ (q : Point). Some q) ((decides_equal p at (are_equal p at) refl).0 (by (are_equal p at) (sym e ∙ f)))
+again (Some p) at r e f =
+    ap (λ (q : Point). Some q)
+    ((decides_equal p at (are_equal p at) refl).0 (by (are_equal p at) (sym e ∙ f)))
   where
     by : (b : Bool) → not b ≡ false → b ≡ true
     by true h = refl
     by false h = cc
 
 -- All that is applied comes before the point, and the place is its own and that of the last point.
-pub record IsReady (edges : List Edge) (moves : List Move) (at : Point) (applied : ℕ) (live : List ℕ) (last : Option Point) (place : Place) : Type 0 where
+pub record IsReady (edges : List Edge) (moves : List Move) (at : Point) (applied : ℕ)
+    (live : List ℕ) (last : Option Point) (place : Place) : Type 0 where
   pub done : IsApplied moves applied live
   pub passed : (j : ℕ) → j < applied → Before (get_or moves j no_move).at at
   pub here : IsPlaceOf edges moves at place
   pub last_is : IfSome last (λ p. IsPlaceOf edges moves p place)
 
-module _ (edges : List Edge) (moves : List Move) (at : Point) (applied : ℕ) (live : List ℕ) (place : Place) where
+module _ (edges : List Edge) (moves : List Move) (at : Point) (applied : ℕ) (live : List ℕ)
+    (place : Place) where
   pub ready_anew : IsMoment moves applied live at → IsPlaceOf edges moves at place
       → IsReady edges moves at applied live (Some at) place
-  ready_anew m h = record { done = record { known = m.known; values = m.values }; passed = m.passed; here = h; last_is = h }
+  ready_anew m h = record {
+    done = record { known = m.known; values = m.values };
+    passed = m.passed;
+    here = h;
+    last_is = h;
+  }
 
   pub ready_again : (last : Option Point) (r : Bool) → IsApplied moves applied live
       → ((j : ℕ) → j < applied → Before (get_or moves j no_move).at at)
       → IfSome last (λ p. IsPlaceOf edges moves p place)
-      → r ≡ not (option_eq are_equal last (Some at)) → r ≡ false → IsReady edges moves at applied live last place
+      → r ≡ not (option_eq are_equal last (Some at)) → r ≡ false
+      → IsReady edges moves at applied live last place
   ready_again last r a f h e n =
-      record { done = a; passed = f; here = subst (λ (q : Option Point). IfSome q (λ p. IsPlaceOf edges moves p place)) (again last at r e n) h; last_is = h }
+      record {
+        done = a;
+        passed = f;
+        here = subst (λ (q : Option Point). IfSome q (λ p. IsPlaceOf edges moves p place))
+            (again last at r e n) h;
+        last_is = h;
+      }
 
-pub placed_all : (edges : List Edge) (moves : List Move) (points : List Point) (order : List Numbered) (places : List Place) (k : ℕ)
+pub placed_all : (edges : List Edge) (moves : List Move) (points : List Point)
+    (order : List Numbered) (places : List Place) (k : ℕ)
     → IsInOrder points order → length order ≤ k → length places ≡ length points
-    → ((i : ℕ) → i < k → IsPlaceOf edges moves (get_or order i nothing).at (get_or places (get_or order i nothing).number no_place)) → ArePlaces edges moves points places
+    → ((i : ℕ) → i < k
+    → IsPlaceOf edges moves (get_or order i nothing).at
+    (get_or places (get_or order i nothing).number no_place))
+    → ArePlaces edges moves points places
 placed_all edges moves points order places k o l size each = record {
   size = size;
   each = λ j h.
       let (i, b, e) = o.all j h in
       let at = o.is i b ∙ ap (λ (n : ℕ). get_or points n no_point) e in
       subst (λ q. IsPlaceOf edges moves q (get_or places j no_place)) at
-      (subst (λ (n : ℕ). IsPlaceOf edges moves (get_or order i nothing).at (get_or places n no_place)) e (each i (omega (arith, b, l))));
+      (subst (λ (n : ℕ). IsPlaceOf edges moves (get_or order i nothing).at
+      (get_or places n no_place)) e (each i (omega (arith, b, l))));
 }

@@ -29,19 +29,26 @@ use Rattle.point_location.proofs.Moments.{done_before, todo_after}
 pub event_fits : (vs : List Move) (k : ℕ) (now : List ℕ) (v : Point) → IsMoment vs k now v
     → Fit [] vs → k < length vs
     → (get_or vs k no_move).position + (get_or vs k no_move).ending ≤ length now
-event_fits vs k now v at fit l = subst (λ (xs : List ℕ). (get_or vs k no_move).position + (get_or vs k no_move).ending ≤ length xs) (sym at.values) (fits_at [] vs k fit l)
+event_fits vs k now v at fit l =
+    subst (λ (xs : List ℕ). (get_or vs k no_move).position
+    + (get_or vs k no_move).ending ≤ length xs) (sym at.values) (fits_at [] vs k fit l)
 
 at_is : (xs : List ℕ) (i e : ℕ) → At xs i e → (i < length xs) × (e ≡ get_or xs i 0)
 at_is [] i e h = absurd h
 at_is (x ∷ xs) zero e h = (omega arith, h)
 at_is (x ∷ xs) (suc i) e h = let r = at_is xs i e h in (let l = r.0 in omega (arith, l), r.1)
 
-module _ (edges : List Edge) (vs : List Move) (run : Run (length edges) (edge_of edges) (steps_from [] vs)) (k : ℕ) (now : List ℕ) (v : Point) (at : IsMoment vs k now v) where
+module _ (edges : List Edge) (vs : List Move)
+    (run : Run (length edges) (edge_of edges) (steps_from [] vs)) (k : ℕ) (now : List ℕ) (v : Point)
+    (at : IsMoment vs k now v) where
   pub now_known : AreBelow (length edges) now
-  now_known i l = run_known (length edges) (edge_of edges) vs k (get_or now i 0) run at.known (subst (λ (xs : List ℕ). Has (get_or now i 0) xs) at.values (has_at now i 0 l))
+  now_known i l =
+      run_known (length edges) (edge_of edges) vs k (get_or now i 0) run at.known
+      (subst (λ (xs : List ℕ). Has (get_or now i 0) xs) at.values (has_at now i 0 l))
 
   pub now_room : length now ≤ length edges
-  now_room = subst (λ (xs : List ℕ). length xs ≤ length edges) (sym at.values) (live_room (length edges) (edge_of edges) vs run k at.known)
+  now_room = subst (λ (xs : List ℕ). length xs ≤ length edges) (sym at.values)
+      (live_room (length edges) (edge_of edges) vs run k at.known)
 
   -- ---- at an event
   module _ (l : k < length vs) (here : (get_or vs k no_move).at ≡ v) where
@@ -49,7 +56,8 @@ module _ (edges : List Edge) (vs : List Move) (run : Run (length edges) (edge_of
     s = get_or (steps_from [] vs) k no_step
 
     s_is : s ≡ step_of now (get_or vs k no_move)
-    s_is = step_is [] vs k l ∙ ap (λ (xs : List ℕ). step_of xs (get_or vs k no_move)) (sym at.values)
+    s_is = step_is [] vs k l
+        ∙ ap (λ (xs : List ℕ). step_of xs (get_or vs k no_move)) (sym at.values)
 
     s_at : s.at ≡ v
     s_at = ap (λ (t : Step). t.at) s_is ∙ here
@@ -81,10 +89,13 @@ module _ (edges : List Edge) (vs : List Move) (run : Run (length edges) (edge_of
         let r = ends_only e (subst (λ (t : Step). EndsOrStarts t e) (sym s_is) h) in
         record {
           known = r.0;
-          on = end_is_on (length edges) (edge_of edges) vs run e v r.0 (subst (λ p. IsEnd (edge_of edges e) p) s_at r.1);
+          on = end_is_on (length edges) (edge_of edges) vs run e v r.0
+              (subst (λ p. IsEnd (edge_of edges e) p) s_at r.1);
           least = λ d b on.
               let m : d < length edges = let q = r.0 in omega (arith, b, q) in
-              let end = event_end (length edges) (edge_of edges) (steps_from [] vs) run s (has_at (steps_from [] vs) k no_step s_within) d m (subst (λ p. OnStraight (edge_of edges d) (point p)) (sym s_at) on) in
+              let end = event_end (length edges) (edge_of edges) (steps_from [] vs) run s
+              (has_at (steps_from [] vs) k no_step s_within) d m
+              (subst (λ p. OnStraight (edge_of edges d) (point p)) (sym s_at) on) in
               let n = f d (subst (λ (t : Step). EndsOrStarts t d) s_is (ends_all d m end)) in
               omega (arith, b, n);
         }
@@ -98,33 +109,43 @@ module _ (edges : List Edge) (vs : List Move) (run : Run (length edges) (edge_of
     on_one e h =
         let todo = steps_from (live_from [] (take k vs)) (drop k vs) in
         let whole = cut_run (length edges) (edge_of edges) vs run k in
-        let before = done_before (length edges) (edge_of edges) vs run k v at.known at.passed after_it in
-        let after = todo_after (length edges) (edge_of edges) vs run k v at.known at.passed after_it in
+        let before = done_before (length edges)
+        (edge_of edges) vs run k v at.known at.passed after_it in
+        let after = todo_after (length edges)
+        (edge_of edges) vs run k v at.known at.passed after_it in
         let in_list = subst (λ (xs : List ℕ). Has e xs) at.values h.live_edge in
         let m = run_known (length edges) (edge_of edges) vs k e run at.known in_list in
-        let on = live_line (length edges) (edge_of edges) (made [] (take k vs)) todo v whole before after e (subst (λ (xs : List ℕ). Has e xs) (sym (live_made [] (take k vs))) in_list) h.line in
+        let on = live_line (length edges) (edge_of edges)
+        (made [] (take k vs)) todo v whole before after e
+        (subst (λ (xs : List ℕ). Has e xs) (sym (live_made [] (take k vs))) in_list) h.line in
         record {
           known = m;
           on = on;
-          least = λ d b also. one_line (length edges) (edge_of edges) (made [] (take k vs)) todo v whole before after d e (omega (arith, b, m)) m (λ q. omega (arith, b, q)) also on;
+          least = λ d b also. one_line (length edges) (edge_of edges)
+              (made [] (take k vs)) todo v whole before after d e (omega (arith, b, m)) m
+              (λ q. omega (arith, b, q)) also on;
         }
 
     in_cell : (p : ℕ) (lower upper : Option ℕ) → IsGapOf (edge_of edges) now v p lower upper
         → IsCell edges vs v p lower upper
     in_cell p lower upper g =
-        let same : now ≡ list_after [] (steps_from [] vs) k = at.values ∙ sym (list_is [] vs k at.known) in
+        let same : now ≡ list_after [] (steps_from [] vs) k = at.values
+        ∙ sym (list_is [] vs k at.known) in
         record {
           events = k;
           known = at.known;
           located = λ w. record {
             fits = let n = steps_length [] vs in let l = at.known in omega (arith, n, l);
             index = subst (λ (xs : List ℕ). p ≤ length xs) same g.within;
-            passed = λ j b. subst (λ q. Before q v) (sym (point_of j (let l = at.known in omega (arith, b, l)))) (at.passed j b);
+            passed = λ j b. subst (λ q. Before q v)
+                (sym (point_of j (let l = at.known in omega (arith, b, l)))) (at.passed j b);
             coming = λ j b l.
                 let n = steps_length [] vs in
                 let c : j < length vs = omega (arith, n, l) in
-                subst (λ q. Before v q) (sym (point_of j c)) (later (length edges) (edge_of edges) vs run k v after_it j b c);
-            above = λ e h. over p e (λ i q. g.above i q) (subst (λ (xs : List ℕ). AtBefore xs p e) (sym same) h);
+                subst (λ q. Before v q) (sym (point_of j c))
+                (later (length edges) (edge_of edges) vs run k v after_it j b c);
+            above = λ e h. over p e (λ i q. g.above i q)
+                (subst (λ (xs : List ℕ). AtBefore xs p e) (sym same) h);
             below = λ e h. under e (subst (λ (xs : List ℕ). At xs p e) (sym same) h);
           };
           lower_is = g.lower_is ∙ ap (λ (xs : List ℕ). edge_before xs p) at.values;
@@ -139,10 +160,19 @@ module _ (edges : List Edge) (vs : List Move) (run : Run (length edges) (edge_of
             → ((i : ℕ) → p ≡ suc i → pos 0 <ℤ turn_at (edge_of edges) (get_or now i 0) v)
             → AtBefore now p e → pos 0 <ℤ side (edge_of edges e) (point v)
         over zero e f h = absurd h
-        over (suc i) e f h = let c = side-cross (edge_of edges e) v in let t = subst (λ (d : ℕ). pos 0 <ℤ turn_at (edge_of edges) d v) (sym (at_is now i e h).1) (f i refl) in omega (arith, ints, c, t)
+        over (suc i) e f h =
+            let c = side-cross (edge_of edges e) v in
+            let t = subst (λ (d : ℕ). pos 0 <ℤ turn_at (edge_of edges) d v)
+            (sym (at_is now i e h).1) (f i refl) in
+            omega (arith, ints, c, t)
 
         under : (e : ℕ) → At now p e → side (edge_of edges e) (point v) <ℤ pos 0
-        under e h = let a = at_is now p e h in let c = side-cross (edge_of edges e) v in let t = subst (λ (d : ℕ). turn_at (edge_of edges) d v <ℤ pos 0) (sym a.1) (g.below a.0) in omega (arith, ints, c, t)
+        under e h =
+            let a = at_is now p e h in
+            let c = side-cross (edge_of edges e) v in
+            let t = subst (λ (d : ℕ). turn_at (edge_of edges) d v <ℤ pos 0) (sym a.1)
+            (g.below a.0) in
+            omega (arith, ints, c, t)
 
     pub place_is : (a : Place) → IsBetween (edge_of edges) now v a → IsPlaceOf edges vs v a
     place_is (place.Cell p lower upper) g = in_cell p lower upper g

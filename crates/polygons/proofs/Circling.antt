@@ -26,7 +26,8 @@ pub in_way : (m : HalfEdges) (n k h : ℕ) → k < n → Has (steps (next_of m) 
 in_way m zero k h l = absurd (omega (arith, l))
 in_way m (suc n) zero h l = inl refl
 in_way m (suc n) (suc k) h l =
-    inr (subst (λ (g : ℕ). Has g (way m (next_of m h) n)) (sym (steps_first (next_of m) k h)) (in_way m n k (next_of m h) (omega (arith, l))))
+    inr (subst (λ (g : ℕ). Has g (way m (next_of m h) n)) (sym (steps_first (next_of m) k h))
+    (in_way m n k (next_of m h) (omega (arith, l))))
 
 -- the least of some numbers
 record IsLowest (v : ℕ → ℕ) (n j : ℕ) : Type 0 where
@@ -34,7 +35,14 @@ record IsLowest (v : ℕ → ℕ) (n j : ℕ) : Type 0 where
   pub low : (k : ℕ) → k < suc n → v j ≤ v k
 
 lowest : (v : ℕ → ℕ) (n : ℕ) → (j : ℕ) × IsLowest v n j
-lowest v zero = (0, record { there = omega arith; low = λ k l. subst (λ (i : ℕ). v 0 ≤ v i) (let z : 0 ≡ k = omega (arith, l) in z) (omega arith) })
+lowest v zero = (
+  0,
+  record {
+    there = omega arith;
+    low = λ k l. subst (λ (i : ℕ). v 0 ≤ v i) (let z : 0 ≡ k = omega (arith, l) in
+        z) (omega arith);
+  },
+)
 lowest v (suc n) =
     let (j, s) = lowest v n in
     let t = s.there in
@@ -69,7 +77,12 @@ module _ (m : HalfEdges) (mesh : IsMesh m) where
   soon c g back (suc k) =
       let (j, l, e) = soon c g back k in
       elim (cases_eq j c) [
-        | inl q ↦ (0, omega arith, sym back ∙ (ap (λ (i : ℕ). next_of m (steps (next_of m) i g)) (sym q) ∙ ap (next_of m) e))
+        | inl q ↦ (
+          0,
+          omega arith,
+          sym back
+              ∙ (ap (λ (i : ℕ). next_of m (steps (next_of m) i g)) (sym q) ∙ ap (next_of m) e),
+        )
         | inr ne ↦ (suc j, omega (arith, l, ne), ap (next_of m) e)
       ]
 
@@ -88,14 +101,17 @@ module _ (m : HalfEdges) (mesh : IsMesh m) where
   undo : (k h : ℕ) → h < size m → steps (next_of m) k (next_of m h) ≡ next_of m h
       → steps (next_of m) k h ≡ h
   undo k h l e =
-      sym (mesh.prev_next _ (within m mesh k h l)) ∙ (ap (prev_of m) (steps_first (next_of m) k h ∙ e) ∙ mesh.prev_next h l)
+      sym (mesh.prev_next _ (within m mesh k h l))
+      ∙ (ap (prev_of m) (steps_first (next_of m) k h ∙ e) ∙ mesh.prev_next h l)
 
   way_once : (n h : ℕ) → h < size m → ((k : ℕ) → 0 < k → k < n → steps (next_of m) k h ≢ h)
       → Once (way m h n)
   way_once zero h l apart = tt
   way_once (suc n) h l apart = (
-    (λ has. let (k, s, e) = of_way m n (next_of m h) h has in apart (suc k) (omega arith) (omega (arith, s)) (steps_first (next_of m) k h ∙ sym e)),
-    way_once n (next_of m h) (mesh.next_within h l) (λ k some less e. apart k some (omega (arith, less)) (undo k h l e)),
+    (λ has. let (k, s, e) = of_way m n (next_of m h) h has in
+        apart (suc k) (omega arith) (omega (arith, s)) (steps_first (next_of m) k h ∙ sym e)),
+    way_once n (next_of m h) (mesh.next_within h l)
+        (λ k some less e. apart k some (omega (arith, less)) (undo k h l e)),
   )
 
   -- two least half-edges whose circles share one are one
@@ -105,8 +121,10 @@ module _ (m : HalfEdges) (mesh : IsMesh m) where
       let f = next_of m in
       let to = way_back m mesh b i (steps f a h) k (sym e) in
       let from = way_back m mesh a h (steps f b i) l e in
-      let p : h ≤ i = subst (λ (g : ℕ). h ≤ g) (steps-add f to.count a h ∙ to.there) (least (to.count + a)) in
-      let q : i ≤ h = subst (λ (g : ℕ). i ≤ g) (steps-add f from.count b i ∙ from.there) (low (from.count + b)) in
+      let p : h ≤ i = subst (λ (g : ℕ). h ≤ g) (steps-add f to.count a h ∙ to.there)
+      (least (to.count + a)) in
+      let q : i ≤ h = subst (λ (g : ℕ). i ≤ g) (steps-add f from.count b i ∙ from.there)
+      (low (from.count + b)) in
       omega (arith, p, q)
 
   module _ (at : List Point) where
@@ -115,20 +133,24 @@ module _ (m : HalfEdges) (mesh : IsMesh m) where
         → (h : ℕ) × Has h hs × (k : ℕ) × (g ≡ steps (next_of m) k h)
     halves_on [] rings a g has = absurd has
     halves_on (h ∷ hs) [] a g has = absurd has
-    halves_on (h ∷ hs) (r ∷ rs) (t, a) g has = elim (has_append g (way m h t.count) (halves_of m at hs rs a) has) [
-      | inl i ↦ (let (k, l, e) = of_way m t.count h g i in (h, inl refl, k, e))
-      | inr i ↦ (let (j, s, k, e) = halves_on hs rs a g i in (j, inr s, k, e))
-    ]
+    halves_on (h ∷ hs) (r ∷ rs) (t, a) g has =
+        elim (has_append g (way m h t.count) (halves_of m at hs rs a) has) [
+          | inl i ↦ (let (k, l, e) = of_way m t.count h g i in (h, inl refl, k, e))
+          | inr i ↦ (let (j, s, k, e) = halves_on hs rs a g i in (j, inr s, k, e))
+        ]
 
-    pub halves_all : (hs : List ℕ) (rings : List (List Point)) (a : AreTraced m at hs rings) (h k : ℕ)
+    pub halves_all : (hs : List ℕ) (rings : List (List Point)) (a : AreTraced m at hs rings)
+        (h k : ℕ)
         → Has h hs → Has (steps (next_of m) k h) (halves_of m at hs rings a)
     halves_all [] rings a h k has = absurd has
     halves_all (i ∷ hs) [] a h k has = absurd a
     halves_all (i ∷ hs) (r ∷ rs) (t, a) h k (inl e) =
         let s = in_round m i t.count t.round k in
         has_front _ (way m i t.count) (halves_of m at hs rs a)
-        (subst (λ (g : ℕ). Has g (way m i t.count)) (s.there ∙ ap (steps (next_of m) k) (sym e)) (in_way m t.count s.count i s.soon))
-    halves_all (i ∷ hs) (r ∷ rs) (t, a) h k (inr has) = has_back _ (way m i t.count) (halves_of m at hs rs a) (halves_all hs rs a h k has)
+        (subst (λ (g : ℕ). Has g (way m i t.count)) (s.there ∙ ap (steps (next_of m) k) (sym e))
+        (in_way m t.count s.count i s.soon))
+    halves_all (i ∷ hs) (r ∷ rs) (t, a) h k (inr has) =
+        has_back _ (way m i t.count) (halves_of m at hs rs a) (halves_all hs rs a h k has)
 
     pub halves_once : (hs : List ℕ) (rings : List (List Point)) (a : AreTraced m at hs rings)
         → Once hs → ((h : ℕ) → Has h hs → (h < size m) × IsLeast m h)
@@ -137,7 +159,8 @@ module _ (m : HalfEdges) (mesh : IsMesh m) where
     halves_once (h ∷ hs) [] a once only = absurd a
     halves_once (h ∷ hs) (r ∷ rs) (t, a) (new, once) only =
         let (l, least) = only h (inl refl) in
-        once_append (way m h t.count) (halves_of m at hs rs a) (way_once t.count h l t.round.first) (halves_once hs rs a once (λ g i. only g (inr i)))
+        once_append (way m h t.count) (halves_of m at hs rs a) (way_once t.count h l t.round.first)
+        (halves_once hs rs a once (λ g i. only g (inr i)))
         (λ g i j.
         let (k, s, e) = of_way m t.count h g i in
         let (o, has, b, q) = halves_on hs rs a g j in
@@ -147,7 +170,10 @@ module _ (m : HalfEdges) (mesh : IsMesh m) where
 -- ---- the order of rings
 pub rising_once : (hs : List ℕ) → Rising hs → Once hs
 rising_once [] r = tt
-rising_once (h ∷ hs) (first, rest) = ((λ has. let l = each_has (λ g. h < g) hs h first has in absurd (omega (arith, l))), rising_once hs rest)
+rising_once (h ∷ hs) (first, rest) = (
+  (λ has. let l = each_has (λ g. h < g) hs h first has in absurd (omega (arith, l))),
+  rising_once hs rest,
+)
 
 pub has_moved : (earlier later : List ℕ) (first g : ℕ) → Has g (earlier ++ first ∷ later)
     → Has g (first ∷ (earlier ++ later))

@@ -23,7 +23,8 @@ abbrev pub line : ℕ → ℕ
 line h = edge_of (half_of h)
 
 -- the half-edges of all rings, in their order
-abbrev pub halves_of : (m : HalfEdges) (at : List Point) (hs : List ℕ) (rings : List (List Point)) → AreTraced m at hs rings → List ℕ
+abbrev pub halves_of : (m : HalfEdges) (at : List Point) (hs : List ℕ) (rings : List (List Point))
+    → AreTraced m at hs rings → List ℕ
 halves_of m at [] rings a = []
 halves_of m at (h ∷ hs) [] a = []
 halves_of m at (h ∷ hs) (r ∷ rs) (t, a) = way m h t.count ++ halves_of m at hs rs a
@@ -43,7 +44,8 @@ half_ends : (E : ℕ → Edge) (x : Half) → HasEnds (E (edge_of x)) (origin E 
 half_ends E (under e) = inr (refl, refl)
 half_ends E (over e) = inl (refl, refl)
 
-module _ (E : ℕ → Edge) (m : HalfEdges) (at : List Point) (n : ℕ) (mesh : IsMesh m) (count : size m ≡ 2 * n)
+module _ (E : ℕ → Edge) (m : HalfEdges) (at : List Point) (n : ℕ) (mesh : IsMesh m)
+    (count : size m ≡ 2 * n)
     (begins : (h : Half) → edge_of h < n → place_of m at (number h) ≡ origin E h) where
   pub line_below : (h : ℕ) → h < size m → line h < n
   line_below h l = below_number (half_of h) n (let e = number_half h in omega (arith, l, count, e))
@@ -55,20 +57,28 @@ module _ (E : ℕ → Edge) (m : HalfEdges) (at : List Point) (n : ℕ) (mesh : 
   ends_at h l =
       ap (λ (v : ℕ). slice_index_or at v no_point) (mesh.joined h l)
       ∙ (ap (place_of m at) (ap twin_of (sym (number_half h)) ∙ sym (number_twin (half_of h)))
-      ∙ begins (twin (half_of h)) (subst (λ (e : ℕ). e < n) (sym (twin_edge (half_of h))) (line_below h l)))
+      ∙ begins (twin (half_of h))
+      (subst (λ (e : ℕ). e < n) (sym (twin_edge (half_of h))) (line_below h l)))
 
   along_half : (h : ℕ) → h < size m
       → HasEnds (E (line h)) (place_of m at h) (place_of m at (next_of m h))
   along_half h l =
-      subst (λ (p : Point). HasEnds (E (line h)) p (place_of m at (next_of m h))) (sym (starts_at h l))
-      (subst (λ (q : Point). HasEnds (E (line h)) (origin E (half_of h)) q) (sym (ends_at h l)) (half_ends E (half_of h)))
+      subst (λ (p : Point). HasEnds (E (line h)) p (place_of m at (next_of m h)))
+      (sym (starts_at h l))
+      (subst (λ (q : Point). HasEnds (E (line h)) (origin E (half_of h)) q) (sym (ends_at h l))
+      (half_ends E (half_of h)))
 
   along_way : (k h : ℕ) (end : Point) → h < size m
       → place_of m at (steps (next_of m) (suc k) h) ≡ end
-      → AreAlong E (sides_to end (place_of m at h) (map (place_of m at) (way m (next_of m h) k))) (map line (way m h (suc k)))
-  along_way zero h end l e = (subst (λ (q : Point). HasEnds (E (line h)) (place_of m at h) q) e (along_half h l), tt)
-  along_way (suc k) h end l e =
-      (along_half h l, along_way k (next_of m h) end (mesh.next_within h l) (ap (place_of m at) (sym (steps_first (next_of m) (suc k) h)) ∙ e))
+      → AreAlong E (sides_to end (place_of m at h) (map (place_of m at) (way m (next_of m h) k)))
+      (map line (way m h (suc k)))
+  along_way zero h end l e =
+      (subst (λ (q : Point). HasEnds (E (line h)) (place_of m at h) q) e (along_half h l), tt)
+  along_way (suc k) h end l e = (
+    along_half h l,
+    along_way k (next_of m h) end (mesh.next_within h l)
+        (ap (place_of m at) (sym (steps_first (next_of m) (suc k) h)) ∙ e),
+  )
 
   along_count : (c h : ℕ) (corners : List Point) → h < size m → 0 < c → steps (next_of m) c h ≡ h
       → corners ≡ map (place_of m at) (way m h c)
@@ -85,6 +95,9 @@ module _ (E : ℕ → Edge) (m : HalfEdges) (at : List Point) (n : ℕ) (mesh : 
   along_rings [] (r ∷ rs) a inside = absurd a
   along_rings (h ∷ hs) [] a inside = absurd a
   along_rings (h ∷ hs) (r ∷ rs) (t, a) inside =
-      subst (λ (is : List ℕ). AreAlong E (sides_of r ++ all_sides rs) is) (sym (map-append line (way m h t.count) (halves_of m at hs rs a)))
-      (along_append E (sides_of r) (all_sides rs) (map line (way m h t.count)) (map line (halves_of m at hs rs a))
-      (along_count t.count h r (inside h (inl refl)) t.round.some t.round.back t.is) (along_rings hs rs a (λ g i. inside g (inr i))))
+      subst (λ (is : List ℕ). AreAlong E (sides_of r ++ all_sides rs) is)
+      (sym (map-append line (way m h t.count) (halves_of m at hs rs a)))
+      (along_append E (sides_of r) (all_sides rs) (map line (way m h t.count))
+      (map line (halves_of m at hs rs a))
+      (along_count t.count h r (inside h (inl refl)) t.round.some t.round.back t.is)
+      (along_rings hs rs a (λ g i. inside g (inr i))))

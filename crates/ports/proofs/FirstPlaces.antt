@@ -25,12 +25,17 @@ use Rattle.ports.specs.declared.sorted_keys.Ranked.{Ranked}
 
 -- ---- the keys as they stand in the column
 abbrev IsTold : List (Option (List ℕ)) → ℕ → Ranked → Type 0
-IsTold keys skip r = (r.rank ≡ rank skip (key_at keys r.place)) × (get_or keys r.place None ≡ Some (key_at keys r.place))
+IsTold keys skip r =
+    (r.rank ≡ rank skip (key_at keys r.place))
+    × (get_or keys r.place None ≡ Some (key_at keys r.place))
 
 -- the places before n
-pub record IsListedTo (keys : List (Option (List ℕ))) (skip n : ℕ) (ranked : List Ranked) : Type 0 where
-  pub told : All (λ r. (r.rank ≡ rank skip (key_at keys r.place)) × (get_or keys r.place None ≡ Some (key_at keys r.place))) ranked
-  pub whole : (place : ℕ) (key : List ℕ) → place < n → get_or keys place None ≡ Some key → Contains ranked (record { rank = rank skip key; place = place })
+pub record IsListedTo (keys : List (Option (List ℕ))) (skip n : ℕ)
+    (ranked : List Ranked) : Type 0 where
+  pub told : All (λ r. (r.rank ≡ rank skip (key_at keys r.place))
+      × (get_or keys r.place None ≡ Some (key_at keys r.place))) ranked
+  pub whole : (place : ℕ) (key : List ℕ) → place < n → get_or keys place None ≡ Some key
+      → Contains ranked (record { rank = rank skip key; place = place })
 
 next : (n place : ℕ) → place < n + 1 → (place < n) ⊎ (n ≡ place)
 next n place h = by_cases (cases_lt place n) (λ l. inl l) (λ g. inr (omega (arith, h, g)))
@@ -48,44 +53,68 @@ pub listed_none : (keys : List (Option (List ℕ))) (skip n : ℕ) (ranked : Lis
     → IsListedTo keys skip (n + 1) ranked
 listed_none keys skip n ranked e h = record {
   told = h.told;
-  whole = λ place key l k. elim (next n place l) as (λ s. Contains ranked (record { rank = rank skip key; place = place })) [
-    | inl b ↦ h.whole place key b k
-    | inr q ↦ none_some (get_or keys n None) key e (ap (λ (i : ℕ). get_or keys i None) q ∙ k)
-  ];
+  whole = λ place key l k. elim (next n place l) as
+      (λ s. Contains ranked (record { rank = rank skip key; place = place })) [
+        | inl b ↦ h.whole place key b k
+        | inr q ↦ none_some (get_or keys n None) key e (ap (λ (i : ℕ). get_or keys i None) q ∙ k)
+      ];
 }
 
 same_key : (a b : List ℕ) → Some a ≡ Some b → a ≡ b
 same_key a b h = ap (λ (o : Option (List ℕ)). bytes_of o) h
 
-pub listed_some : (keys : List (Option (List ℕ))) (skip n : ℕ) (key : List ℕ) (ranked : List Ranked) → get_or keys n None ≡ Some key → IsListedTo keys skip n ranked → IsListedTo keys skip (n + 1) (ranked ++ record { rank = rank skip key; place = n } ∷ [])
+pub listed_some : (keys : List (Option (List ℕ))) (skip n : ℕ) (key : List ℕ) (ranked : List Ranked)
+    → get_or keys n None ≡ Some key → IsListedTo keys skip n ranked
+    → IsListedTo keys skip (n + 1) (ranked ++ record { rank = rank skip key; place = n } ∷ [])
 listed_some keys skip n key ranked e h =
     let r : Ranked = record { rank = rank skip key; place = n } in
     let at : key_at keys n ≡ key = ap bytes_of e in
     record {
-      told = All-push (IsTold keys skip) ranked r h.told (ap (rank skip) (sym at), e ∙ ap (λ (k : List ℕ). Some k) (sym at));
-      whole = λ place k l f. elim (next n place l) as (λ s. Contains (ranked ++ r ∷ []) (record { rank = rank skip k; place = place })) [
-        | inl b ↦ Contains-append_left ranked (r ∷ []) (record { rank = rank skip k; place = place }) (h.whole place k b f)
-        | inr q ↦
-            let same : key ≡ k = same_key key k (sym e ∙ ap (λ (i : ℕ). get_or keys i None) q ∙ f) in
-            subst (λ (x : List ℕ). Contains (ranked ++ r ∷ []) (record { rank = rank skip x; place = place })) same
-            (subst (λ (i : ℕ). Contains (ranked ++ r ∷ []) (record { rank = rank skip key; place = i })) q (Contains-push ranked r))
-      ];
+      told = All-push (IsTold keys skip) ranked r h.told (
+        ap (rank skip) (sym at),
+        e
+            ∙ ap (λ (k : List ℕ). Some k) (sym at),
+      );
+      whole = λ place k l f. elim (next n place l) as
+          (λ s. Contains (ranked ++ r ∷ []) (record { rank = rank skip k; place = place })) [
+            | inl b ↦ Contains-append_left ranked (r ∷ []) (record {
+              rank = rank skip k;
+              place = place;
+            }) (h.whole place k b f)
+            | inr q ↦
+                let same : key ≡ k = same_key key k (sym e ∙ ap (λ (i : ℕ). get_or keys i None) q
+                ∙ f) in
+                subst (λ (x : List ℕ). Contains (ranked ++ r ∷ []) (record {
+                  rank = rank skip x;
+                  place = place;
+                })) same
+                (subst (λ (i : ℕ). Contains (ranked ++ r ∷ []) (record {
+                  rank = rank skip key;
+                  place = i;
+                })) q (Contains-push ranked r))
+          ];
     }
 
-pub pushed : (keys : List (Option (List ℕ))) (skip n : ℕ) (key : List ℕ) (r : ℕ) (ranked new : List Ranked)
+pub pushed : (keys : List (Option (List ℕ))) (skip n : ℕ) (key : List ℕ) (r : ℕ)
+    (ranked new : List Ranked)
     → get_or keys n None ≡ Some key → r ≡ rank skip key
-    → new ≡ ranked ++ record { rank = r; place = n } ∷ [] → IsListedTo keys skip n ranked → IsListedTo keys skip (n + 1) new
+    → new ≡ ranked ++ record { rank = r; place = n } ∷ [] → IsListedTo keys skip n ranked
+    → IsListedTo keys skip (n + 1) new
 pushed keys skip n key r ranked new e s p h =
-    subst (λ (v : List Ranked). IsListedTo keys skip (n + 1) v) (ap (λ (q : ℕ). ranked ++ record { rank = q; place = n } ∷ []) (sym s) ∙ sym p) (listed_some keys skip n key ranked e h)
+    subst (λ (v : List Ranked). IsListedTo keys skip (n + 1) v)
+    (ap (λ (q : ℕ). ranked ++ record { rank = q; place = n } ∷ []) (sym s) ∙ sym p)
+    (listed_some keys skip n key ranked e h)
 
 pub listed_all : (keys : List (Option (List ℕ))) (skip n : ℕ) (ranked : List Ranked)
     → length keys ≤ n → IsListedTo keys skip n ranked → IsListed keys skip ranked
 listed_all keys skip n ranked l h = record {
   told = h.told;
-  whole = λ place key f. elim (cases_lt place n) as (λ s. Contains ranked (record { rank = rank skip key; place = place })) [
-    | inl b ↦ h.whole place key b f
-    | inr g ↦ none_some (get_or keys place None) key (get_or-eq_default keys None (omega (arith, l, g))) f
-  ];
+  whole = λ place key f. elim (cases_lt place n) as
+      (λ s. Contains ranked (record { rank = rank skip key; place = place })) [
+        | inl b ↦ h.whole place key b f
+        | inr g ↦ none_some (get_or keys place None) key
+            (get_or-eq_default keys None (omega (arith, l, g))) f
+      ];
 }
 
 -- an element of the column
@@ -98,7 +127,9 @@ abbrev Key : Type 0
 Key = ℕ × List ℕ
 
 key_cmp_total : IsTotalOrder key_cmp
-key_cmp_total = then_total (on_total (λ (k : Key). k.0) nat_cmp_total) (on_total (λ (k : Key). k.1) nat_list_cmp_total)
+key_cmp_total =
+    then_total (on_total (λ (k : Key). k.0) nat_cmp_total)
+    (on_total (λ (k : Key). k.1) nat_list_cmp_total)
 
 abbrev less : Key → Key → Bool
 less a b = is_lt (key_cmp a b)
@@ -107,7 +138,9 @@ less_ranks : IsStrictWeakOrder less
 less_ranks = ranks_by key_cmp_total (λ (k : Key). k)
 
 pub ranked_cmp_total : (keys : List (Option (List ℕ))) → IsTotalOrder (ranked_cmp keys)
-ranked_cmp_total keys = then_total (on_total (key_of keys) key_cmp_total) (on_total (λ (r : Ranked). r.place) nat_cmp_total)
+ranked_cmp_total keys =
+    then_total (on_total (key_of keys) key_cmp_total)
+    (on_total (λ (r : Ranked). r.place) nat_cmp_total)
 
 pub is_before_ranks : (keys : List (Option (List ℕ))) → IsStrictWeakOrder (is_before keys)
 is_before_ranks keys = ranks_by (ranked_cmp_total keys) (λ (r : Ranked). r)
@@ -116,7 +149,10 @@ pub IsListed-sorted : (keys : List (Option (List ℕ))) (skip : ℕ) (xs ys : Li
     → IsPermutation xs ys → IsListed keys skip xs → IsListed keys skip ys
 IsListed-sorted keys skip xs ys p h = record {
   told = All-permutation (IsTold keys skip) xs ys p h.told;
-  whole = λ place key e. Contains-permutation xs ys (record { rank = rank skip key; place = place }) p (h.whole place key e);
+  whole = λ place key e. Contains-permutation xs ys (record {
+    rank = rank skip key;
+    place = place;
+  }) p (h.whole place key e);
 }
 
 -- ---- the first place
@@ -134,7 +170,9 @@ place_of_test : (p : Option (List ℕ) → Bool) (n i : ℕ) (xs : List (Option 
 place_of_test p n i [] l t b = absurd (omega arith)
 place_of_test p n zero (x ∷ xs) l t b = rw t (ap (λ (m : ℕ). Some m) (omega arith))
 place_of_test p n (suc i) (x ∷ xs) l t b =
-    rw (b 0 (omega arith)) (place_of_test p (n + 1) i xs (omega (arith, l)) t (λ k m. b (suc k) (omega (arith, m))) ∙ ap (λ (m : ℕ). Some m) (omega arith))
+    rw (b 0 (omega arith))
+    (place_of_test p (n + 1) i xs (omega (arith, l)) t (λ k m. b (suc k) (omega (arith, m)))
+    ∙ ap (λ (m : ℕ). Some m) (omega arith))
 
 place_at : (p : Option (List ℕ) → Bool) (i : ℕ) (xs : List (Option (List ℕ))) → i < length xs
     → p (get_or xs i None) ≡ true → ((k : ℕ) → k < i → p (get_or xs k None) ≡ false)
@@ -144,7 +182,8 @@ place_at p i xs l t b = place_of_test p 0 i xs l t b ∙ ap (λ (m : ℕ). Some 
 no_place_of_test : (p : Option (List ℕ) → Bool) (n : ℕ) (xs : List (Option (List ℕ)))
     → ((k : ℕ) → k < length xs → p (get_or xs k None) ≡ false) → position_from p n xs ≡ None
 no_place_of_test p n [] b = refl
-no_place_of_test p n (x ∷ xs) b = rw (b 0 (omega arith)) (no_place_of_test p (n + 1) xs (λ k m. b (suc k) (omega (arith, m))))
+no_place_of_test p n (x ∷ xs) b =
+    rw (b 0 (omega arith)) (no_place_of_test p (n + 1) xs (λ k m. b (suc k) (omega (arith, m))))
 
 has_key : (word : List ℕ) (o : Option (List ℕ)) → is_key word o ≡ true → o ≡ Some word
 has_key word None h = cc
@@ -183,7 +222,8 @@ then_second Greater p h = cc
 -- keys that tie have the same bytes
 same_bytes : (a b : Key) → key_cmp a b ≡ Equal → a.1 ≡ b.1
 same_bytes a b h =
-    let s : slice_cmp nat_cmp a.1 b.1 ≡ Equal = then_second (nat_cmp a.0 b.0) (slice_cmp nat_cmp a.1 b.1) h in
+    let s : slice_cmp nat_cmp a.1 b.1 ≡ Equal = then_second (nat_cmp a.0 b.0)
+    (slice_cmp nat_cmp a.1 b.1) h in
     (bytes_eq-Decides a.1 b.1).0 (sym (is_eq-slice_cmp a.1 b.1) ∙ ap is_eq s)
 
 one_default : (xs : List Ranked) (i : ℕ) (d e : Ranked) → i < length xs
@@ -202,7 +242,8 @@ there_is keys i word e = elim (cases_lt i (length keys)) as (λ s. i < length ke
 nat_less : (m n : ℕ) → m < n → is_lt (nat_cmp m n) ≡ true
 nat_less m n l = rw (lt-ltb m n l) refl
 
-module _ (keys : List (Option (List ℕ))) (xs : List Ranked) (up : IsSortedBy (is_before keys) xs) where
+module _ (keys : List (Option (List ℕ))) (xs : List Ranked)
+    (up : IsSortedBy (is_before keys) xs) where
   -- none is less than one before it
   ascends : (i j : ℕ) (d : Ranked) → i ≤ j → j < length xs
       → is_before keys (get_or xs j d) (get_or xs i d) ≡ false
@@ -212,10 +253,15 @@ module _ (keys : List (Option (List ℕ))) (xs : List Ranked) (up : IsSortedBy (
   below_first r word i j d l m h =
       let x = get_or xs i d in
       let y = get_or xs j d in
-      let n : less (key_of keys y) (key_of keys x) ≡ false = not_less_then _ _ (ascends i j d l m) in
-      by_test (less (key_of keys x) (r, word)) (λ t. t) (λ f. not_both (less (key_of keys y) (r, word)) h (less_ranks.chain (key_of keys y) (key_of keys x) (r, word) n f))
+      let n : less (key_of keys y) (key_of keys x)
+      ≡ false = not_less_then _ _ (ascends i j d l m) in
+      by_test (less (key_of keys x) (r, word)) (λ t. t)
+      (λ f. not_both (less (key_of keys y) (r, word)) h
+      (less_ranks.chain (key_of keys y) (key_of keys x) (r, word) n f))
 
-  module _ (skip : ℕ) (h : IsListed keys skip xs) (word : List ℕ) (at : ℕ) (below : IsPartitionPoint (λ y. is_below keys (rank skip word) word y ≡ true) (λ y. is_below keys (rank skip word) word y ≡ false) xs at) where
+  module _ (skip : ℕ) (h : IsListed keys skip xs) (word : List ℕ) (at : ℕ)
+      (below : IsPartitionPoint (λ y. is_below keys (rank skip word) word y ≡ true)
+      (λ y. is_below keys (rank skip word) word y ≡ false) xs at) where
     abbrev here : ℕ → Ranked
     here place = record { rank = rank skip word; place = place }
 
@@ -225,11 +271,16 @@ module _ (keys : List (Option (List ℕ))) (xs : List Ranked) (up : IsSortedBy (
     stands place t =
         let e : get_or keys place None ≡ Some word = has_key word (get_or keys place None) t in
         let c = h.whole place word e in
-        let key : key_of keys (here place) ≡ (rank skip word, word) = ap (λ (w : List ℕ). (rank skip word, w)) (ap bytes_of e) in
-        let itself : less (rank skip word, word) (rank skip word, word) ≡ false = ap is_lt (tied_itself key_cmp_total (rank skip word, word)) in
-        elim (cases_lt c.0 at) as (λ s. (k : ℕ) × (at ≤ k) × (k < length xs) × (get_or xs k (here place) ≡ here place)) [
-          | inl b ↦ not_both (is_below keys (rank skip word) word (get_or xs c.0 (here place))) (below.0 c.0 (here place) (omega arith) b)
-              (ap (λ (r : Ranked). is_below keys (rank skip word) word r) c.2 ∙ ap (λ (k : Key). less k (rank skip word, word)) key ∙ itself)
+        let key : key_of keys (here place)
+        ≡ (rank skip word, word) = ap (λ (w : List ℕ). (rank skip word, w)) (ap bytes_of e) in
+        let itself : less (rank skip word, word) (rank skip word, word)
+        ≡ false = ap is_lt (tied_itself key_cmp_total (rank skip word, word)) in
+        elim (cases_lt c.0 at) as (λ s. (k : ℕ) × (at ≤ k) × (k < length xs)
+        × (get_or xs k (here place) ≡ here place)) [
+          | inl b ↦ not_both (is_below keys (rank skip word) word (get_or xs c.0 (here place)))
+              (below.0 c.0 (here place) (omega arith) b)
+              (ap (λ (r : Ranked). is_below keys (rank skip word) word r) c.2
+              ∙ ap (λ (k : Key). less k (rank skip word, word)) key ∙ itself)
           | inr g ↦ (c.0, g, c.1, c.2)
         ]
 
@@ -238,28 +289,38 @@ module _ (keys : List (Option (List ℕ))) (xs : List Ranked) (up : IsSortedBy (
         → position_from (is_key word) 0 keys ≡ Some x.place
     found x l e k =
         let told = h.told at x l in
-        let rank_is : x.rank ≡ rank skip word = ap (λ (r : Ranked). r.rank) e ∙ told.0 ∙ ap (λ (r : Ranked). rank skip (key_at keys r.place)) (sym e) ∙ ap (rank skip) k in
+        let rank_is : x.rank ≡ rank skip word = ap (λ (r : Ranked). r.rank) e ∙ told.0
+        ∙ ap (λ (r : Ranked). rank skip (key_at keys r.place)) (sym e) ∙ ap (rank skip) k in
         let key_is : get_or keys x.place None ≡ Some word =
-        ap (λ (r : Ranked). get_or keys r.place None) e ∙ told.1 ∙ ap (λ (r : Ranked). Some (key_at keys r.place)) (sym e) ∙ ap (λ (w : List ℕ). Some w) k in
-        let t : is_key word (get_or keys x.place None) ≡ true = key_itself word (get_or keys x.place None) key_is in
+        ap (λ (r : Ranked). get_or keys r.place None) e ∙ told.1
+        ∙ ap (λ (r : Ranked). Some (key_at keys r.place)) (sym e)
+        ∙ ap (λ (w : List ℕ). Some w) k in
+        let t : is_key word (get_or keys x.place None)
+        ≡ true = key_itself word (get_or keys x.place None) key_is in
         place_at (is_key word) x.place keys (there_is keys x.place word key_is) t
         (λ p m. by_test (is_key word (get_or keys p None))
         (λ y.
         let s = stands p y in
         let at_p : key_at keys p ≡ word = ap bytes_of (has_key word (get_or keys p None) y) in
-        let a : is_before keys (get_or xs s.0 (here p)) (get_or xs at (here p)) ≡ false = ascends at s.0 (here p) s.1 s.2 in
+        let a : is_before keys (get_or xs s.0 (here p)) (get_or xs at (here p))
+        ≡ false = ascends at s.0 (here p) s.1 s.2 in
         let b : is_before keys (here p) x ≡ false =
-        ap (λ (r : Ranked). is_before keys r x) (sym s.3) ∙ ap (is_before keys (get_or xs s.0 (here p))) (e ∙ one_default xs at x (here p) l) ∙ a in
+        ap (λ (r : Ranked). is_before keys r x) (sym s.3)
+        ∙ ap (is_before keys (get_or xs s.0 (here p))) (e ∙ one_default xs at x (here p) l)
+        ∙ a in
         let keys_tie : key_cmp (key_of keys (here p)) (key_of keys x) ≡ Equal =
         ap (λ (w : Key). key_cmp w (key_of keys x)) (ap (λ (w : List ℕ). (rank skip word, w)) at_p)
-        ∙ ap (key_cmp (rank skip word, word)) (ap (λ (r : ℕ). (r, key_at keys x.place)) rank_is ∙ ap (λ (w : List ℕ). (rank skip word, w)) k)
+        ∙ ap (key_cmp (rank skip word, word)) (ap (λ (r : ℕ). (r, key_at keys x.place)) rank_is
+        ∙ ap (λ (w : List ℕ). (rank skip word, w)) k)
         ∙ tied_itself key_cmp_total (rank skip word, word) in
-        let less_place : is_lt (nat_cmp p x.place) ≡ false = sym (tied_then _ (nat_cmp p x.place) keys_tie) ∙ b in
+        let less_place : is_lt (nat_cmp p x.place)
+        ≡ false = sym (tied_then _ (nat_cmp p x.place) keys_tie) ∙ b in
         not_both (is_lt (nat_cmp p x.place)) (nat_less p x.place m) less_place)
         (λ n. n))
 
     -- it stands nowhere
-    pub nowhere : ((x : Ranked) → at < length xs → x ≡ get_or xs at x → key_at keys x.place ≡ word → ⊥)
+    pub nowhere : ((x : Ranked) → at < length xs → x ≡ get_or xs at x → key_at keys x.place ≡ word
+        → ⊥)
         → position_from (is_key word) 0 keys ≡ None
     nowhere none =
         no_place_of_test (is_key word) 0 keys
@@ -269,46 +330,71 @@ module _ (keys : List (Option (List ℕ))) (xs : List Ranked) (up : IsSortedBy (
         let e = has_key word (get_or keys p None) y in
         let x = get_or xs at (here p) in
         let l : at < length xs = omega (arith, s.1, s.2) in
-        let key : key_of keys (here p) ≡ (rank skip word, word) = ap (λ (w : List ℕ). (rank skip word, w)) (ap bytes_of e) in
+        let key : key_of keys (here p) ≡ (rank skip word, word) = ap
+        (λ (w : List ℕ). (rank skip word, w)) (ap bytes_of e) in
         let a : less (rank skip word, word) (key_of keys x) ≡ false =
-        ap (λ (w : Key). less w (key_of keys x)) (sym key) ∙ ap (λ (r : Ranked). less (key_of keys r) (key_of keys x)) (sym s.3)
+        ap (λ (w : Key). less w (key_of keys x)) (sym key)
+        ∙ ap (λ (r : Ranked). less (key_of keys r) (key_of keys x)) (sym s.3)
         ∙ not_less_then _ _ (ascends at s.0 (here p) s.1 s.2) in
-        let b : less (key_of keys x) (rank skip word, word) ≡ false = below.1 at (here p) (omega arith) l in
-        absurd (none x l (one_default xs at (here p) x l) (same_bytes (key_of keys x) (rank skip word, word) (tied (key_of keys x) (rank skip word, word) b a))))
+        let b : less (key_of keys x) (rank skip word, word)
+        ≡ false = below.1 at (here p) (omega arith) l in
+        absurd (none x l (one_default xs at (here p) x l)
+        (same_bytes (key_of keys x) (rank skip word, word)
+        (tied (key_of keys x) (rank skip word, word) b a))))
         (λ n. n))
 
 -- what the search answers, over the places as they were lent
-pub point : (keys : List (Option (List ℕ))) (xs lent : List Ranked) (skip r : ℕ) (word : List ℕ) (at : ℕ)
+pub point : (keys : List (Option (List ℕ))) (xs lent : List Ranked) (skip r : ℕ) (word : List ℕ)
+    (at : ℕ)
     → IsSortedBy (is_before keys) xs → lent ≡ xs → r ≡ rank skip word
-    → (IsPartitionedBy (is_below keys r word) lent → IsPartitionPoint (λ y. is_below keys r word y ≡ true) (λ y. is_below keys r word y ≡ false) lent at)
-    → IsPartitionPoint (λ y. is_below keys (rank skip word) word y ≡ true) (λ y. is_below keys (rank skip word) word y ≡ false) xs at
+    → (IsPartitionedBy (is_below keys r word) lent
+    → IsPartitionPoint (λ y. is_below keys r word y ≡ true)
+    (λ y. is_below keys r word y ≡ false) lent at)
+    → IsPartitionPoint (λ y. is_below keys (rank skip word) word y ≡ true)
+    (λ y. is_below keys (rank skip word) word y ≡ false) xs at
 point keys xs lent skip r word at up e f h =
-    let own : IsPartitionPoint (λ y. is_below keys r word y ≡ true) (λ y. is_below keys r word y ≡ false) xs at =
-    subst (λ (l : List Ranked). IsPartitionPoint (λ y. is_below keys r word y ≡ true) (λ y. is_below keys r word y ≡ false) l at) e
-    (h (subst (λ (l : List Ranked). IsPartitionedBy (is_below keys r word) l) (sym e) (below_first keys xs up r word))) in
-    subst (λ (q : ℕ). IsPartitionPoint (λ y. is_below keys q word y ≡ true) (λ y. is_below keys q word y ≡ false) xs at) f own
+    let own : IsPartitionPoint (λ y. is_below keys r word y ≡ true)
+    (λ y. is_below keys r word y ≡ false) xs at =
+    subst (λ (l : List Ranked). IsPartitionPoint (λ y. is_below keys r word y ≡ true)
+    (λ y. is_below keys r word y ≡ false) l at) e
+    (h (subst (λ (l : List Ranked). IsPartitionedBy (is_below keys r word) l) (sym e)
+    (below_first keys xs up r word))) in
+    subst (λ (q : ℕ). IsPartitionPoint (λ y. is_below keys q word y ≡ true)
+    (λ y. is_below keys q word y ≡ false) xs at) f own
 
 -- the key at that place is the word, or is not
-pub found_there : (keys : List (Option (List ℕ))) (xs lent : List Ranked) (skip : ℕ) (word key : List ℕ) (at : ℕ) (x : Ranked)
+pub found_there : (keys : List (Option (List ℕ))) (xs lent : List Ranked) (skip : ℕ)
+    (word key : List ℕ) (at : ℕ) (x : Ranked)
     → IsSortedBy (is_before keys) xs → IsListed keys skip xs → lent ≡ xs
-    → IsPartitionPoint (λ y. is_below keys (rank skip word) word y ≡ true) (λ y. is_below keys (rank skip word) word y ≡ false) xs at
-    → at < length lent → x ≡ get_or lent at x → key ≡ key_at keys x.place → pointwise nat_eq key word ≡ true → Some x.place ≡ position_from (is_key word) 0 keys
+    → IsPartitionPoint (λ y. is_below keys (rank skip word) word y ≡ true)
+    (λ y. is_below keys (rank skip word) word y ≡ false) xs at
+    → at < length lent → x ≡ get_or lent at x → key ≡ key_at keys x.place
+    → pointwise nat_eq key word ≡ true → Some x.place ≡ position_from (is_key word) 0 keys
 found_there keys xs lent skip word key at x up h e part l is k t =
-    sym (found keys xs up skip h word at part x (subst (λ (r : List Ranked). at < length r) e l) (is ∙ ap (λ (r : List Ranked). get_or r at x) e) (sym k ∙ (bytes_eq-Decides key word).0 t))
+    sym (found keys xs up skip h word at part x (subst (λ (r : List Ranked). at < length r) e l) (is
+    ∙ ap (λ (r : List Ranked). get_or r at x) e) (sym k ∙ (bytes_eq-Decides key word).0 t))
 
-pub other_there : (keys : List (Option (List ℕ))) (xs lent : List Ranked) (skip : ℕ) (word key : List ℕ) (at : ℕ) (x : Ranked)
+pub other_there : (keys : List (Option (List ℕ))) (xs lent : List Ranked) (skip : ℕ)
+    (word key : List ℕ) (at : ℕ) (x : Ranked)
     → IsSortedBy (is_before keys) xs → IsListed keys skip xs → lent ≡ xs
-    → IsPartitionPoint (λ y. is_below keys (rank skip word) word y ≡ true) (λ y. is_below keys (rank skip word) word y ≡ false) xs at
-    → at < length lent → x ≡ get_or lent at x → key ≡ key_at keys x.place → pointwise nat_eq key word ≡ false → None ≡ position_from (is_key word) 0 keys
+    → IsPartitionPoint (λ y. is_below keys (rank skip word) word y ≡ true)
+    (λ y. is_below keys (rank skip word) word y ≡ false) xs at
+    → at < length lent → x ≡ get_or lent at x → key ≡ key_at keys x.place
+    → pointwise nat_eq key word ≡ false → None ≡ position_from (is_key word) 0 keys
 other_there keys xs lent skip word key at x up h e part l is k t =
     sym (nowhere keys xs up skip h word at part
     (λ y m same it.
-    let y_is : y ≡ x = same ∙ one_default xs at y x m ∙ ap (λ (r : List Ranked). get_or r at x) (sym e) ∙ sym is in
-    not_both (pointwise nat_eq key word) ((bytes_eq-Decides key word).1 (k ∙ ap (λ (r : Ranked). key_at keys r.place) (sym y_is) ∙ it)) t))
+    let y_is : y ≡ x = same ∙ one_default xs at y x m
+    ∙ ap (λ (r : List Ranked). get_or r at x) (sym e) ∙ sym is in
+    not_both (pointwise nat_eq key word)
+    ((bytes_eq-Decides key word).1 (k ∙ ap (λ (r : Ranked). key_at keys r.place) (sym y_is)
+    ∙ it)) t))
 
-pub none_there : (keys : List (Option (List ℕ))) (xs lent : List Ranked) (skip : ℕ) (word : List ℕ) (at : ℕ)
+pub none_there : (keys : List (Option (List ℕ))) (xs lent : List Ranked) (skip : ℕ) (word : List ℕ)
+    (at : ℕ)
     → IsSortedBy (is_before keys) xs → IsListed keys skip xs → lent ≡ xs
-    → IsPartitionPoint (λ y. is_below keys (rank skip word) word y ≡ true) (λ y. is_below keys (rank skip word) word y ≡ false) xs at
+    → IsPartitionPoint (λ y. is_below keys (rank skip word) word y ≡ true)
+    (λ y. is_below keys (rank skip word) word y ≡ false) xs at
     → length lent ≤ at → None ≡ position_from (is_key word) 0 keys
 none_there keys xs lent skip word at up h e part l =
     let n = ap (λ (r : List Ranked). length r) e in

@@ -6,11 +6,13 @@ use Rattle.ports.specs.Rooms.{HasRoom, FellBy, StaysReady}
 pub stay_none : (reads : List ℕ → ℕ) (writes : ℕ) → CountsStay reads writes reads writes
 stay_none reads writes = record { reads = λ q. refl; writes = refl }
 
-pub stay_then : (reads : List ℕ → ℕ) (writes : ℕ) (reads_mid : List ℕ → ℕ) (writes_mid : ℕ) (reads_now : List ℕ → ℕ) (writes_now : ℕ)
+pub stay_then : (reads : List ℕ → ℕ) (writes : ℕ) (reads_mid : List ℕ → ℕ) (writes_mid : ℕ)
+    (reads_now : List ℕ → ℕ) (writes_now : ℕ)
     → CountsStay reads writes reads_mid writes_mid
     → CountsStay reads_mid writes_mid reads_now writes_now
     → CountsStay reads writes reads_now writes_now
-stay_then reads writes reads_mid writes_mid reads_now writes_now h k = record { reads = λ q. k.reads q ∙ h.reads q; writes = k.writes ∙ h.writes }
+stay_then reads writes reads_mid writes_mid reads_now writes_now h k =
+    record { reads = λ q. k.reads q ∙ h.reads q; writes = k.writes ∙ h.writes }
 
 -- no less room than before
 no_less : (room : Option ℕ) → FellBy 0 room room
@@ -27,7 +29,9 @@ pub ready_none : (readable : List ℕ → Type 0) (space : List ℕ → Option �
     → StaysReady readable space readable space
 ready_none readable space = record { readable = λ q h. h; space = λ q. no_less (space q) }
 
-pub ready_then : (readable : List ℕ → Type 0) (space : List ℕ → Option ℕ) (readable_mid : List ℕ → Type 0) (space_mid : List ℕ → Option ℕ) (readable_now : List ℕ → Type 0) (space_now : List ℕ → Option ℕ)
+pub ready_then : (readable : List ℕ → Type 0) (space : List ℕ → Option ℕ) (readable_mid : List ℕ
+    → Type 0) (space_mid : List ℕ → Option ℕ) (readable_now : List ℕ → Type 0) (space_now : List ℕ
+    → Option ℕ)
     → StaysReady readable space readable_mid space_mid
     → StaysReady readable_mid space_mid readable_now space_now
     → StaysReady readable space readable_now space_now

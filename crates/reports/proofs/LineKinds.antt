@@ -14,8 +14,11 @@ or_true false c h = h
 pub some_line : (p : Line → Bool) (ls : List code.Line) (i : ℕ) (x y : code.Line) → i < length ls
     → x ≡ get_or ls i y → p (line_of x) ≡ true → list_any p (lines_of ls) ≡ true
 some_line p [] i x y l e h = absurd (omega arith)
-some_line p (z ∷ ls) zero x y l e h = ap (λ (b : Bool). b || list_any p (lines_of ls)) (ap (λ (w : code.Line). p (line_of w)) (sym e) ∙ h)
-some_line p (z ∷ ls) (suc i) x y l e h = or_true (p (line_of z)) (list_any p (lines_of ls)) (some_line p ls i x y (omega arith) e h)
+some_line p (z ∷ ls) zero x y l e h =
+    ap (λ (b : Bool). b || list_any p (lines_of ls)) (ap (λ (w : code.Line). p (line_of w)) (sym e)
+    ∙ h)
+some_line p (z ∷ ls) (suc i) x y l e h =
+    or_true (p (line_of z)) (list_any p (lines_of ls)) (some_line p ls i x y (omega arith) e h)
 
 -- no line is left
 pub none_left : (p : Line → Bool) (ls : List code.Line) (i : ℕ) → length ls ≤ i
@@ -30,5 +33,10 @@ pub pass_over : (p : Line → Bool) (ls : List code.Line) (i : ℕ) (x y : code.
     → x ≡ get_or ls i y → p (line_of x) ≡ false
     → list_any p (lines_of (drop (i + 1) ls)) ≡ list_any p (lines_of (drop i ls))
 pass_over p [] i x y l e h = absurd (omega arith)
-pass_over p (z ∷ ls) zero x y l e h = ap (λ (b : Bool). b || list_any p (lines_of ls)) (sym (ap (λ (w : code.Line). p (line_of w)) (sym e) ∙ h))
-pass_over p (z ∷ ls) (suc i) x y l e h = ap (λ (n : ℕ). list_any p (lines_of (drop n (z ∷ ls)))) (add-one (suc i)) ∙ ap (λ (n : ℕ). list_any p (lines_of (drop n ls))) (sym (add-one i)) ∙ pass_over p ls i x y (omega arith) e h
+pass_over p (z ∷ ls) zero x y l e h =
+    ap (λ (b : Bool). b || list_any p (lines_of ls))
+    (sym (ap (λ (w : code.Line). p (line_of w)) (sym e) ∙ h))
+pass_over p (z ∷ ls) (suc i) x y l e h =
+    ap (λ (n : ℕ). list_any p (lines_of (drop n (z ∷ ls)))) (add-one (suc i))
+    ∙ ap (λ (n : ℕ). list_any p (lines_of (drop n ls))) (sym (add-one i))
+    ∙ pass_over p ls i x y (omega arith) e h

@@ -61,15 +61,21 @@ chunk_known bs m b o x k r h l =
     let e = get_or_read bs b x k r [] in
     let l1 : o < length (get_or bs b []) = subst (λ ys. o < length ys) e l in
     let w = start_within bs b k in
-    subst (λ ys. get_or ys o 0 < m) (sym e) (subst (λ (n : ℕ). n < m) (chunk_value bs b o k l1) (h (length (joined (take b bs)) + o) (omega (arith, w, l1))))
+    subst (λ ys. get_or ys o 0 < m) (sym e)
+    (subst (λ (n : ℕ). n < m) (chunk_value bs b o k l1)
+    (h (length (joined (take b bs)) + o) (omega (arith, w, l1))))
 
-module _ (z : ℕ → ℤ) (live : List ℕ) (bs : List (List ℕ)) (j : joined bs ≡ live) (b start p : ℕ) (x : List ℕ)
-    (k : b < length bs) (s : start ≡ length (joined (take b bs))) (r : x ≡ get_or bs b x) (some : 0 < length x) (w : p ≤ length x) where
+module _ (z : ℕ → ℤ) (live : List ℕ) (bs : List (List ℕ)) (j : joined bs ≡ live) (b start p : ℕ)
+    (x : List ℕ)
+    (k : b < length bs) (s : start ≡ length (joined (take b bs))) (r : x ≡ get_or bs b x)
+    (some : 0 < length x) (w : p ≤ length x) where
   e : x ≡ get_or bs b []
   e = get_or_read bs b x k r []
 
   pub cut_within : start + p ≤ length live
-  cut_within = let a = start_within bs b k in let c = ap length e in let d = ap length j in omega (arith, a, c, d, s, w)
+  cut_within =
+      let a = start_within bs b k in
+      let c = ap length e in let d = ap length j in omega (arith, a, c, d, s, w)
 
   value : (o : ℕ) → o < length x → get_or live (start + o) 0 ≡ get_or x o 0
   value o l =
@@ -79,7 +85,8 @@ module _ (z : ℕ → ℤ) (live : List ℕ) (bs : List (List ℕ)) (j : joined 
   first_is : first_of bs b ≡ get_or x 0 0
   first_is = ap (λ ys. get_or ys 0 0) (sym e)
 
-  module _ (lower : (i : ℕ) → b ≡ suc i → pos 0 <ℤ z (first_of bs b)) (high : p < length x → z (get_or x p 0) ≤ℤ pos 0) where
+  module _ (lower : (i : ℕ) → b ≡ suc i → pos 0 <ℤ z (first_of bs b)) (high : p < length x
+      → z (get_or x p 0) ≤ℤ pos 0) where
     starts : (c i : ℕ) → b ≡ c → p ≡ 0 → start + p ≡ suc i → ⊥
     starts zero i f q g =
         let n = s ∙ ap (λ (m : ℕ). length (joined (take m bs))) f in
@@ -98,13 +105,15 @@ module _ (z : ℕ → ℤ) (live : List ℕ) (bs : List (List ℕ)) (j : joined 
     below_at zero i f low g = absurd (starts b i refl f g)
     below_at (suc q) i f low g =
         let n : start + q ≡ i = omega (arith, f, g) in
-        subst (λ (m : ℕ). pos 0 <ℤ z (get_or live m 0)) n (subst (λ (v : ℕ). pos 0 <ℤ z v) (sym (value q (omega (arith, f, w)))) (low q f))
+        subst (λ (m : ℕ). pos 0 <ℤ z (get_or live m 0)) n
+        (subst (λ (v : ℕ). pos 0 <ℤ z v) (sym (value q (omega (arith, f, w)))) (low q f))
 
     pub cut_below : ((i : ℕ) → p ≡ suc i → pos 0 <ℤ z (get_or x i 0)) → (i : ℕ) → start + p ≡ suc i
         → pos 0 <ℤ z (get_or live i 0)
     cut_below low i g = below_at p i refl low g
 
-  module _ (next : b + 1 < length bs → 0 < length (get_or bs (b + 1) [])) (upper : b + 1 < length bs → z (first_of bs (b + 1)) ≤ℤ pos 0) (high : p < length x → z (get_or x p 0) ≤ℤ pos 0) where
+  module _ (next : b + 1 < length bs → 0 < length (get_or bs (b + 1) [])) (upper : b + 1 < length bs
+      → z (first_of bs (b + 1)) ≤ℤ pos 0) (high : p < length x → z (get_or x p 0) ≤ℤ pos 0) where
     is_next : length x ≤ p → start + p < length live → b + 1 < length bs
     is_next f l = by_size (b + 1) (length bs) (λ last.
         let a = size_split bs b k in let m = size_more bs b k in
@@ -119,12 +128,17 @@ module _ (z : ℕ → ℤ) (live : List ℕ) (bs : List (List ℕ)) (j : joined 
     cut_above l = by_rest (length x - p) refl
       where
         by_rest : (d : ℕ) → length x - p ≡ d → z (get_or live (start + p) 0) ≤ℤ pos 0
-        by_rest (suc d) f = let i : p < length x = omega (arith, f) in subst (λ (v : ℕ). z v ≤ℤ pos 0) (sym (value p i)) (high i)
+        by_rest (suc d) f =
+            let i : p < length x = omega (arith, f) in
+            subst (λ (v : ℕ). z v ≤ℤ pos 0) (sym (value p i)) (high i)
         by_rest zero f =
             let i : length x ≤ p = omega (arith, f) in
             let n = is_next i l in
             let m = size_more bs b k in
             let c = ap length e in
-            let q : start + p ≡ length (joined (take (b + 1) bs)) + 0 = omega (arith, m, c, s, w, i) in
-            let v = ap (λ (i : ℕ). get_or live i 0) q ∙ ap (λ ys. get_or ys (length (joined (take (b + 1) bs)) + 0) 0) (sym j) ∙ chunk_value bs (b + 1) 0 n (next n) in
+            let q : start + p ≡ length (joined (take (b + 1) bs))
+            + 0 = omega (arith, m, c, s, w, i) in
+            let v = ap (λ (i : ℕ). get_or live i 0) q
+            ∙ ap (λ ys. get_or ys (length (joined (take (b + 1) bs)) + 0) 0) (sym j)
+            ∙ chunk_value bs (b + 1) 0 n (next n) in
             subst (λ (i : ℕ). z i ≤ℤ pos 0) (sym v) (upper n)

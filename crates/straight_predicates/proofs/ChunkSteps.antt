@@ -23,11 +23,14 @@ module _ {T : Type 0} (old : List T) (from count : ℕ) (w : from + count ≤ le
       → new ≡ without (left - taken)
   without_more left taken now new l m e f =
       let h = drop (from + (count - left)) old in
-      let n : from + (count - left) + taken ≡ from + (count - (left - taken)) = omega (arith, l, m) in
+      let n : from + (count - left) + taken
+      ≡ from + (count - (left - taken)) = omega (arith, l, m) in
       f ∙ ap (λ xs. take from xs ++ drop (from + taken) xs) e
-      ∙ ap (λ xs. xs ++ drop (from + taken) (without left)) (take_at (take from old) h from head_size)
+      ∙ ap (λ xs. xs ++ drop (from + taken) (without left))
+      (take_at (take from old) h from head_size)
       ∙ ap (λ xs. take from old ++ xs)
-      (sym (drop-drop taken from (without left)) ∙ ap (λ xs. drop taken xs) (drop_at (take from old) h from head_size)
+      (sym (drop-drop taken from (without left))
+      ∙ ap (λ xs. drop taken xs) (drop_at (take from old) h from head_size)
       ∙ drop-drop taken (from + (count - left)) old ∙ ap (λ (k : ℕ). drop k old) n)
 
 module _ {T : Type 0} (old with : List T) (place : ℕ) (w : place ≤ length old) where
@@ -39,7 +42,9 @@ module _ {T : Type 0} (old with : List T) (place : ℕ) (w : place ≤ length ol
   front_size = length-take-le place old w
 
   pub including_size : (left : ℕ) → place ≤ length (including left)
-  including_size left = let a = length-append (take place old) (drop left with ++ drop place old) in omega (arith, a, front_size)
+  including_size left =
+      let a = length-append (take place old) (drop left with ++ drop place old) in
+      omega (arith, a, front_size)
 
   pub including_more : (from left : ℕ) (now new : List T) → from ≤ left → now ≡ including left
       → new ≡ take place now ++ (take (left - from) (drop from with) ++ drop place now)
@@ -48,9 +53,14 @@ module _ {T : Type 0} (old with : List T) (place : ℕ) (w : place ≤ length ol
       let h = drop left with ++ drop place old in
       let n : from + (left - from) ≡ left = omega (arith, l) in
       let cut : take (left - from) (drop from with) ++ drop left with ≡ drop from with =
-      ap (λ xs. take (left - from) (drop from with) ++ xs) (ap (λ (k : ℕ). drop k with) (sym n) ∙ sym (drop-drop (left - from) from with))
+      ap (λ xs. take (left - from) (drop from with) ++ xs) (ap (λ (k : ℕ). drop k with) (sym n)
+      ∙ sym (drop-drop (left - from) from with))
       ∙ take-append-drop (left - from) (drop from with) in
       f ∙ ap (λ xs. take place xs ++ (take (left - from) (drop from with) ++ drop place xs)) e
-      ∙ ap (λ xs. xs ++ (take (left - from) (drop from with) ++ drop place (including left))) (take_at (take place old) h place front_size)
-      ∙ ap (λ xs. take place old ++ (take (left - from) (drop from with) ++ xs)) (drop_at (take place old) h place front_size)
-      ∙ ap (λ xs. take place old ++ xs) (sym (append_assoc (take (left - from) (drop from with)) (drop left with) (drop place old)) ∙ ap (λ xs. xs ++ drop place old) cut)
+      ∙ ap (λ xs. xs ++ (take (left - from) (drop from with) ++ drop place (including left)))
+      (take_at (take place old) h place front_size)
+      ∙ ap (λ xs. take place old ++ (take (left - from) (drop from with) ++ xs))
+      (drop_at (take place old) h place front_size)
+      ∙ ap (λ xs. take place old ++ xs)
+      (sym (append_assoc (take (left - from) (drop from with)) (drop left with)
+      (drop place old)) ∙ ap (λ xs. xs ++ drop place old) cut)

@@ -16,7 +16,8 @@ use Rattle.straight_predicates.proofs.OneSide.{IsAside}
 
 -- ---- the variables: s is 0 1 2 3, t is 4 5 6 7
 abbrev ends : Edge → Edge → ℕ → ℤ
-ends s t = vars (s.low.x ∷ s.low.y ∷ s.high.x ∷ s.high.y ∷ t.low.x ∷ t.low.y ∷ t.high.x ∷ t.high.y ∷ [])
+ends s t = vars (s.low.x ∷ s.low.y ∷ s.high.x ∷ s.high.y ∷ t.low.x ∷ t.low.y ∷ t.high.x ∷ t.high.y
+    ∷ [])
 
 abbrev OVER_S : Expr → Expr → Expr
 OVER_S x y = SIDE (at 0) (at 1) (at 2) (at 3) x y (num (pos 1))
@@ -48,13 +49,16 @@ sides_differ s t = ring (minus TH TL) (minus SL SH) (ends s t) refl
 
 -- the place where t rises through the line of s, as a mean of t's ends and of s's ends
 abbrev rising : Edge → Edge → Vector
-rising s t = mix (side s (point t.high)) (point t.low) (pos 0 -ℤ side s (point t.low)) (point t.high)
+rising s t =
+    mix (side s (point t.high)) (point t.low) (pos 0 -ℤ side s (point t.low)) (point t.high)
 
 abbrev falling : Edge → Edge → Vector
-falling s t = mix (pos 0 -ℤ side s (point t.high)) (point t.low) (side s (point t.low)) (point t.high)
+falling s t =
+    mix (pos 0 -ℤ side s (point t.high)) (point t.low) (side s (point t.low)) (point t.high)
 
 rising_same : (s t : Edge)
-    → Same (rising s t) (mix (pos 0 -ℤ side t (point s.high)) (point s.low) (side t (point s.low)) (point s.high))
+    → Same (rising s t)
+    (mix (pos 0 -ℤ side t (point s.high)) (point s.low) (side t (point s.low)) (point s.high))
 unfolding side
 rising_same s t =
     let low = minus NONE SH in
@@ -62,20 +66,25 @@ rising_same s t =
     let k : Expr → Expr → Expr = λ l h. plus (times low l) (times SL h) in
     let one = num (pos 1) in
     record {
-      x = ring (times (m (at 4) (at 6)) (k one one)) (times (k (at 0) (at 2)) (m one one)) (ends s t) refl;
-      y = ring (times (m (at 5) (at 7)) (k one one)) (times (k (at 1) (at 3)) (m one one)) (ends s t) refl;
+      x = ring (times (m (at 4) (at 6)) (k one one)) (times (k (at 0) (at 2)) (m one one))
+          (ends s t) refl;
+      y = ring (times (m (at 5) (at 7)) (k one one)) (times (k (at 1) (at 3)) (m one one))
+          (ends s t) refl;
     }
 
 falling_same : (s t : Edge)
-    → Same (falling s t) (mix (side t (point s.high)) (point s.low) (pos 0 -ℤ side t (point s.low)) (point s.high))
+    → Same (falling s t)
+    (mix (side t (point s.high)) (point s.low) (pos 0 -ℤ side t (point s.low)) (point s.high))
 unfolding side
 falling_same s t =
     let m : Expr → Expr → Expr = λ l h. plus (times (minus NONE TH) l) (times TL h) in
     let k : Expr → Expr → Expr = λ l h. plus (times SH l) (times (minus NONE SL) h) in
     let one = num (pos 1) in
     record {
-      x = ring (times (m (at 4) (at 6)) (k one one)) (times (k (at 0) (at 2)) (m one one)) (ends s t) refl;
-      y = ring (times (m (at 5) (at 7)) (k one one)) (times (k (at 1) (at 3)) (m one one)) (ends s t) refl;
+      x = ring (times (m (at 4) (at 6)) (k one one)) (times (k (at 0) (at 2)) (m one one))
+          (ends s t) refl;
+      y = ring (times (m (at 5) (at 7)) (k one one)) (times (k (at 1) (at 3)) (m one one))
+          (ends s t) refl;
     }
 
 -- ---- a common place
@@ -87,10 +96,12 @@ pub record Common (s t : Edge) : Type 0 where
 
 common_from : (s t : Edge) (i j k l : ℤ) → pos 0 ≤ℤ i → pos 0 ≤ℤ j → pos 0 <ℤ (i +ℤ j) → pos 0 ≤ℤ k
     → pos 0 ≤ℤ l → pos 0 <ℤ (k +ℤ l)
-    → Same (mix i (point t.low) j (point t.high)) (mix k (point s.low) l (point s.high)) → Common s t
+    → Same (mix i (point t.low) j (point t.high)) (mix k (point s.low) l (point s.high))
+    → Common s t
 common_from s t i j k l hi hj ij hk hl kl is =
     let z = mix i (point t.low) j (point t.high) in
-    let Z = mix_place i (point t.low) j (point t.high) (place_point t.low) (place_point t.high) hi hj ij in
+    let Z = mix_place i (point t.low) j (point t.high) (place_point t.low)
+    (place_point t.high) hi hj ij in
     record {
       z = z;
       place = Z;
@@ -105,10 +116,15 @@ common_rising s t low high l clear =
     let d = sides_differ s t in
     let sl = side t (point s.low) in
     let sh = side t (point s.high) in
-    let low_least : pos 0 ≤ℤ sl = by_lt_z sl (pos 0) (λ (k : sl <ℤ pos 0). let k' : sh <ℤ pos 0 = omega (arith, ints, d, l, k) in absurd (clear (inr (k, k')))) (λ k. k) in
-    let high_most : sh ≤ℤ pos 0 = by_lt_z (pos 0) sh (λ (k : pos 0 <ℤ sh). let k' : pos 0 <ℤ sl = omega (arith, ints, d, l, k) in absurd (clear (inl (k', k)))) (λ k. k) in
+    let low_least : pos 0 ≤ℤ sl = by_lt_z sl (pos 0)
+    (λ (k : sl <ℤ pos 0). let k' : sh <ℤ pos 0 = omega (arith, ints, d, l, k) in
+    absurd (clear (inr (k, k')))) (λ k. k) in
+    let high_most : sh ≤ℤ pos 0 = by_lt_z (pos 0) sh
+    (λ (k : pos 0 <ℤ sh). let k' : pos 0 <ℤ sl = omega (arith, ints, d, l, k) in
+    absurd (clear (inl (k', k)))) (λ k. k) in
     common_from s t (side s (point t.high)) (pos 0 -ℤ side s (point t.low)) (pos 0 -ℤ sh) sl
-    high (omega (arith, ints, low)) (omega (arith, ints, l)) (omega (arith, ints, high_most)) low_least (omega (arith, ints, d, l)) (rising_same s t)
+    high (omega (arith, ints, low)) (omega (arith, ints, l))
+    (omega (arith, ints, high_most)) low_least (omega (arith, ints, d, l)) (rising_same s t)
 
 common_falling : (s t : Edge) → pos 0 ≤ℤ side s (point t.low) → side s (point t.high) ≤ℤ pos 0
     → side s (point t.high) <ℤ side s (point t.low)
@@ -117,10 +133,15 @@ common_falling s t low high l clear =
     let d = sides_differ s t in
     let sl = side t (point s.low) in
     let sh = side t (point s.high) in
-    let low_most : sl ≤ℤ pos 0 = by_lt_z (pos 0) sl (λ (k : pos 0 <ℤ sl). let k' : pos 0 <ℤ sh = omega (arith, ints, d, l, k) in absurd (clear (inl (k, k')))) (λ k. k) in
-    let high_least : pos 0 ≤ℤ sh = by_lt_z sh (pos 0) (λ (k : sh <ℤ pos 0). let k' : sl <ℤ pos 0 = omega (arith, ints, d, l, k) in absurd (clear (inr (k', k)))) (λ k. k) in
+    let low_most : sl ≤ℤ pos 0 = by_lt_z (pos 0) sl
+    (λ (k : pos 0 <ℤ sl). let k' : pos 0 <ℤ sh = omega (arith, ints, d, l, k) in
+    absurd (clear (inl (k, k')))) (λ k. k) in
+    let high_least : pos 0 ≤ℤ sh = by_lt_z sh (pos 0)
+    (λ (k : sh <ℤ pos 0). let k' : sl <ℤ pos 0 = omega (arith, ints, d, l, k) in
+    absurd (clear (inr (k', k)))) (λ k. k) in
     common_from s t (pos 0 -ℤ side s (point t.high)) (side s (point t.low)) sh (pos 0 -ℤ sl)
-    (omega (arith, ints, high)) low (omega (arith, ints, l)) high_least (omega (arith, ints, low_most)) (omega (arith, ints, d, l)) (falling_same s t)
+    (omega (arith, ints, high)) low (omega (arith, ints, l)) high_least
+    (omega (arith, ints, low_most)) (omega (arith, ints, d, l)) (falling_same s t)
 
 -- the ends of t are not both on the line of s
 abbrev pub IsAcross : Edge → Edge → Type 0
@@ -133,14 +154,18 @@ common s t across clear clear' =
     by_sign a
     (λ (l : a <ℤ pos 0). by_lt_z b (pos 0)
     (λ (k : b <ℤ pos 0). absurd (clear (inr (l, k))))
-    (λ (k : pos 0 ≤ℤ b). common_rising s t (omega (arith, ints, l)) k (omega (arith, ints, l, k)) clear'))
+    (λ (k : pos 0 ≤ℤ b). common_rising s t (omega (arith, ints, l)) k
+    (omega (arith, ints, l, k)) clear'))
     (λ (e : a ≡ pos 0). by_sign b
-    (λ (k : b <ℤ pos 0). common_falling s t (omega (arith, ints, e)) (omega (arith, ints, k)) (omega (arith, ints, e, k)) clear')
+    (λ (k : b <ℤ pos 0). common_falling s t (omega (arith, ints, e)) (omega (arith, ints, k))
+    (omega (arith, ints, e, k)) clear')
     (λ (k : b ≡ pos 0). absurd (across (e, k)))
-    (λ (k : pos 0 <ℤ b). common_rising s t (omega (arith, ints, e)) (omega (arith, ints, k)) (omega (arith, ints, e, k)) clear'))
+    (λ (k : pos 0 <ℤ b). common_rising s t (omega (arith, ints, e)) (omega (arith, ints, k))
+    (omega (arith, ints, e, k)) clear'))
     (λ (l : pos 0 <ℤ a). by_lt_z (pos 0) b
     (λ (k : pos 0 <ℤ b). absurd (clear (inl (l, k))))
-    (λ (k : b ≤ℤ pos 0). common_falling s t (omega (arith, ints, l)) k (omega (arith, ints, l, k)) clear'))
+    (λ (k : b ≤ℤ pos 0). common_falling s t (omega (arith, ints, l)) k
+    (omega (arith, ints, l, k)) clear'))
 
 -- ---- a common end is the only common place
 end_on_line : (e : Edge) (p : Point) → edges.IsEnd e p → side e (point p) ≡ pos 0
@@ -158,16 +183,22 @@ only_low z l h i j hi e is = record {
         → zx *ℤ ((i *ℤ ln) +ℤ (j *ℤ hn)) ≡ ((i *ℤ lx) +ℤ (j *ℤ hx)) *ℤ zn → zx *ℤ ln ≡ lx *ℤ zn
     one zx lx hx zn ln hn i j hi e is =
         let E = vars (zx ∷ lx ∷ hx ∷ zn ∷ ln ∷ hn ∷ i ∷ j ∷ []) in
-        let f = ring (minus (times (at 0) (plus (times (at 6) (at 4)) (times (at 7) (at 5)))) (times (plus (times (at 6) (at 1)) (times (at 7) (at 2))) (at 3)))
-        (plus (times (at 6) (minus (times (at 0) (at 4)) (times (at 1) (at 3)))) (times (minus (times (at 0) (at 5)) (times (at 2) (at 3))) (at 7))) E refl in
+        let f = ring
+        (minus (times (at 0) (plus (times (at 6) (at 4)) (times (at 7) (at 5))))
+        (times (plus (times (at 6) (at 1)) (times (at 7) (at 2))) (at 3)))
+        (plus (times (at 6) (minus (times (at 0) (at 4)) (times (at 1) (at 3))))
+        (times (minus (times (at 0) (at 5)) (times (at 2) (at 3))) (at 7))) E refl in
         let g = product_of_zero ((zx *ℤ hn) -ℤ (hx *ℤ zn)) j e in
-        let k : (zx *ℤ ln) -ℤ (lx *ℤ zn) ≡ pos 0 = cancel_zero i ((zx *ℤ ln) -ℤ (lx *ℤ zn)) hi (omega (arith, ints, f, g, is)) in
+        let k : (zx *ℤ ln) -ℤ (lx *ℤ zn) ≡ pos 0 = cancel_zero i ((zx *ℤ ln) -ℤ (lx *ℤ zn)) hi
+        (omega (arith, ints, f, g, is)) in
         omega (arith, ints, k)
 
 pub swap_same : (z l h : Vector) (i j : ℤ) → Same z (mix i l j h) → Same z (mix j h i l)
 swap_same z l h i j is = record {
-  x = ap (λ (n : ℤ). z.x *ℤ n) (omega (arith, ints)) ∙ is.x ∙ ap (λ (n : ℤ). n *ℤ z.n) (omega (arith, ints));
-  y = ap (λ (n : ℤ). z.y *ℤ n) (omega (arith, ints)) ∙ is.y ∙ ap (λ (n : ℤ). n *ℤ z.n) (omega (arith, ints));
+  x = ap (λ (n : ℤ). z.x *ℤ n) (omega (arith, ints)) ∙ is.x
+      ∙ ap (λ (n : ℤ). n *ℤ z.n) (omega (arith, ints));
+  y = ap (λ (n : ℤ). z.y *ℤ n) (omega (arith, ints)) ∙ is.y
+      ∙ ap (λ (n : ℤ). n *ℤ z.n) (omega (arith, ints));
 }
 
 pub only_end : (s t : Edge) → IsAcross s t → (p : Point) → edges.IsEnd s p → edges.IsEnd t p
@@ -179,9 +210,13 @@ only_end s t across p sp tp z Z on_s on_t =
   where
     no_factor : (j h : ℤ) → (h ≡ pos 0 → ⊥) → j *ℤ h ≡ pos 0 → j ≡ pos 0
     no_factor j h n k = by_sign h
-        (λ (l : h <ℤ pos 0). cancel_zero (pos 0 -ℤ h) j (omega (arith, ints, l)) (ring (times (minus (num (pos 0)) (at 1)) (at 0)) (minus (num (pos 0)) (times (at 0) (at 1))) (vars (j ∷ h ∷ [])) refl ∙ omega (arith, ints, k)))
+        (λ (l : h <ℤ pos 0). cancel_zero (pos 0 -ℤ h) j (omega (arith, ints, l))
+        (ring (times (minus (num (pos 0)) (at 1)) (at 0))
+        (minus (num (pos 0)) (times (at 0) (at 1))) (vars (j ∷ h ∷ [])) refl
+        ∙ omega (arith, ints, k)))
         (λ (e : h ≡ pos 0). absurd (n e))
-        (λ (l : pos 0 <ℤ h). cancel_zero h j l (ring (times (at 1) (at 0)) (times (at 0) (at 1)) (vars (j ∷ h ∷ [])) refl ∙ k))
+        (λ (l : pos 0 <ℤ h). cancel_zero h j l
+        (ring (times (at 1) (at 0)) (times (at 0) (at 1)) (vars (j ∷ h ∷ [])) refl ∙ k))
 
     other_zero : (i j g h : ℤ) → g ≡ pos 0 → (h ≡ pos 0 → ⊥) → (i *ℤ g) +ℤ (j *ℤ h) ≡ pos 0
         → j ≡ pos 0
@@ -196,17 +231,31 @@ only_end s t across p sp tp z Z on_s on_t =
     at_end : IsBalanced s t z → side s (point p) ≡ pos 0 → edges.IsEnd t p → Same z (point p)
     at_end b zero (inl e) =
         let low = subst (λ (q : Point). side s (point q) ≡ pos 0) (sym e) zero in
-        let j0 = other_zero b.i b.j (side s (point t.low)) (side s (point t.high)) low (λ k. across (low, k)) b.zero in
+        let j0 = other_zero b.i b.j (side s (point t.low)) (side s (point t.high)) low
+        (λ k. across (low, k)) b.zero in
         let some = b.some in
-        subst (λ (q : Point). Same z (point q)) e (only_low z (point t.low) (point t.high) b.i b.j (omega (arith, ints, some, j0)) j0 b.is)
+        subst (λ (q : Point). Same z (point q)) e
+        (only_low z (point t.low) (point t.high) b.i b.j
+        (omega (arith, ints, some, j0)) j0 b.is)
     at_end b zero (inr e) =
         let high = subst (λ (q : Point). side s (point q) ≡ pos 0) (sym e) zero in
-        let i0 = other_zero b.j b.i (side s (point t.high)) (side s (point t.low)) high (λ k. across (k, high)) (swap_sum (b.i *ℤ side s (point t.low)) (b.j *ℤ side s (point t.high)) b.zero) in
+        let i0 = other_zero b.j b.i (side s (point t.high)) (side s (point t.low)) high
+        (λ k. across (k, high))
+        (swap_sum (b.i *ℤ side s (point t.low)) (b.j *ℤ side s (point t.high)) b.zero) in
         let some = b.some in
-        subst (λ (q : Point). Same z (point q)) e (only_low z (point t.high) (point t.low) b.j b.i (omega (arith, ints, some, i0)) i0 (swap_same z (point t.low) (point t.high) b.i b.j b.is))
+        subst (λ (q : Point). Same z (point q)) e
+        (only_low z (point t.high) (point t.low) b.j b.i (omega (arith, ints, some, i0)) i0
+        (swap_same z (point t.low) (point t.high) b.i b.j b.is))
 
 pub touch_across : (s t : Edge) → IsAcross s t → ShareEnd s t → edges.Touch s t
-touch_across s t across (p, sp, tp) = record { at = p; of_first = sp; of_second = tp; only = only_end s t across p sp tp }
+touch_across s t across (p, sp, tp) =
+    record { at = p; of_first = sp; of_second = tp; only = only_end s t across p sp tp }
 
 pub bad_without_end : (s t : Edge) → Common s t → (ShareEnd s t → ⊥) → edges.Bad s t
-bad_without_end s t c n = record { at = c.z; place = c.place; of_first = c.on_first; of_second = c.on_second; no_end = λ e. n (e.at, e.of_first, e.of_second) }
+bad_without_end s t c n = record {
+  at = c.z;
+  place = c.place;
+  of_first = c.on_first;
+  of_second = c.on_second;
+  no_end = λ e. n (e.at, e.of_first, e.of_second);
+}

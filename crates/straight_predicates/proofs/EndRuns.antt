@@ -26,7 +26,8 @@ one_more ends from n at z f g e k d l =
     by_lt k n (λ h. f k d h)
     (λ h.
     let q : k ≡ n = omega (arith, h, l) in
-    subst (λ (j : ℕ). (get_or (drop from ends) j d).at ≡ at) (sym q) (ap (λ (y : End). y.at) (get_or-drop from ends n d ∙ sym (g d)) ∙ e))
+    subst (λ (j : ℕ). (get_or (drop from ends) j d).at ≡ at) (sym q)
+    (ap (λ (y : End). y.at) (get_or-drop from ends n d ∙ sym (g d)) ∙ e))
 
 -- so many were copied, and all lie at the point
 pub record AreCopied (ends group : List End) (from n : ℕ) (at : Point) : Type 0 where
@@ -40,7 +41,8 @@ none_copied ends group from at e = record { copied = e; place = λ k d l. absurd
 sized : (ends group : List End) (from n : ℕ) (at : Point) → from < length ends
     → n ≤ length ends - from → AreCopied ends group from n at → length group ≡ n
 sized ends group from n at l m c =
-    ap length c.copied ∙ length-take-le n (drop from ends) (let q = length-drop from ends in omega (arith, l, m, q))
+    ap length c.copied ∙ length-take-le n (drop from ends) (let q = length-drop from ends in
+    omega (arith, l, m, q))
 
 pub as_long : (ends group : List End) (from n : ℕ) (at : Point) → from < length ends
     → n ≤ length ends - from → AreCopied ends group from n at
@@ -58,7 +60,8 @@ ends_at ends group from n first z s l m c g bad =
       some = some;
       within = let q = length-drop from ends in omega (arith, l, m, q);
       one = λ k d h. c.place k d h ∙ sym (c.place 0 d some);
-      next = λ d h e. bad (ap (λ (y : End). y.at) (g d ∙ sym (get_or-drop from ends n d)) ∙ e ∙ c.place 0 d some);
+      next = λ d h e. bad (ap (λ (y : End). y.at) (g d ∙ sym (get_or-drop from ends n d)) ∙ e
+          ∙ c.place 0 d some);
     })
   where
     none : (m : ℕ) → m ≡ 0 → from + m ≡ from
@@ -69,7 +72,8 @@ ends_at ends group from n first z s l m c g bad =
         by_lt 0 n (λ h. h)
         (λ h.
         let q : n ≡ 0 = omega (arith, h) in
-        absurd (bad (ap (λ (y : End). y.at) (g z ∙ ap (λ (k : ℕ). get_or ends k z) (none n q) ∙ sym (s z)))))
+        absurd (bad (ap (λ (y : End). y.at) (g z ∙ ap (λ (k : ℕ). get_or ends k z) (none n q)
+        ∙ sym (s z)))))
 
 pub ends_left : (ends group : List End) (from n : ℕ) (at : Point) → from < length ends
     → n ≤ length ends - from → length ends - from ≤ n → AreCopied ends group from n at

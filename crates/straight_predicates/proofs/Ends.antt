@@ -25,7 +25,8 @@ pub ends_more : (k : ℕ) (edges : List Edge) (e : Edge)
     → all_ends k (edges ++ e ∷ []) ≡ all_ends k edges ++ ends_of (k + length edges) e
 ends_more k [] e = ap (λ (n : ℕ). ends_of n e) (omega arith)
 ends_more k (d ∷ edges) e =
-    ap (λ zs. ends_of k d ++ zs) (ends_more (suc k) edges e ∙ ap (λ (n : ℕ). all_ends (suc k) edges ++ ends_of n e) (omega arith))
+    ap (λ zs. ends_of k d ++ zs) (ends_more (suc k) edges e
+    ∙ ap (λ (n : ℕ). all_ends (suc k) edges ++ ends_of n e) (omega arith))
 
 all_size : (k : ℕ) (edges : List Edge) → length (all_ends k edges) ≡ length edges + length edges
 all_size k [] = refl
@@ -40,21 +41,43 @@ record Belongs (k : ℕ) (edges : List Edge) (z : End) : Type 0 where
 
 all_only : (k : ℕ) (edges : List Edge) (z : End) → Has z (all_ends k edges) → Belongs k edges z
 all_only k [] z h = absurd h
-all_only k (e ∷ edges) z (inl q) = record { index = 0; within = omega arith; edge = ap (λ (y : End). y.edge) q ∙ omega arith; at = cc }
-all_only k (e ∷ edges) z (inr (inl q)) = record { index = 0; within = omega arith; edge = ap (λ (y : End). y.edge) q ∙ omega arith; at = cc }
+all_only k (e ∷ edges) z (inl q) = record {
+  index = 0;
+  within = omega arith;
+  edge = ap (λ (y : End). y.edge) q ∙ omega arith;
+  at = cc;
+}
+all_only k (e ∷ edges) z (inr (inl q)) =
+    record {
+      index = 0;
+      within = omega arith;
+      edge = ap (λ (y : End). y.edge) q ∙ omega arith;
+      at = cc;
+    }
 all_only k (e ∷ edges) z (inr (inr h)) =
     let b = all_only (suc k) edges z h in
-    record { index = suc b.index; within = let w = b.within in omega (arith, w); edge = let q = b.edge in omega (arith, q); at = b.at }
+    record {
+      index = suc b.index;
+      within = let w = b.within in omega (arith, w);
+      edge = let q = b.edge in omega (arith, q);
+      at = b.at;
+    }
 
-all_low : (k : ℕ) (edges : List Edge) (i n : ℕ) → i < length edges → n ≡ k + i → Has (record { at = (edge_of edges i).low; edge = n; starts = true }) (all_ends k edges)
+all_low : (k : ℕ) (edges : List Edge) (i n : ℕ) → i < length edges → n ≡ k + i
+    → Has (record { at = (edge_of edges i).low; edge = n; starts = true }) (all_ends k edges)
 all_low k [] i n l q = absurd (omega (arith, l))
-all_low k (e ∷ edges) zero n l q = inl (ap (λ (m : ℕ). record { at = e.low; edge = m; starts = true }) (omega (arith, q)))
-all_low k (e ∷ edges) (suc i) n l q = inr (inr (all_low (suc k) edges i n (omega (arith, l)) (omega (arith, q))))
+all_low k (e ∷ edges) zero n l q =
+    inl (ap (λ (m : ℕ). record { at = e.low; edge = m; starts = true }) (omega (arith, q)))
+all_low k (e ∷ edges) (suc i) n l q =
+    inr (inr (all_low (suc k) edges i n (omega (arith, l)) (omega (arith, q))))
 
-all_high : (k : ℕ) (edges : List Edge) (i n : ℕ) → i < length edges → n ≡ k + i → Has (record { at = (edge_of edges i).high; edge = n; starts = false }) (all_ends k edges)
+all_high : (k : ℕ) (edges : List Edge) (i n : ℕ) → i < length edges → n ≡ k + i
+    → Has (record { at = (edge_of edges i).high; edge = n; starts = false }) (all_ends k edges)
 all_high k [] i n l q = absurd (omega (arith, l))
-all_high k (e ∷ edges) zero n l q = inr (inl (ap (λ (m : ℕ). record { at = e.high; edge = m; starts = false }) (omega (arith, q))))
-all_high k (e ∷ edges) (suc i) n l q = inr (inr (all_high (suc k) edges i n (omega (arith, l)) (omega (arith, q))))
+all_high k (e ∷ edges) zero n l q =
+    inr (inl (ap (λ (m : ℕ). record { at = e.high; edge = m; starts = false }) (omega (arith, q))))
+all_high k (e ∷ edges) (suc i) n l q =
+    inr (inr (all_high (suc k) edges i n (omega (arith, l)) (omega (arith, q))))
 
 -- a number for each end
 abbrev code : End → ℕ
@@ -69,7 +92,10 @@ code_least k (e ∷ edges) n (inr (inr h)) = let l = code_least (suc k) edges n 
 all_once : (k : ℕ) (edges : List Edge) → Once (map code (all_ends k edges))
 all_once k [] = tt
 all_once k (e ∷ edges) = (
-  (λ h. elim h [ inl q ↦ omega (arith, q) | inr i ↦ (let l = code_least (suc k) edges _ i in omega (arith, l)) ]),
+  (λ h. elim h [
+    | inl q ↦ omega (arith, q)
+    | inr i ↦ (let l = code_least (suc k) edges _ i in omega (arith, l))
+  ]),
   ((λ i. let l = code_least (suc k) edges _ i in omega (arith, l)), all_once (suc k) edges),
 )
 
@@ -91,17 +117,23 @@ one_end edges s y z a b p q = by_side y.starts z.starts refl refl
     by_side true false e f = absurd (sides (low_is e ∙ p ∙ high_is f))
       where
         low_is : y.starts ≡ true → (edge_of edges y.edge).low ≡ y.at
-        low_is e = sym (a.at ∙ ap (λ (t : Bool). cond t (edge_of edges y.edge).low (edge_of edges y.edge).high) e)
+        low_is e = sym (a.at
+            ∙ ap (λ (t : Bool). cond t (edge_of edges y.edge).low (edge_of edges y.edge).high) e)
 
         high_is : z.starts ≡ false → z.at ≡ (edge_of edges y.edge).high
-        high_is f = b.at ∙ ap (λ (t : Bool). cond t (edge_of edges z.edge).low (edge_of edges z.edge).high) f ∙ ap (λ (n : ℕ). (edge_of edges n).high) (sym q)
+        high_is f = b.at
+            ∙ ap (λ (t : Bool). cond t (edge_of edges z.edge).low (edge_of edges z.edge).high) f
+            ∙ ap (λ (n : ℕ). (edge_of edges n).high) (sym q)
     by_side false true e f = absurd (sides (low_is f ∙ sym p ∙ high_is e))
       where
         low_is : z.starts ≡ true → (edge_of edges y.edge).low ≡ z.at
-        low_is f = sym (b.at ∙ ap (λ (t : Bool). cond t (edge_of edges z.edge).low (edge_of edges z.edge).high) f ∙ ap (λ (n : ℕ). (edge_of edges n).low) (sym q))
+        low_is f = sym (b.at
+            ∙ ap (λ (t : Bool). cond t (edge_of edges z.edge).low (edge_of edges z.edge).high) f
+            ∙ ap (λ (n : ℕ). (edge_of edges n).low) (sym q))
 
         high_is : y.starts ≡ false → y.at ≡ (edge_of edges y.edge).high
-        high_is e = a.at ∙ ap (λ (t : Bool). cond t (edge_of edges y.edge).low (edge_of edges y.edge).high) e
+        high_is e = a.at
+            ∙ ap (λ (t : Bool). cond t (edge_of edges y.edge).low (edge_of edges y.edge).high) e
 
 rising : (edges : List Edge) → AreSorted edges → (zs : List End)
     → ((z : End) → Has z zs → IsEndOf edges z) → Once (map code zs)
@@ -111,7 +143,13 @@ rising edges s (z ∷ []) f o h = (tt, tt)
 rising edges s (y ∷ (z ∷ zs)) f o h = (
   elim h.0 [
     | inl l ↦ inl l
-    | inr l ↦ inr (l.0, (let m = l.1 in let n : y.edge ≡ z.edge → ⊥ = λ q. o.0 (inl (one_end edges s y z (f y (inl refl)) (f z (inr (inl refl))) l.0 q)) in omega (arith, m, n)))
+    | inr l ↦ inr (
+      l.0,
+      (let m = l.1 in
+          let n : y.edge ≡ z.edge
+          → ⊥ = λ q. o.0 (inl (one_end edges s y z (f y (inl refl)) (f z (inr (inl refl))) l.0 q)) in
+          omega (arith, m, n)),
+    )
   ],
   rising edges s (z ∷ zs) (λ w i. f w (inr i)) o.1 h.1,
 )
@@ -123,13 +161,22 @@ pub sorted_all : (edges : List Edge) (zs : List End) → AreSorted edges
     → IsPermutation (all_ends 0 edges) zs → Neighbours IsNotAfter zs → AreEndsOf edges zs
 sorted_all edges zs s p h =
     let only : (z : End) → Has z zs → IsEndOf edges z = λ z i.
-    (let b = all_only 0 edges z (has_permutation zs (all_ends 0 edges) z (IsPermutation-sym (all_ends 0 edges) zs p) i) in
+    (let b = all_only 0 edges z
+    (has_permutation zs (all_ends 0 edges) z (IsPermutation-sym (all_ends 0 edges) zs p) i) in
     let q : z.edge ≡ b.index = from_zero z.edge b.index b.edge in
-    record { known = let w = b.within in omega (arith, w, q); at = b.at ∙ ap (λ (n : ℕ). cond z.starts (edge_of edges n).low (edge_of edges n).high) (sym q) }) in
+    record {
+      known = let w = b.within in omega (arith, w, q);
+      at = b.at ∙ ap (λ (n : ℕ). cond z.starts (edge_of edges n).low (edge_of edges n).high)
+          (sym q);
+    }) in
     record {
       only = only;
-      all = λ e l. (has_permutation (all_ends 0 edges) zs _ p (all_low 0 edges e e l (omega arith)), has_permutation (all_ends 0 edges) zs _ p (all_high 0 edges e e l (omega arith)));
-      rising = rising edges s zs only (once_permutation code (all_ends 0 edges) zs p (all_once 0 edges)) h;
+      all = λ e l. (
+        has_permutation (all_ends 0 edges) zs _ p (all_low 0 edges e e l (omega arith)),
+        has_permutation (all_ends 0 edges) zs _ p (all_high 0 edges e e l (omega arith)),
+      );
+      rising = rising edges s zs only
+          (once_permutation code (all_ends 0 edges) zs p (all_once 0 edges)) h;
       size = length_permutation (all_ends 0 edges) zs p ∙ all_size 0 edges;
     }
 

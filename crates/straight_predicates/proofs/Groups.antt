@@ -39,7 +39,8 @@ ending_more [] z = refl
 ending_more (y ∷ zs) z = by_side y.starts (ending_more zs z)
   where
     by_side : (b : Bool) → ending_of (zs ++ z ∷ []) ≡ ending_of zs ++ cond z.starts [] (z.edge ∷ [])
-        → cond b (ending_of (zs ++ z ∷ [])) (y.edge ∷ ending_of (zs ++ z ∷ [])) ≡ cond b (ending_of zs) (y.edge ∷ ending_of zs) ++ cond z.starts [] (z.edge ∷ [])
+        → cond b (ending_of (zs ++ z ∷ [])) (y.edge ∷ ending_of (zs ++ z ∷ []))
+        ≡ cond b (ending_of zs) (y.edge ∷ ending_of zs) ++ cond z.starts [] (z.edge ∷ [])
     by_side true r = r
     by_side false r = ap (λ (es : List ℕ). y.edge ∷ es) r
 
@@ -50,7 +51,8 @@ starting_more (y ∷ zs) z = by_side y.starts (starting_more zs z)
   where
     by_side : (b : Bool)
         → starting_of (zs ++ z ∷ []) ≡ starting_of zs ++ cond z.starts (z.edge ∷ []) []
-        → cond b (y.edge ∷ starting_of (zs ++ z ∷ [])) (starting_of (zs ++ z ∷ [])) ≡ cond b (y.edge ∷ starting_of zs) (starting_of zs) ++ cond z.starts (z.edge ∷ []) []
+        → cond b (y.edge ∷ starting_of (zs ++ z ∷ [])) (starting_of (zs ++ z ∷ []))
+        ≡ cond b (y.edge ∷ starting_of zs) (starting_of zs) ++ cond z.starts (z.edge ∷ []) []
     by_side false r = r
     by_side true r = ap (λ (es : List ℕ). y.edge ∷ es) r
 
@@ -59,36 +61,50 @@ edges_more : (rays : List Ray) (r : Ray)
 edges_more [] r = refl
 edges_more (s ∷ rays) r = ap (λ (es : List ℕ). s.edge ∷ es) (edges_more rays r)
 
-pub split_low : (edges : List Edge) (group : List End) (i : ℕ) (d : End) (old numbers same : List ℕ) (rays new : List Ray) (r : Ray)
+pub split_low : (edges : List Edge) (group : List End) (i : ℕ) (d : End) (old numbers same : List ℕ)
+    (rays new : List Ray) (r : Ray)
     → i < length group → (get_or group i d).starts ≡ true
-    → IsSplit edges (take i group) old numbers rays → same ≡ numbers → new ≡ rays ++ r ∷ [] → r.edge ≡ (get_or group i d).edge → IsRayOf edges r
+    → IsSplit edges (take i group) old numbers rays → same ≡ numbers → new ≡ rays ++ r ∷ []
+    → r.edge ≡ (get_or group i d).edge → IsRayOf edges r
     → IsSplit edges (take (i + 1) group) old same new
 split_low edges group i d old numbers same rays new r l side s f e q ray =
     let z = get_or group i d in
     let more = take_more group i d l in
     let ends : ending_of (take (i + 1) group) ≡ ending_of (take i group) =
-    ap ending_of more ∙ ending_more (take i group) z ∙ ap (λ (b : Bool). ending_of (take i group) ++ cond b [] (z.edge ∷ [])) side ∙ append-nil (ending_of (take i group)) in
+    ap ending_of more ∙ ending_more (take i group) z
+    ∙ ap (λ (b : Bool). ending_of (take i group) ++ cond b [] (z.edge ∷ [])) side
+    ∙ append-nil (ending_of (take i group)) in
     let starts : starting_of (take (i + 1) group) ≡ starting_of (take i group) ++ z.edge ∷ [] =
-    ap starting_of more ∙ starting_more (take i group) z ∙ ap (λ (b : Bool). starting_of (take i group) ++ cond b (z.edge ∷ []) []) side in
+    ap starting_of more ∙ starting_more (take i group) z
+    ∙ ap (λ (b : Bool). starting_of (take i group) ++ cond b (z.edge ∷ []) []) side in
     record {
       numbers = f ∙ s.numbers ∙ ap (λ (es : List ℕ). old ++ es) (sym ends);
-      rays = ap ray_edges e ∙ edges_more rays r ∙ ap (λ (es : List ℕ). es ++ r.edge ∷ []) s.rays ∙ ap (λ (n : ℕ). starting_of (take i group) ++ n ∷ []) q ∙ sym starts;
-      directions = subst (All (IsRayOf edges)) (sym e) (All-push (IsRayOf edges) rays r s.directions ray);
+      rays = ap ray_edges e ∙ edges_more rays r ∙ ap (λ (es : List ℕ). es ++ r.edge ∷ []) s.rays
+          ∙ ap (λ (n : ℕ). starting_of (take i group) ++ n ∷ []) q ∙ sym starts;
+      directions =
+          subst (All (IsRayOf edges)) (sym e) (All-push (IsRayOf edges) rays r s.directions ray);
     }
 
-pub split_high : (edges : List Edge) (group : List End) (i : ℕ) (d : End) (old numbers new : List ℕ) (rays same : List Ray)
+pub split_high : (edges : List Edge) (group : List End) (i : ℕ) (d : End) (old numbers new : List ℕ)
+    (rays same : List Ray)
     → i < length group → (get_or group i d).starts ≡ false
-    → IsSplit edges (take i group) old numbers rays → same ≡ rays → new ≡ numbers ++ (get_or group i d).edge ∷ []
+    → IsSplit edges (take i group) old numbers rays → same ≡ rays
+    → new ≡ numbers ++ (get_or group i d).edge ∷ []
     → IsSplit edges (take (i + 1) group) old new same
 split_high edges group i d old numbers new rays same l side s f e =
     let z = get_or group i d in
     let more = take_more group i d l in
     let ends : ending_of (take (i + 1) group) ≡ ending_of (take i group) ++ z.edge ∷ [] =
-    ap ending_of more ∙ ending_more (take i group) z ∙ ap (λ (b : Bool). ending_of (take i group) ++ cond b [] (z.edge ∷ [])) side in
+    ap ending_of more ∙ ending_more (take i group) z
+    ∙ ap (λ (b : Bool). ending_of (take i group) ++ cond b [] (z.edge ∷ [])) side in
     let starts : starting_of (take (i + 1) group) ≡ starting_of (take i group) =
-    ap starting_of more ∙ starting_more (take i group) z ∙ ap (λ (b : Bool). starting_of (take i group) ++ cond b (z.edge ∷ []) []) side ∙ append-nil (starting_of (take i group)) in
+    ap starting_of more ∙ starting_more (take i group) z
+    ∙ ap (λ (b : Bool). starting_of (take i group) ++ cond b (z.edge ∷ []) []) side
+    ∙ append-nil (starting_of (take i group)) in
     record {
-      numbers = e ∙ ap (λ (es : List ℕ). es ++ z.edge ∷ []) s.numbers ∙ append_assoc old (ending_of (take i group)) (z.edge ∷ []) ∙ ap (λ (es : List ℕ). old ++ es) (sym ends);
+      numbers = e ∙ ap (λ (es : List ℕ). es ++ z.edge ∷ []) s.numbers
+          ∙ append_assoc old (ending_of (take i group)) (z.edge ∷ [])
+          ∙ ap (λ (es : List ℕ). old ++ es) (sym ends);
       rays = ap ray_edges f ∙ s.rays ∙ sym starts;
       directions = subst (All (IsRayOf edges)) (sym f) s.directions;
     }
@@ -152,7 +168,9 @@ Less y z = y.edge < z.edge
 
 least : (z : End) (zs : List End) → Neighbours Less (z ∷ zs) → (y : End) → Has y zs
     → z.edge < y.edge
-least z zs h y k = first_before Less (λ x. Unit {0}) (λ x u l. omega (arith, l)) (λ x y z a b c l m. omega (arith, l, m)) z y zs (λ x i. tt) h k
+least z zs h y k =
+    first_before Less (λ x. Unit {0}) (λ x u l. omega (arith, l))
+    (λ x y z a b c l m. omega (arith, l, m)) z y zs (λ x i. tt) h k
 
 ending_rises : (zs : List End) → Neighbours Less zs → Neighbours (λ (a b : ℕ). a < b) (ending_of zs)
 ending_rises [] h = tt
@@ -162,7 +180,10 @@ ending_rises (z ∷ zs) h = by_side (ending_rises zs h.1) z.starts
         → Neighbours (λ (a b : ℕ). a < b) (cond b (ending_of zs) (z.edge ∷ ending_of zs))
     by_side r true = r
     by_side r false = (
-      first_from (λ (b : ℕ). z.edge < b) (ending_of zs) (each_from (λ (b : ℕ). z.edge < b) (ending_of zs) (λ e k. let (y, i, q, m) = ending_has e zs k in subst (λ (b : ℕ). z.edge < b) q (least z zs h y i))),
+      first_from (λ (b : ℕ). z.edge < b) (ending_of zs)
+          (each_from (λ (b : ℕ). z.edge < b) (ending_of zs)
+          (λ e k. let (y, i, q, m) = ending_has e zs k in
+          subst (λ (b : ℕ). z.edge < b) q (least z zs h y i))),
       r,
     )
 
@@ -173,7 +194,11 @@ starting_once (z ∷ zs) h = by_side (starting_once zs h.1) z.starts
     by_side : Once (starting_of zs) → (b : Bool)
         → Once (cond b (z.edge ∷ starting_of zs) (starting_of zs))
     by_side r false = r
-    by_side r true = ((λ k. let (y, i, q, m) = starting_has z.edge zs k in let l = least z zs h y i in omega (arith, l, q)), r)
+    by_side r true = (
+      (λ k. let (y, i, q, m) = starting_has z.edge zs k in let l = least z zs h y i in
+          omega (arith, l, q)),
+      r,
+    )
 
 -- ---- the event of a group
 part_first : (old ending starting : List ℕ) (from middle : ℕ) → from ≡ length old
@@ -182,7 +207,8 @@ part_first old ending starting from middle e f =
     let n : middle - from ≡ length ending = omega (arith, e, f, length-append old ending) in
     ap (λ (k : ℕ). take (middle - from) (drop k ((old ++ ending) ++ starting))) e
     ∙ ap (λ (k : ℕ). take k (drop (length old) ((old ++ ending) ++ starting))) n
-    ∙ ap (λ (ns : List ℕ). take (length ending) (drop (length old) ns)) (append_assoc old ending starting)
+    ∙ ap (λ (ns : List ℕ). take (length ending) (drop (length old) ns))
+    (append_assoc old ending starting)
     ∙ ap (λ (ns : List ℕ). take (length ending) ns) (drop-append_seam old (ending ++ starting))
     ∙ take-append_seam ending starting
 
@@ -201,28 +227,41 @@ sizes_add [] = refl
 sizes_add (z ∷ zs) = by_side (sizes_add zs) z.starts
   where
     by_side : length (ending_of zs) + length (starting_of zs) ≡ length zs → (b : Bool)
-        → length (cond b (ending_of zs) (z.edge ∷ ending_of zs)) + length (cond b (z.edge ∷ starting_of zs) (starting_of zs)) ≡ length (z ∷ zs)
+        → length (cond b (ending_of zs) (z.edge ∷ ending_of zs))
+        + length (cond b (z.edge ∷ starting_of zs) (starting_of zs)) ≡ length (z ∷ zs)
     by_side r true = omega (arith, r)
     by_side r false = omega (arith, r)
 
-module _ (edges : List Edge) (group : List End) (at : Point) (g : IsGroupOf edges at group) (rays sorted : List Ray) (split : ray_edges rays ≡ starting_of group) (directions : All (IsRayOf edges) rays)
+module _ (edges : List Edge) (group : List End) (at : Point) (g : IsGroupOf edges at group)
+    (rays sorted : List Ray) (split : ray_edges rays ≡ starting_of group)
+    (directions : All (IsRayOf edges) rays)
     (perm : IsPermutation rays sorted) (up : IsSortedBy ray_lt sorted) where
   start_has : (e : ℕ) → Has e (ray_edges sorted) → Has e (starting_of group)
-  start_has e k = subst (λ (es : List ℕ). Has e es) split (has_permutation (ray_edges sorted) (ray_edges rays) e (IsPermutation-map (λ (r : Ray). r.edge) sorted rays (IsPermutation-sym rays sorted perm)) k)
+  start_has e k =
+      subst (λ (es : List ℕ). Has e es) split
+      (has_permutation (ray_edges sorted) (ray_edges rays) e
+      (IsPermutation-map (λ (r : Ray). r.edge) sorted rays (IsPermutation-sym rays sorted perm)) k)
 
   has_start : (e : ℕ) → Has e (starting_of group) → Has e (ray_edges sorted)
-  has_start e k = has_permutation (ray_edges rays) (ray_edges sorted) e (IsPermutation-map (λ (r : Ray). r.edge) rays sorted perm) (subst (λ (es : List ℕ). Has e es) (sym split) k)
+  has_start e k =
+      has_permutation (ray_edges rays) (ray_edges sorted) e
+      (IsPermutation-map (λ (r : Ray). r.edge) rays sorted perm)
+      (subst (λ (es : List ℕ). Has e es) (sym split) k)
 
   ray_low : (r : Ray) → Has r sorted → IsRayOf edges r × ((edge_of edges r.edge).low ≡ at)
   ray_low r k =
-      let (z, i, q, m) = starting_has r.edge group (start_has r.edge (map_has (λ (s : Ray). s.edge) r sorted k)) in
+      let (z, i, q, m) = starting_has r.edge group
+      (start_has r.edge (map_has (λ (s : Ray). s.edge) r sorted k)) in
       let (a, b) = each_has (λ (z : End). IsEndOf edges z × (z.at ≡ at)) group z g.only i in
       let (n, l, e) = contains r sorted k in (
         subst (IsRayOf edges) e (All-permutation (IsRayOf edges) rays sorted perm directions n r l),
-        ap (λ (n : ℕ). (edge_of edges n).low) (sym q) ∙ sym (a.at ∙ ap (λ (t : Bool). cond t (edge_of edges z.edge).low (edge_of edges z.edge).high) m) ∙ b,
+        ap (λ (n : ℕ). (edge_of edges n).low) (sym q)
+            ∙ sym (a.at ∙ ap
+            (λ (t : Bool). cond t (edge_of edges z.edge).low (edge_of edges z.edge).high) m) ∙ b,
       )
 
-  same_end : (z : End) (e : ℕ) (b : Bool) → Has z group → z.edge ≡ e → z.starts ≡ b → Has (record { at = at; edge = e; starts = b }) group
+  same_end : (z : End) (e : ℕ) (b : Bool) → Has z group → z.edge ≡ e → z.starts ≡ b
+      → Has (record { at = at; edge = e; starts = b }) group
   same_end z e b i q m =
       let (a, p) = each_has (λ (z : End). IsEndOf edges z × (z.at ≡ at)) group z g.only i in
       subst (λ y. Has y group) (λ j. record { at = p j; edge = q j; starts = m j }) i
@@ -231,19 +270,24 @@ module _ (edges : List Edge) (group : List End) (at : Point) (g : IsGroupOf edge
       → t.starting ≡ ray_edges sorted → IsTimedBy (edge_of edges) group t
   group_timed t ea ee es = record {
     starting = λ e. (
-      (λ k. let (z, i, q, m) = starting_has e group (start_has e (subst (λ (ns : List ℕ). Has e ns) es k)) in
-          subst (λ p. Has (record { at = p; edge = e; starts = true }) group) (sym ea) (same_end z e true i q m)),
+      (λ k. let (z, i, q, m) = starting_has e group
+          (start_has e (subst (λ (ns : List ℕ). Has e ns) es k)) in
+          subst (λ p. Has (record { at = p; edge = e; starts = true }) group) (sym ea)
+          (same_end z e true i q m)),
       (λ k. subst (λ (ns : List ℕ). Has e ns) (sym es) (has_start e (has_starting _ group k refl))),
     );
     by_slope = subst (λ (ns : List ℕ). Neighbours (BySlope (edge_of edges)) ns) (sym es)
         (rays_by_slope edges at sorted ray_low (sorted_neighbours ray_lt sorted up)
-        (once_permutation (λ (r : Ray). r.edge) rays sorted perm (subst Once (sym split) (starting_once group g.rising))));
+        (once_permutation (λ (r : Ray). r.edge) rays sorted perm
+        (subst Once (sym split) (starting_once group g.rising))));
     ending = λ e. (
       (λ k. let (z, i, q, m) = ending_has e group (subst (λ (ns : List ℕ). Has e ns) ee k) in
-          subst (λ p. Has (record { at = p; edge = e; starts = false }) group) (sym ea) (same_end z e false i q m)),
+          subst (λ p. Has (record { at = p; edge = e; starts = false }) group) (sym ea)
+          (same_end z e false i q m)),
       (λ k. subst (λ (ns : List ℕ). Has e ns) (sym ee) (has_ending _ group k refl)),
     );
-    by_number = subst (λ (ns : List ℕ). Neighbours (λ (a b : ℕ). a < b) ns) (sym ee) (ending_rises group g.rising);
+    by_number = subst (λ (ns : List ℕ). Neighbours (λ (a b : ℕ). a < b) ns) (sym ee)
+        (ending_rises group g.rising);
   }
 
 pub same_first : (zs : List End) (b d : End) → 0 < length zs
@@ -251,13 +295,24 @@ pub same_first : (zs : List End) (b d : End) → 0 < length zs
 same_first [] b d l = absurd (omega (arith, l))
 same_first (z ∷ zs) b d l = refl
 
-pub event_made : (edges : List Edge) (group : List End) (d : End) (old middle_numbers new : List ℕ) (old_slots new_slots : List Slot) (rays sorted : List Ray) (at : Point) (from middle upto : ℕ)
-    → IsGroupOf edges (get_or group 0 d).at group → IsSplit edges group old middle_numbers rays → IsPermutation rays sorted → IsSortedBy ray_lt sorted → new ≡ middle_numbers ++ ray_edges sorted
-    → at ≡ (get_or group 0 d).at → from ≡ length old → middle ≡ length middle_numbers → upto ≡ length new → new_slots ≡ old_slots ++ record { at = at; from = from; middle = middle; upto = upto } ∷ []
+pub event_made : (edges : List Edge) (group : List End) (d : End) (old middle_numbers new : List ℕ)
+    (old_slots new_slots : List Slot) (rays sorted : List Ray) (at : Point) (from middle upto : ℕ)
+    → IsGroupOf edges (get_or group 0 d).at group → IsSplit edges group old middle_numbers rays
+    → IsPermutation rays sorted → IsSortedBy ray_lt sorted
+    → new ≡ middle_numbers ++ ray_edges sorted
+    → at ≡ (get_or group 0 d).at → from ≡ length old → middle ≡ length middle_numbers
+    → upto ≡ length new → new_slots ≡ old_slots ++ record {
+      at = at;
+      from = from;
+      middle = middle;
+      upto = upto;
+    } ∷ []
     → AddsEvent (edge_of edges) group old_slots old new_slots new
-event_made edges group d old mid new old_slots new_slots rays sorted at from middle upto g s perm up e ea ef em eu es =
+event_made edges group d old mid new old_slots new_slots rays sorted at from middle upto g s perm up
+    e ea ef em eu es =
     let slot : Slot = record { at = at; from = from; middle = middle; upto = upto } in
-    let whole : new ≡ (old ++ ending_of group) ++ ray_edges sorted = e ∙ ap (λ (ns : List ℕ). ns ++ ray_edges sorted) s.numbers in
+    let whole : new ≡ (old ++ ending_of group) ++ ray_edges sorted = e
+    ∙ ap (λ (ns : List ℕ). ns ++ ray_edges sorted) s.numbers in
     let sized : length (ray_edges sorted) ≡ length (starting_of group) = same_size in
     let lengths = length-append mid (ray_edges sorted) in
     let front = ap length s.numbers ∙ length-append old (ending_of group) in
@@ -275,13 +330,18 @@ event_made edges group d old mid new old_slots new_slots rays sorted at from mid
         last = omega (arith, eu);
       };
       at = λ b. ea ∙ same_first group b d g.some;
-      timed = group_timed edges group (get_or group 0 d).at g rays sorted s.rays s.directions perm up (timed_at new slot) ea
-          (ap (λ (ns : List ℕ). part_of ns from middle) whole ∙ part_first old (ending_of group) (ray_edges sorted) from middle ef (em ∙ ap length s.numbers))
-          (ap (λ (ns : List ℕ). part_of ns middle upto) e ∙ part_second mid (ray_edges sorted) middle upto em (eu ∙ ap length e));
+      timed = group_timed edges group (get_or group 0 d).at g rays sorted s.rays s.directions perm
+          up (timed_at new slot) ea
+          (ap (λ (ns : List ℕ). part_of ns from middle) whole
+          ∙ part_first old (ending_of group) (ray_edges sorted) from middle ef (em
+          ∙ ap length s.numbers))
+          (ap (λ (ns : List ℕ). part_of ns middle upto) e
+          ∙ part_second mid (ray_edges sorted) middle upto em (eu ∙ ap length e));
     }
   where
     same_size : length (ray_edges sorted) ≡ length (starting_of group)
-    same_size = length-map sorted (λ (r : Ray). r.edge) ∙ length_permutation rays sorted perm ∙ sym (length-map rays (λ (r : Ray). r.edge)) ∙ ap length s.rays
+    same_size = length-map sorted (λ (r : Ray). r.edge) ∙ length_permutation rays sorted perm
+        ∙ sym (length-map rays (λ (r : Ray). r.edge)) ∙ ap length s.rays
 
 pub nothing_split : (edges : List Edge) (old : List ℕ) (rays : List Ray) → rays ≡ []
     → IsSplit edges [] old old rays
@@ -295,23 +355,29 @@ nothing_split edges old rays e = record {
     no_more [] k e l = omega (arith, l)
     no_more (r ∷ rays) k e l = cc
 
-pub split_whole : (edges : List Edge) (group : List End) (i : ℕ) (old new : List ℕ) (rays : List Ray)
+pub split_whole : (edges : List Edge) (group : List End) (i : ℕ) (old new : List ℕ)
+    (rays : List Ray)
     → length group ≤ i → IsSplit edges (take i group) old new rays
     → IsSplit edges group old new rays
-split_whole edges group i old new rays l s = subst (λ zs. IsSplit edges zs old new rays) (take_all i group l) s
+split_whole edges group i old new rays l s =
+    subst (λ zs. IsSplit edges zs old new rays) (take_all i group l) s
 
 pub sizes_after : (edges : List Edge) (group : List End) (old mid : List ℕ) (rays : List Ray)
     → IsSplit edges group old mid rays → length mid ≤ length old + length group
-sizes_after edges group old mid rays s = let h = ap length s.numbers ∙ length-append old (ending_of group) in let k = sizes_add group in omega (arith, h, k)
+sizes_after edges group old mid rays s =
+    let h = ap length s.numbers ∙ length-append old (ending_of group) in
+    let k = sizes_add group in omega (arith, h, k)
 
-pub sizes_at_end : (edges : List Edge) (group : List End) (old mid new : List ℕ) (rays sorted : List Ray)
+pub sizes_at_end : (edges : List Edge) (group : List End) (old mid new : List ℕ)
+    (rays sorted : List Ray)
     → IsSplit edges group old mid rays → IsPermutation rays sorted → new ≡ mid ++ ray_edges sorted
     → length new ≡ length old + length group
 sizes_at_end edges group old mid new rays sorted s p e =
     let h = ap length s.numbers ∙ length-append old (ending_of group) in
     let k = sizes_add group in
     let n = ap length e ∙ length-append mid (ray_edges sorted) in
-    let same = length-map sorted (λ (r : Ray). r.edge) ∙ length_permutation rays sorted p ∙ sym (length-map rays (λ (r : Ray). r.edge)) ∙ ap length s.rays in
+    let same = length-map sorted (λ (r : Ray). r.edge) ∙ length_permutation rays sorted p
+    ∙ sym (length-map rays (λ (r : Ray). r.edge)) ∙ ap length s.rays in
     omega (arith, h, k, n, same)
 
 -- ---- a group of the ends that are left
@@ -323,7 +389,8 @@ comes_trans : (x y z : End) → ComesFirst x y → ComesFirst y z → ComesFirst
 comes_trans x y z (inl a) (inl b) = inl (before_trans x.at y.at z.at a b)
 comes_trans x y z (inl a) (inr b) = inl (subst (λ p. Before x.at p) b.0 a)
 comes_trans x y z (inr a) (inl b) = inl (subst (λ p. Before p z.at) (sym a.0) b)
-comes_trans x y z (inr a) (inr b) = let l = a.1 in let m = b.1 in inr (a.0 ∙ b.0, omega (arith, l, m))
+comes_trans x y z (inr a) (inr b) =
+    let l = a.1 in let m = b.1 in inr (a.0 ∙ b.0, omega (arith, l, m))
 
 after_group : (v : Point) (xs : List End) (n : ℕ) → Neighbours ComesFirst xs
     → ((k : ℕ) (d : End) → k < n → (get_or xs k d).at ≡ v)
@@ -334,16 +401,21 @@ after_group v [] (suc n) h f g l z k = absurd k
 after_group v (x ∷ []) (suc zero) h f g l z k = absurd k
 after_group v (x ∷ (y ∷ ys)) (suc zero) h f g l z k =
     let here : x.at ≡ v = f 0 x (omega arith) in
-    let next : Before v y.at = elim h.0 [ inl b ↦ subst (λ p. Before p y.at) here b | inr e ↦ absurd (g y (omega arith) (sym e.0 ∙ here)) ] in
+    let next : Before v y.at = elim h.0 [
+      | inl b ↦ subst (λ p. Before p y.at) here b
+      | inr e ↦ absurd (g y (omega arith) (sym e.0 ∙ here))
+    ] in
     elim k [
       | inl e ↦ subst (λ (w : End). Before v w.at) (sym e) next
-      | inr j ↦ elim (first_before ComesFirst (λ w. Unit {0}) (λ w u c. not_itself w c) (λ a b c p q r m o. comes_trans a b c m o) y z ys (λ w i. tt) h.1 j) [
-        | inl b ↦ before_trans v y.at z.at next b
-        | inr e ↦ subst (λ p. Before v p) e.0 next
-      ]
+      | inr j ↦ elim (first_before ComesFirst (λ w. Unit {0}) (λ w u c. not_itself w c)
+          (λ a b c p q r m o. comes_trans a b c m o) y z ys (λ w i. tt) h.1 j) [
+            | inl b ↦ before_trans v y.at z.at next b
+            | inr e ↦ subst (λ p. Before v p) e.0 next
+          ]
     ]
 after_group v (x ∷ xs) (suc (suc n)) h f g l z k =
-    after_group v xs (suc n) h.1 (λ i d m. f (suc i) d (omega (arith, m))) (λ d m e. g d (omega (arith, m)) e) (omega arith) z k
+    after_group v xs (suc n) h.1 (λ i d m. f (suc i) d (omega (arith, m)))
+    (λ d m e. g d (omega (arith, m)) e) (omega arith) z k
 
 -- what is known of a group of the ends from i on
 pub record IsCut (edges : List Edge) (ends : List End) (i n : ℕ) (d : End) : Type 0 where
@@ -374,12 +446,16 @@ pub cut_group : (edges : List Edge) (ends : List End) (i n : ℕ) (d : End) → 
 cut_group edges ends i n d a g = record {
   group = record {
     some = let l = size in let m = g.some in omega (arith, l, m);
-    only = each_from (λ (z : End). IsEndOf edges z × (z.at ≡ (get_or group 0 d).at)) group (λ z k. (a.only z (in_all z k), at_here z k));
-    rising = neighbours_map ComesFirst (λ (y z : End). y.edge < z.edge) group (λ y z j k c. by_edge y z j k c) rising;
+    only = each_from (λ (z : End). IsEndOf edges z × (z.at ≡ (get_or group 0 d).at)) group
+        (λ z k. (a.only z (in_all z k), at_here z k));
+    rising = neighbours_map ComesFirst (λ (y z : End). y.edge < z.edge) group
+        (λ y z j k c. by_edge y z j k c) rising;
   };
   here = at_here;
   some = first_of group (let l = size in let m = g.some in omega (arith, l, m));
-  later = λ z k. after_group (get_or group 0 d).at (drop i ends) n left (λ j b l. g.one j b l ∙ first_same b) (λ b l e. g.next b l (e ∙ sym (first_same b))) g.some z (subst (λ zs. Has z zs) (drop_twice i n ends) k);
+  later = λ z k. after_group (get_or group 0 d).at (drop i ends) n left (λ j b l. g.one j b l
+      ∙ first_same b) (λ b l e. g.next b l (e ∙ sym (first_same b))) g.some z
+      (subst (λ zs. Has z zs) (drop_twice i n ends) k);
 }
   where
     group : List End
@@ -389,16 +465,23 @@ cut_group edges ends i n d a g = record {
     size = length-take-le n (drop i ends) g.within
 
     left : Neighbours ComesFirst (drop i ends)
-    left = neighbours_back ComesFirst (take i ends) (drop i ends) (subst (Neighbours ComesFirst) (sym (take-append-drop i ends)) a.rising)
+    left = neighbours_back ComesFirst (take i ends) (drop i ends)
+        (subst (Neighbours ComesFirst) (sym (take-append-drop i ends)) a.rising)
 
     rising : Neighbours ComesFirst (take n (drop i ends))
-    rising = neighbours_front ComesFirst (take n (drop i ends)) (drop n (drop i ends)) (subst (Neighbours ComesFirst) (sym (take-append-drop n (drop i ends))) left)
+    rising = neighbours_front ComesFirst (take n (drop i ends)) (drop n (drop i ends))
+        (subst (Neighbours ComesFirst) (sym (take-append-drop n (drop i ends))) left)
 
     in_all : (z : End) → Has z (take n (drop i ends)) → Has z ends
-    in_all z k = subst (λ zs. Has z zs) (take-append-drop i ends) (has_back z (take i ends) (drop i ends) (subst (λ zs. Has z zs) (take-append-drop n (drop i ends)) (has_front z (take n (drop i ends)) (drop n (drop i ends)) k)))
+    in_all z k =
+        subst (λ zs. Has z zs) (take-append-drop i ends)
+        (has_back z (take i ends) (drop i ends)
+        (subst (λ zs. Has z zs) (take-append-drop n (drop i ends))
+        (has_front z (take n (drop i ends)) (drop n (drop i ends)) k)))
 
     first_same : (b : End) → (get_or (drop i ends) 0 b).at ≡ (get_or (take n (drop i ends)) 0 d).at
-    first_same b = first_at (drop i ends) g.within ∙ ap (λ (z : End). z.at) (sym (get_or-take n (drop i ends) 0 d g.some))
+    first_same b = first_at (drop i ends) g.within
+        ∙ ap (λ (z : End). z.at) (sym (get_or-take n (drop i ends) 0 d g.some))
       where
         first_at : (xs : List End) → n ≤ length xs → (get_or xs 0 b).at ≡ (get_or xs 0 d).at
         first_at [] l = absurd (let m = g.some in omega (arith, l, m))
@@ -409,9 +492,11 @@ cut_group edges ends i n d a g = record {
     at_here z k =
         let (j, l, e) = contains z (take n (drop i ends)) k in
         let m : j < n = let s = size in omega (arith, l, s) in
-        ap (λ (y : End). y.at) (sym e ∙ get_or-take n (drop i ends) j z m) ∙ g.one j z m ∙ first_same z
+        ap (λ (y : End). y.at) (sym e ∙ get_or-take n (drop i ends) j z m) ∙ g.one j z m
+        ∙ first_same z
 
     by_edge : (y z : End) → Has y (take n (drop i ends)) → Has z (take n (drop i ends))
         → ComesFirst y z → y.edge < z.edge
-    by_edge y z j k (inl b) = absurd (never z.at (subst (λ p. Before p z.at) (at_here y j ∙ sym (at_here z k)) b))
+    by_edge y z j k (inl b) =
+        absurd (never z.at (subst (λ p. Before p z.at) (at_here y j ∙ sym (at_here z k)) b))
     by_edge y z j k (inr e) = e.1

@@ -16,7 +16,8 @@ one_more n = omega arith
 pub joined-append : {T : Type 0} (cs bs : List (List T))
     → joined (cs ++ bs) ≡ joined cs ++ joined bs
 joined-append [] bs = refl
-joined-append (c ∷ cs) bs = ap (λ xs. c ++ xs) (joined-append cs bs) ∙ sym (append_assoc c (joined cs) (joined bs))
+joined-append (c ∷ cs) bs = ap (λ xs. c ++ xs) (joined-append cs bs)
+    ∙ sym (append_assoc c (joined cs) (joined bs))
 
 -- the values before, in and behind a chunk
 pub joined_split : {T : Type 0} (bs : List (List T)) (b : ℕ) → b < length bs
@@ -27,7 +28,9 @@ joined_split bs b l =
 
 pub joined_more : {T : Type 0} (bs : List (List T)) (b : ℕ) → b < length bs
     → joined (take (b + 1) bs) ≡ joined (take b bs) ++ get_or bs b []
-joined_more bs b l = ap joined (take_more bs b [] l) ∙ joined-append (take b bs) (get_or bs b [] ∷ []) ∙ ap (λ xs. joined (take b bs) ++ xs) (last (get_or bs b []))
+joined_more bs b l = ap joined (take_more bs b [] l)
+    ∙ joined-append (take b bs) (get_or bs b [] ∷ [])
+    ∙ ap (λ xs. joined (take b bs) ++ xs) (last (get_or bs b []))
   where
     last : {T : Type 0} (xs : List T) → joined (xs ∷ []) ≡ xs
     last [] = refl
@@ -35,13 +38,15 @@ joined_more bs b l = ap joined (take_more bs b [] l) ∙ joined-append (take b b
 
 pub size_more : {T : Type 0} (bs : List (List T)) (b : ℕ) → b < length bs
     → length (joined (take (b + 1) bs)) ≡ length (joined (take b bs)) + length (get_or bs b [])
-size_more bs b l = ap length (joined_more bs b l) ∙ length-append (joined (take b bs)) (get_or bs b [])
+size_more bs b l = ap length (joined_more bs b l)
+    ∙ length-append (joined (take b bs)) (get_or bs b [])
 
 -- the chunks up to some are no longer than all
 pub size_split : {T : Type 0} (bs : List (List T)) (b : ℕ) → b < length bs
     → length (joined bs) ≡ length (joined (take (b + 1) bs)) + length (joined (drop (b + 1) bs))
 size_split bs b l =
-    ap length (ap joined (sym (take-append-drop (b + 1) bs)) ∙ joined-append (take (b + 1) bs) (drop (b + 1) bs))
+    ap length (ap joined (sym (take-append-drop (b + 1) bs))
+    ∙ joined-append (take (b + 1) bs) (drop (b + 1) bs))
     ∙ length-append (joined (take (b + 1) bs)) (joined (drop (b + 1) bs))
 
 pub same_read : {T : Type 0} (bs : List (List T)) (chunk : ℕ) (x y : List T) → chunk < length bs
@@ -51,7 +56,8 @@ same_read bs chunk x y l e f = get_or_read bs chunk x l e y ∙ sym f
 -- the next chunk, where the place is behind this one
 pub find_next : {T : Type 0} (bs : List (List T)) (place chunk offset size : ℕ) (x : List T)
     → chunk + 1 < length bs → length (joined (take chunk bs)) + offset ≡ place
-    → x ≡ get_or bs chunk x → size ≡ length x → size ≤ offset → length (joined (take (chunk + 1) bs)) + (offset - size) ≡ place
+    → x ≡ get_or bs chunk x → size ≡ length x → size ≤ offset
+    → length (joined (take (chunk + 1) bs)) + (offset - size) ≡ place
 find_next bs place chunk offset size x k i r e l =
     let l1 : chunk < length bs = omega (arith, k) in
     let m = size_more bs chunk l1 in
@@ -63,7 +69,12 @@ pub found : {T : Type 0} (bs : List (List T)) (place chunk offset size : ℕ) (x
     → x ≡ get_or bs chunk x → size ≡ length x → offset < size → IsAt bs place chunk offset
 found bs place chunk offset size x k i r e l =
     let n = ap length (get_or_read bs chunk x k r []) in
-    record { known = k; is = i; within = omega (arith, n, e, l); inside = λ _. omega (arith, n, e, l) }
+    record {
+      known = k;
+      is = i;
+      within = omega (arith, n, e, l);
+      inside = λ _. omega (arith, n, e, l);
+    }
 
 pub found_last : {T : Type 0} (bs : List (List T)) (place chunk offset : ℕ) → chunk < length bs
     → length bs ≤ chunk + 1 → length (joined (take chunk bs)) + offset ≡ place
@@ -73,9 +84,15 @@ found_last bs place chunk offset k last i w =
     let m = size_more bs chunk k in
     let n = size_split bs chunk k in
     let z = ap (λ cs. length (joined cs)) (drop_all (chunk + 1) bs last) in
-    record { known = k; is = i; within = omega (arith, m, n, z, i, w); inside = λ l. omega (arith, m, n, z, i, l) }
+    record {
+      known = k;
+      is = i;
+      within = omega (arith, m, n, z, i, w);
+      inside = λ l. omega (arith, m, n, z, i, l);
+    }
 
-module _ {T : Type 0} (bs : List (List T)) (place chunk offset : ℕ) (at : IsAt bs place chunk offset) where
+module _ {T : Type 0} (bs : List (List T)) (place chunk offset : ℕ)
+    (at : IsAt bs place chunk offset) where
   abbrev pub the_chunk : List T
   the_chunk = get_or bs chunk []
 
@@ -108,25 +125,32 @@ module _ {T : Type 0} (bs : List (List T)) (place chunk offset : ℕ) (at : IsAt
   back_more count w =
       sym (drop-drop count place (joined bs))
       ∙ ap (λ xs. drop count xs) back
-      ∙ drop-append-le count (drop offset the_chunk) behind (let e = length-drop offset the_chunk in omega (arith, e, w))
+      ∙ drop-append-le count (drop offset the_chunk) behind (let e = length-drop offset the_chunk in
+      omega (arith, e, w))
       ∙ ap (λ xs. xs ++ behind) (drop-drop count offset the_chunk)
 
   -- another chunk in its place
   pub with_chunk : (new : List T) → joined (set bs chunk new) ≡ before ++ (new ++ behind)
   with_chunk new =
-      ap joined (set_split bs chunk new at.known) ∙ joined-append (take chunk bs) (new ∷ drop (suc chunk) bs)
+      ap joined (set_split bs chunk new at.known)
+      ∙ joined-append (take chunk bs) (new ∷ drop (suc chunk) bs)
       ∙ ap (λ (n : ℕ). before ++ (new ++ joined (drop n bs))) (one_more chunk)
 
   pub replaced : (with new : List T) (count : ℕ) (bs' : List (List T))
       → offset + count ≤ length the_chunk
-      → new ≡ take offset the_chunk ++ (with ++ drop (offset + count) the_chunk) → bs' ≡ set bs chunk new
+      → new ≡ take offset the_chunk ++ (with ++ drop (offset + count) the_chunk)
+      → bs' ≡ set bs chunk new
       → joined bs' ≡ take place (joined bs) ++ (with ++ drop (place + count) (joined bs))
   replaced with new count bs' w e f =
       ap joined f ∙ with_chunk new ∙ ap (λ xs. before ++ (xs ++ behind)) e
-      ∙ ap (λ xs. before ++ xs) (append_assoc (take offset the_chunk) (with ++ drop (offset + count) the_chunk) behind)
-      ∙ sym (append_assoc before (take offset the_chunk) ((with ++ drop (offset + count) the_chunk) ++ behind))
+      ∙ ap (λ xs. before ++ xs)
+      (append_assoc (take offset the_chunk) (with ++ drop (offset + count) the_chunk) behind)
+      ∙ sym (append_assoc before (take offset the_chunk)
+      ((with ++ drop (offset + count) the_chunk) ++ behind))
       ∙ ap (λ xs. xs ++ ((with ++ drop (offset + count) the_chunk) ++ behind)) (sym front)
-      ∙ ap (λ xs. take place (joined bs) ++ xs) (append_assoc with (drop (offset + count) the_chunk) behind ∙ ap (λ xs. with ++ xs) (sym (back_more count w)))
+      ∙ ap (λ xs. take place (joined bs) ++ xs)
+      (append_assoc with (drop (offset + count) the_chunk) behind
+      ∙ ap (λ xs. with ++ xs) (sym (back_more count w)))
 
   -- no value in the place of some
   pub removed : (new : List T) (count : ℕ) (bs' : List (List T)) → offset + count ≤ length the_chunk
@@ -141,15 +165,19 @@ module _ {T : Type 0} (bs : List (List T)) (place chunk offset : ℕ) (at : IsAt
       → joined bs' ≡ take place (joined bs) ++ drop (place + count) (joined bs)
   chunk_removed count bs' p m l e =
       let z : offset ≡ 0 = omega (arith, p, m, l) in
-      let head : take place (joined bs) ≡ before = front ∙ ap (λ (n : ℕ). before ++ take n the_chunk) z ∙ append-nil before in
-      let rest : drop (place + count) (joined bs) ≡ behind = back_more count (omega (arith, z, l)) ∙ ap (λ xs. xs ++ behind) (drop_all (offset + count) the_chunk (omega (arith, z, l))) in
-      ap joined e ∙ joined-append (take chunk bs) (drop (suc chunk) bs) ∙ ap (λ (n : ℕ). before ++ joined (drop n bs)) (one_more chunk)
+      let head : take place (joined bs) ≡ before = front
+      ∙ ap (λ (n : ℕ). before ++ take n the_chunk) z ∙ append-nil before in
+      let rest : drop (place + count) (joined bs) ≡ behind = back_more count (omega (arith, z, l))
+      ∙ ap (λ xs. xs ++ behind) (drop_all (offset + count) the_chunk (omega (arith, z, l))) in
+      ap joined e ∙ joined-append (take chunk bs) (drop (suc chunk) bs)
+      ∙ ap (λ (n : ℕ). before ++ joined (drop n bs)) (one_more chunk)
       ∙ sym (ap (λ xs. xs ++ drop (place + count) (joined bs)) head ∙ ap (λ xs. before ++ xs) rest)
 
   pub value_at : (d : T) → offset < length the_chunk
       → get_or (joined bs) place d ≡ get_or the_chunk offset d
   value_at d inside =
-      ap (λ xs. get_or xs place d) parts ∙ ap (λ (n : ℕ). get_or (before ++ (the_chunk ++ behind)) n d) (sym at.is)
+      ap (λ xs. get_or xs place d) parts
+      ∙ ap (λ (n : ℕ). get_or (before ++ (the_chunk ++ behind)) n d) (sym at.is)
       ∙ get_or-append-add before (the_chunk ++ behind) offset d
       ∙ get_or_append_left the_chunk behind d offset inside
 
@@ -163,20 +191,29 @@ module _ {T : Type 0} (bs : List (List T)) (place chunk offset : ℕ) (at : IsAt
   read_at x r l v d f =
       let e = read x r in
       let i = at.inside l in
-      get_or_read x offset v (subst (λ ys. offset < length ys) (sym e) i) f d ∙ ap (λ ys. get_or ys offset d) e ∙ sym (value_at d i)
+      get_or_read x offset v (subst (λ ys. offset < length ys) (sym e) i) f d
+      ∙ ap (λ ys. get_or ys offset d) e ∙ sym (value_at d i)
 
   pub room_within : (x : List T) → x ≡ get_or bs chunk x → offset + 0 ≤ length x
   room_within x r = let w = at.within in let e = ap length (read x r) in omega (arith, w, e)
 
   pub put_at : (x with new : List T) (count : ℕ) → x ≡ get_or bs chunk x → offset + count ≤ length x
       → new ≡ take offset x ++ (with ++ drop (offset + count) x)
-      → joined (set bs chunk new) ≡ take place (joined bs) ++ (with ++ drop (place + count) (joined bs))
+      → joined (set bs chunk new) ≡ take place (joined bs)
+      ++ (with ++ drop (place + count) (joined bs))
   put_at x with new count r w e =
-      replaced with new count (set bs chunk new) (subst (λ ys. offset + count ≤ length ys) (read x r) w) (subst (λ ys. new ≡ take offset ys ++ (with ++ drop (offset + count) ys)) (read x r) e) refl
+      replaced with new count (set bs chunk new)
+      (subst (λ ys. offset + count ≤ length ys) (read x r) w)
+      (subst (λ ys. new ≡ take offset ys ++ (with ++ drop (offset + count) ys)) (read x r) e)
+      refl
 
-  module _ (x : List T) (size count taken : ℕ) (r : x ≡ get_or bs chunk x) (e : size ≡ length x) (some : 0 < count) (within : place + count ≤ length (joined bs)) (m : taken ≡ min count (size - offset)) where
+  module _ (x : List T) (size count taken : ℕ) (r : x ≡ get_or bs chunk x) (e : size ≡ length x)
+      (some : 0 < count) (within : place + count ≤ length (joined bs))
+      (m : taken ≡ min count (size - offset)) where
     inside : offset < size
-    inside = let l = at.inside (omega (arith, some, within)) in let n = ap length (read x r) in omega (arith, l, n, e)
+    inside =
+        let l = at.inside (omega (arith, some, within)) in
+        let n = ap length (read x r) in omega (arith, l, n, e)
 
     pub some_taken : 0 < taken
     some_taken = let l = inside in omega (arith, l, some, m)
@@ -196,9 +233,12 @@ module _ {T : Type 0} (bs : List (List T)) (place chunk offset : ℕ) (at : IsAt
         let s = some_taken in
         chunk_removed taken bs' s (omega (arith, m, n, e)) (omega (arith, q, n, e)) f
 
-module _ {T : Type 0} (bs : List (List T)) (i place size : ℕ) (x : List T) (l : i < length bs) (p : place ≡ length (joined (take i bs))) (r : x ≡ get_or bs i x) (e : size ≡ length x) where
+module _ {T : Type 0} (bs : List (List T)) (i place size : ℕ) (x : List T) (l : i < length bs)
+    (p : place ≡ length (joined (take i bs))) (r : x ≡ get_or bs i x) (e : size ≡ length x) where
   pub start_more : place + size ≡ length (joined (take (i + 1) bs))
-  start_more = let m = size_more bs i l in let n = ap length (get_or_read bs i x l r []) in omega (arith, m, n, p, e)
+  start_more =
+      let m = size_more bs i l in
+      let n = ap length (get_or_read bs i x l r []) in omega (arith, m, n, p, e)
 
   pub start_fits : length (joined bs) < 2 ^ 64 → place + size < 2 ^ 64
   start_fits f = let m = start_more in let n = size_split bs i l in omega (arith, m, n, f)
@@ -212,8 +252,13 @@ halved bs new chunk x head tail l r e f =
     let c = set bs chunk head in
     let n : chunk < length c = let s = length-set bs chunk head in omega (arith, s, l) in
     ap joined f ∙ joined-append (take (chunk + 1) c) (tail ∷ drop (chunk + 1) c)
-    ∙ ap (λ xs. xs ++ (tail ++ joined (drop (chunk + 1) c))) (ap joined (take_more_set bs chunk head l) ∙ joined-append (take chunk bs) (head ∷ []) ∙ ap (λ xs. joined (take chunk bs) ++ xs) (append-nil head))
-    ∙ ap (λ cs. (joined (take chunk bs) ++ head) ++ (tail ++ joined cs)) (drop-set-lt (chunk + 1) bs chunk head (omega arith))
+    ∙ ap (λ xs. xs ++ (tail ++ joined (drop (chunk + 1) c)))
+    (ap joined (take_more_set bs chunk head l) ∙ joined-append (take chunk bs) (head ∷ [])
+    ∙ ap (λ xs. joined (take chunk bs) ++ xs) (append-nil head))
+    ∙ ap (λ cs. (joined (take chunk bs) ++ head) ++ (tail ++ joined cs))
+    (drop-set-lt (chunk + 1) bs chunk head (omega arith))
     ∙ append_assoc (joined (take chunk bs)) head (tail ++ joined (drop (chunk + 1) bs))
-    ∙ ap (λ xs. joined (take chunk bs) ++ xs) (sym (append_assoc head tail (joined (drop (chunk + 1) bs))) ∙ ap (λ xs. xs ++ joined (drop (chunk + 1) bs)) (e ∙ get_or_read bs chunk x l r []))
+    ∙ ap (λ xs. joined (take chunk bs) ++ xs)
+    (sym (append_assoc head tail (joined (drop (chunk + 1) bs)))
+    ∙ ap (λ xs. xs ++ joined (drop (chunk + 1) bs)) (e ∙ get_or_read bs chunk x l r []))
     ∙ sym (joined_split bs chunk l)

@@ -16,7 +16,8 @@ past_end (e ∷ es) (suc i) l = past_end es i (omega (arith, l))
 pub before_place : (es : List ℕ) (i : ℕ) → (i ≡ 0 → ⊥) → i ≤ length es
     → edge_before es i ≡ Some (get_or es (i - 1) 0)
 before_place es zero n l = absurd (n refl)
-before_place es (suc i) n l = at_place es i (omega (arith, l)) ∙ ap (λ (k : ℕ). Some (get_or es k 0)) (back i)
+before_place es (suc i) n l = at_place es i (omega (arith, l))
+    ∙ ap (λ (k : ℕ). Some (get_or es k 0)) (back i)
   where
     back : (i : ℕ) → i ≡ suc i - 1
     back i = omega arith

@@ -12,26 +12,38 @@ use Rattle.straight_predicates.proofs.Choices.{differ}
 
 turn_is : (a b p : Point) → turn (point a) (point b) (point p) ≡ cross a b p
 turn_is a b p =
-    let AX = at 0 in let AY = at 1 in let BX = at 2 in let BY = at 3 in let PX = at 4 in let PY = at 5 in let ONE = num (pos 1) in
-    ring (minus (times (minus (times BX ONE) (times AX ONE)) (minus (times PY ONE) (times AY ONE))) (times (minus (times BY ONE) (times AY ONE)) (minus (times PX ONE) (times AX ONE))))
-    (minus (times (minus BX AX) (minus PY AY)) (times (minus BY AY) (minus PX AX))) (vars (a.x ∷ a.y ∷ b.x ∷ b.y ∷ p.x ∷ p.y ∷ [])) refl
+    let AX = at 0 in
+    let AY = at 1 in
+    let BX = at 2 in let BY = at 3 in let PX = at 4 in let PY = at 5 in let ONE = num (pos 1) in
+    ring (minus (times (minus (times BX ONE) (times AX ONE)) (minus (times PY ONE) (times AY ONE)))
+    (times (minus (times BY ONE) (times AY ONE)) (minus (times PX ONE) (times AX ONE))))
+    (minus (times (minus BX AX) (minus PY AY)) (times (minus BY AY) (minus PX AX)))
+    (vars (a.x ∷ a.y ∷ b.x ∷ b.y ∷ p.x ∷ p.y ∷ [])) refl
 
 dot_is : (a b p : Point)
-    → dot (point a) (point b) (point p) ≡ ((a.x -ℤ p.x) *ℤ (b.x -ℤ p.x)) +ℤ ((a.y -ℤ p.y) *ℤ (b.y -ℤ p.y))
+    → dot (point a) (point b) (point p)
+    ≡ ((a.x -ℤ p.x) *ℤ (b.x -ℤ p.x)) +ℤ ((a.y -ℤ p.y) *ℤ (b.y -ℤ p.y))
 dot_is a b p =
-    let AX = at 0 in let AY = at 1 in let BX = at 2 in let BY = at 3 in let PX = at 4 in let PY = at 5 in let ONE = num (pos 1) in
-    ring (plus (times (minus (times AX ONE) (times PX ONE)) (minus (times BX ONE) (times PX ONE))) (times (minus (times AY ONE) (times PY ONE)) (minus (times BY ONE) (times PY ONE))))
-    (plus (times (minus AX PX) (minus BX PX)) (times (minus AY PY) (minus BY PY))) (vars (a.x ∷ a.y ∷ b.x ∷ b.y ∷ p.x ∷ p.y ∷ [])) refl
+    let AX = at 0 in
+    let AY = at 1 in
+    let BX = at 2 in let BY = at 3 in let PX = at 4 in let PY = at 5 in let ONE = num (pos 1) in
+    ring (plus (times (minus (times AX ONE) (times PX ONE)) (minus (times BX ONE) (times PX ONE)))
+    (times (minus (times AY ONE) (times PY ONE)) (minus (times BY ONE) (times PY ONE))))
+    (plus (times (minus AX PX) (minus BX PX)) (times (minus AY PY) (minus BY PY)))
+    (vars (a.x ∷ a.y ∷ b.x ∷ b.y ∷ p.x ∷ p.y ∷ [])) refl
 
 -- where the cross product is 0, the two products are of one sign
 products_square : (a b p : Point) → cross a b p ≡ pos 0
-    → (((a.x -ℤ p.x) *ℤ (b.x -ℤ p.x)) *ℤ ((a.y -ℤ p.y) *ℤ (b.y -ℤ p.y))) ≡ (((a.x -ℤ p.x) *ℤ (b.y -ℤ p.y)) *ℤ ((a.x -ℤ p.x) *ℤ (b.y -ℤ p.y)))
+    → (((a.x -ℤ p.x) *ℤ (b.x -ℤ p.x)) *ℤ ((a.y -ℤ p.y) *ℤ (b.y -ℤ p.y)))
+    ≡ (((a.x -ℤ p.x) *ℤ (b.y -ℤ p.y)) *ℤ ((a.x -ℤ p.x) *ℤ (b.y -ℤ p.y)))
 products_square a b p e =
-    let AX = at 0 in let AY = at 1 in let BX = at 2 in let BY = at 3 in let PX = at 4 in let PY = at 5 in
+    let AX = at 0 in
+    let AY = at 1 in let BX = at 2 in let BY = at 3 in let PX = at 4 in let PY = at 5 in
     let S = times (minus AX PX) (minus BY PY) in
     let CROSS = minus (times (minus BX AX) (minus PY AY)) (times (minus BY AY) (minus PX AX)) in
     let s = (a.x -ℤ p.x) *ℤ (b.y -ℤ p.y) in
-    let r = ring (times (times (minus AX PX) (minus BX PX)) (times (minus AY PY) (minus BY PY))) (minus (times S S) (times S CROSS)) (vars (a.x ∷ a.y ∷ b.x ∷ b.y ∷ p.x ∷ p.y ∷ [])) refl in
+    let r = ring (times (times (minus AX PX) (minus BX PX)) (times (minus AY PY) (minus BY PY)))
+    (minus (times S S) (times S CROSS)) (vars (a.x ∷ a.y ∷ b.x ∷ b.y ∷ p.x ∷ p.y ∷ [])) refl in
     let z : (s *ℤ cross a b p) ≡ pos 0 = ap (λ (q : ℤ). s *ℤ q) e ∙ times_zero s in
     omega (arith, ints, r, z)
   where
@@ -46,7 +58,8 @@ not_both_signs p q s e h = by_lt_z (pos 0) p (λ (l : pos 0 <ℤ p). contra l) (
         let n : q <ℤ pos 0 = omega (arith, ints, l, h) in
         let m = product_positive p (pos 0 -ℤ q) l (omega (arith, ints, n)) in
         let P = at 0 in let Q = at 1 in
-        let r = ring (times P (minus (num (pos 0)) Q)) (minus (num (pos 0)) (times P Q)) (vars (p ∷ q ∷ [])) refl in
+        let r = ring (times P (minus (num (pos 0)) Q)) (minus (num (pos 0)) (times P Q))
+        (vars (p ∷ q ∷ [])) refl in
         let k = square_nonnegative s in
         absurd (omega (arith, ints, m, r, k, e))
 
@@ -61,16 +74,25 @@ module _ (a b p : Point) where
   py = (a.y -ℤ p.y) *ℤ (b.y -ℤ p.y)
 
   pub on_straight : (r : Bool) → cross a b p ≡ pos 0
-      → (IsTrue r ↔ ((((a.x -ℤ p.x) *ℤ (b.x -ℤ p.x)) ≤ℤ pos 0) × (((a.y -ℤ p.y) *ℤ (b.y -ℤ p.y)) ≤ℤ pos 0)))
+      → (IsTrue r ↔ ((((a.x -ℤ p.x) *ℤ (b.x -ℤ p.x)) ≤ℤ pos 0)
+      × (((a.y -ℤ p.y) *ℤ (b.y -ℤ p.y)) ≤ℤ pos 0)))
       → IsTrue r ↔ IsOnStraight (point a) (point b) (point p)
   on_straight r e h = (
-    λ t. let (hx, hy) = h.0 t in record { line = turn_is a b p ∙ e; between = let d = dot_is a b p in omega (arith, ints, d, hx, hy) },
+    λ t. let (hx, hy) = h.0 t in
+        record {
+          line = turn_is a b p ∙ e;
+          between = let d = dot_is a b p in omega (arith, ints, d, hx, hy);
+        },
     λ s.
         let d = dot_is a b p in
         let q = s.between in
         let k : (px +ℤ py) ≤ℤ pos 0 = omega (arith, ints, d, q) in
         let f = products_square a b p e in
-        h.1 (not_both_signs px py ((a.x -ℤ p.x) *ℤ (b.y -ℤ p.y)) f k, not_both_signs py px ((a.x -ℤ p.x) *ℤ (b.y -ℤ p.y)) (swap py px ∙ f) (omega (arith, ints, k))),
+        h.1 (
+          not_both_signs px py ((a.x -ℤ p.x) *ℤ (b.y -ℤ p.y)) f k,
+          not_both_signs py px ((a.x -ℤ p.x) *ℤ (b.y -ℤ p.y)) (swap py px ∙ f)
+              (omega (arith, ints, k)),
+        ),
   )
 
   pub off_straight : (cross a b p ≡ pos 0 → ⊥)

@@ -52,8 +52,11 @@ at_high w e z r Z on high =
     let t = sweep-mix w b.i (point e.low) b.j (point e.high) in
     let o = (on_sweep w e z r Z on).high in
     let some = b.some in
-    let i0 : b.i ≡ pos 0 = no_weight (value w e.low) (value w e.high) (sweep w z) (sweep w m) z.n b.i b.j Z (omega (arith, ints, r, rise-is w e)) (omega (arith, ints, o, high)) s t in
-    only_low z (point e.high) (point e.low) b.j b.i (omega (arith, ints, some, i0)) i0 (swap_same z (point e.low) (point e.high) b.i b.j b.is)
+    let i0 : b.i ≡ pos 0 = no_weight (value w e.low) (value w e.high) (sweep w z)
+    (sweep w m) z.n b.i b.j Z (omega (arith, ints, r, rise-is w e))
+    (omega (arith, ints, o, high)) s t in
+    only_low z (point e.high) (point e.low) b.j b.i (omega (arith, ints, some, i0)) i0
+    (swap_same z (point e.low) (point e.high) b.i b.j b.is)
   where
     no_weight : (l h z m n i j : ℤ) → pos 0 <ℤ n → pos 0 <ℤ (h -ℤ l) → z ≡ h *ℤ n
         → ((i *ℤ pos 1) +ℤ (j *ℤ pos 1)) *ℤ z ≡ n *ℤ m → m ≡ (i *ℤ l) +ℤ (j *ℤ h) → i ≡ pos 0
@@ -61,9 +64,12 @@ at_high w e z r Z on high =
         let a = ap (λ (x : ℤ). ((i *ℤ pos 1) +ℤ (j *ℤ pos 1)) *ℤ x) e in
         let b = ap (λ (x : ℤ). n *ℤ x) g in
         let one = num (pos 1) in
-        let k = ring (minus (times (plus (times (at 3) one) (times (at 4) one)) (times (at 1) (at 2))) (times (at 2) (plus (times (at 3) (at 0)) (times (at 4) (at 1)))))
+        let k = ring
+        (minus (times (plus (times (at 3) one) (times (at 4) one)) (times (at 1) (at 2)))
+        (times (at 2) (plus (times (at 3) (at 0)) (times (at 4) (at 1)))))
         (times (at 2) (times (minus (at 1) (at 0)) (at 3))) (vars (l ∷ h ∷ n ∷ i ∷ j ∷ [])) refl in
-        cancel_zero (h -ℤ l) i hr (cancel_zero n ((h -ℤ l) *ℤ i) hn (omega (arith, ints, a, b, k, f)))
+        cancel_zero (h -ℤ l) i hr
+        (cancel_zero n ((h -ℤ l) *ℤ i) hn (omega (arith, ints, a, b, k, f)))
 
 pub touch_in_line : (w : ℤ) (s t : Edge) → AreRising w s t → s.high ≡ t.low → edges.Touch s t
 touch_in_line w s t r e = record {
@@ -72,13 +78,15 @@ touch_in_line w s t r e = record {
   of_second = inl (sym e);
   only = λ z Z on_s on_t.
       let low = (on_sweep w t z r.second Z on_t).low in
-      at_high w s z r.first Z on_s (subst (λ (p : Point). (value w p *ℤ z.n) ≤ℤ sweep w z) (sym e) low);
+      at_high w s z r.first Z on_s
+      (subst (λ (p : Point). (value w p *ℤ z.n) ≤ℤ sweep w z) (sym e) low);
 }
 
 -- ---- the overlap of two edges
 
 square : (w : ℤ) (s : Edge) → pos 0 <ℤ rise w s
-    → pos 0 <ℤ (((s.high.x -ℤ s.low.x) *ℤ (s.high.x -ℤ s.low.x)) +ℤ ((s.high.y -ℤ s.low.y) *ℤ (s.high.y -ℤ s.low.y)))
+    → pos 0 <ℤ (((s.high.x -ℤ s.low.x) *ℤ (s.high.x -ℤ s.low.x))
+    +ℤ ((s.high.y -ℤ s.low.y) *ℤ (s.high.y -ℤ s.low.y)))
 unfolding rise
 square w s r =
     let x = s.high.x -ℤ s.low.x in
@@ -89,14 +97,20 @@ square w s r =
     (λ (l : ((x *ℤ x) +ℤ (y *ℤ y)) ≤ℤ pos 0).
     let x0 = square_zero x (omega (arith, ints, a, b, l)) in
     let y0 = square_zero y (omega (arith, ints, a, b, l)) in
-    let i = ring (minus (plus (times (at 0) (at 3)) (at 4)) (plus (times (at 0) (at 1)) (at 2))) (plus (times (at 0) (minus (at 3) (at 1))) (minus (at 4) (at 2))) (vars (w ∷ s.low.x ∷ s.low.y ∷ s.high.x ∷ s.high.y ∷ [])) refl in
+    let i = ring (minus (plus (times (at 0) (at 3)) (at 4)) (plus (times (at 0) (at 1)) (at 2)))
+    (plus (times (at 0) (minus (at 3) (at 1))) (minus (at 4) (at 2)))
+    (vars (w ∷ s.low.x ∷ s.low.y ∷ s.high.x ∷ s.high.y ∷ [])) refl in
     let p = product_of_zero w x x0 in
     absurd (omega (arith, ints, r, i, p, y0)))
 
 turned_back : (s t : Edge) (p : Point) →
-    (((s.high.x -ℤ s.low.x) *ℤ (s.high.x -ℤ s.low.x)) +ℤ ((s.high.y -ℤ s.low.y) *ℤ (s.high.y -ℤ s.low.y))) *ℤ side t (point p)
-    ≡ ((((s.high.x -ℤ s.low.x) *ℤ (t.high.x -ℤ t.low.x)) +ℤ ((s.high.y -ℤ s.low.y) *ℤ (t.high.y -ℤ t.low.y))) *ℤ (side s (point p) -ℤ side s (point t.low)))
-    -ℤ ((((s.high.x -ℤ s.low.x) *ℤ (p.x -ℤ t.low.x)) +ℤ ((s.high.y -ℤ s.low.y) *ℤ (p.y -ℤ t.low.y))) *ℤ (side s (point t.high) -ℤ side s (point t.low)))
+    (((s.high.x -ℤ s.low.x) *ℤ (s.high.x -ℤ s.low.x))
+    +ℤ ((s.high.y -ℤ s.low.y) *ℤ (s.high.y -ℤ s.low.y))) *ℤ side t (point p)
+    ≡ ((((s.high.x -ℤ s.low.x) *ℤ (t.high.x -ℤ t.low.x))
+    +ℤ ((s.high.y -ℤ s.low.y) *ℤ (t.high.y -ℤ t.low.y)))
+    *ℤ (side s (point p) -ℤ side s (point t.low)))
+    -ℤ ((((s.high.x -ℤ s.low.x) *ℤ (p.x -ℤ t.low.x)) +ℤ ((s.high.y -ℤ s.low.y) *ℤ (p.y -ℤ t.low.y)))
+    *ℤ (side s (point t.high) -ℤ side s (point t.low)))
 unfolding side
 turned_back s t p =
     let one = num (pos 1) in
@@ -106,8 +120,11 @@ turned_back s t p =
     let T = SIDE (at 4) (at 5) (at 6) (at 7) (at 8) (at 9) one in
     let dot : Expr → Expr → Expr = λ x y. plus (times sx x) (times sy y) in
     ring (times (dot sx sy) T)
-    (minus (times (dot tx ty) (minus (S (at 8) (at 9)) (S (at 4) (at 5)))) (times (dot (minus (at 8) (at 4)) (minus (at 9) (at 5))) (minus (S (at 6) (at 7)) (S (at 4) (at 5)))))
-    (vars (s.low.x ∷ s.low.y ∷ s.high.x ∷ s.high.y ∷ t.low.x ∷ t.low.y ∷ t.high.x ∷ t.high.y ∷ p.x ∷ p.y ∷ [])) refl
+    (minus (times (dot tx ty) (minus (S (at 8) (at 9)) (S (at 4) (at 5))))
+    (times (dot (minus (at 8) (at 4)) (minus (at 9) (at 5)))
+    (minus (S (at 6) (at 7)) (S (at 4) (at 5)))))
+    (vars (s.low.x ∷ s.low.y ∷ s.high.x ∷ s.high.y ∷ t.low.x ∷ t.low.y ∷ t.high.x ∷ t.high.y ∷ p.x
+    ∷ p.y ∷ [])) refl
 
 pub record IsOneLine (s t : Edge) : Type 0 where
   pub low : side s (point t.low) ≡ pos 0
@@ -118,8 +135,12 @@ on_other : (w : ℤ) (s t : Edge) (p : Point) → pos 0 <ℤ rise w s → IsOneL
 on_other w s t p r h e =
     let low = h.low in
     let high = h.high in
-    let a = product_of_zero (((s.high.x -ℤ s.low.x) *ℤ (t.high.x -ℤ t.low.x)) +ℤ ((s.high.y -ℤ s.low.y) *ℤ (t.high.y -ℤ t.low.y))) (side s (point p) -ℤ side s (point t.low)) (omega (arith, ints, e, low)) in
-    let b = product_of_zero (((s.high.x -ℤ s.low.x) *ℤ (p.x -ℤ t.low.x)) +ℤ ((s.high.y -ℤ s.low.y) *ℤ (p.y -ℤ t.low.y))) (side s (point t.high) -ℤ side s (point t.low)) (omega (arith, ints, high, low)) in
+    let a = product_of_zero (((s.high.x -ℤ s.low.x) *ℤ (t.high.x -ℤ t.low.x))
+    +ℤ ((s.high.y -ℤ s.low.y) *ℤ (t.high.y -ℤ t.low.y)))
+    (side s (point p) -ℤ side s (point t.low)) (omega (arith, ints, e, low)) in
+    let b = product_of_zero (((s.high.x -ℤ s.low.x) *ℤ (p.x -ℤ t.low.x))
+    +ℤ ((s.high.y -ℤ s.low.y) *ℤ (p.y -ℤ t.low.y)))
+    (side s (point t.high) -ℤ side s (point t.low)) (omega (arith, ints, high, low)) in
     cancel_zero _ (side t (point p)) (square w s r) (less _ _ _ (turned_back s t p) a b)
   where
     less : (x y z : ℤ) → x ≡ y -ℤ z → y ≡ pos 0 → z ≡ pos 0 → x ≡ pos 0
@@ -145,9 +166,18 @@ half_way w s t p q r one hp hq l =
     let qt = on_other w s t q r.first one qs in
     let ms = side-mix s (pos 1) (point p) (pos 1) (point q) in
     let mt = side-mix t (pos 1) (point p) (pos 1) (point q) in
-    let a = hp.after_first in let b = hp.after_second in let c = hq.before_first in let d = hq.before_second in
-    let on_s : On w s m = record { line = omega (arith, ints, ms, ps, qs); low = omega (arith, ints, v, a, l); high = omega (arith, ints, v, c, l) } in
-    let on_t : On w t m = record { line = omega (arith, ints, mt, pt, qt); low = omega (arith, ints, v, b, l); high = omega (arith, ints, v, d, l) } in
+    let a = hp.after_first in
+    let b = hp.after_second in let c = hq.before_first in let d = hq.before_second in
+    let on_s : On w s m = record {
+      line = omega (arith, ints, ms, ps, qs);
+      low = omega (arith, ints, v, a, l);
+      high = omega (arith, ints, v, c, l);
+    } in
+    let on_t : On w t m = record {
+      line = omega (arith, ints, mt, pt, qt);
+      low = omega (arith, ints, v, b, l);
+      high = omega (arith, ints, v, d, l);
+    } in
     record {
       at = m;
       place = M;
@@ -157,7 +187,8 @@ half_way w s t p q r one hp hq l =
     }
   where
     inner : (e : Point)
-        → pos 1 *ℤ sweep w (mix (pos 1) (point p) (pos 1) (point q)) ≡ ((pos 1 *ℤ pos 1) +ℤ (pos 1 *ℤ pos 1)) *ℤ value w e
+        → pos 1 *ℤ sweep w (mix (pos 1) (point p) (pos 1) (point q))
+        ≡ ((pos 1 *ℤ pos 1) +ℤ (pos 1 *ℤ pos 1)) *ℤ value w e
         → edges.IsEnd s e → ⊥
     inner e k (inl h) =
         let v = sweep-mix w (pos 1) (point p) (pos 1) (point q) in
@@ -177,15 +208,55 @@ bad_in_line w s t r one a b =
     let rt : value w t.low <ℤ value w t.high = omega (arith, ints, r.second, rise-is w t) in
     by_lt_z (value w s.low) (value w t.low)
     (λ (k : value w s.low <ℤ value w t.low).
-    let p : IsShared w s t t.low = record { line = one.low; after_first = omega (arith, ints, k); after_second = omega (arith, ints); before_first = omega (arith, ints, a); before_second = omega (arith, ints, rt) } in
+    let p : IsShared w s t t.low = record {
+      line = one.low;
+      after_first = omega (arith, ints, k);
+      after_second = omega (arith, ints);
+      before_first = omega (arith, ints, a);
+      before_second = omega (arith, ints, rt);
+    } in
     by_lt_z (value w s.high) (value w t.high)
-    (λ (h : value w s.high <ℤ value w t.high). half_way w s t t.low s.high r one p (record { line = side-high s; after_first = omega (arith, ints, rs); after_second = omega (arith, ints, a); before_first = omega (arith, ints); before_second = omega (arith, ints, h) }) a)
-    (λ (h : value w t.high ≤ℤ value w s.high). half_way w s t t.low t.high r one p (record { line = one.high; after_first = omega (arith, ints, b); after_second = omega (arith, ints, rt); before_first = h; before_second = omega (arith, ints) }) rt))
+    (λ (h : value w s.high <ℤ value w t.high). half_way w s t t.low s.high r one p
+    (record {
+      line = side-high s;
+      after_first = omega (arith, ints, rs);
+      after_second = omega (arith, ints, a);
+      before_first = omega (arith, ints);
+      before_second = omega (arith, ints, h);
+    }) a)
+    (λ (h : value w t.high ≤ℤ value w s.high). half_way w s t t.low t.high r one p
+    (record {
+      line = one.high;
+      after_first = omega (arith, ints, b);
+      after_second = omega (arith, ints, rt);
+      before_first = h;
+      before_second = omega (arith, ints);
+    }) rt))
     (λ (k : value w t.low ≤ℤ value w s.low).
-    let p : IsShared w s t s.low = record { line = side-low s; after_first = omega (arith, ints); after_second = k; before_first = omega (arith, ints, rs); before_second = omega (arith, ints, b) } in
+    let p : IsShared w s t s.low = record {
+      line = side-low s;
+      after_first = omega (arith, ints);
+      after_second = k;
+      before_first = omega (arith, ints, rs);
+      before_second = omega (arith, ints, b);
+    } in
     by_lt_z (value w s.high) (value w t.high)
-    (λ (h : value w s.high <ℤ value w t.high). half_way w s t s.low s.high r one p (record { line = side-high s; after_first = omega (arith, ints, rs); after_second = omega (arith, ints, a); before_first = omega (arith, ints); before_second = omega (arith, ints, h) }) rs)
-    (λ (h : value w t.high ≤ℤ value w s.high). half_way w s t s.low t.high r one p (record { line = one.high; after_first = omega (arith, ints, b); after_second = omega (arith, ints, rt); before_first = h; before_second = omega (arith, ints) }) b))
+    (λ (h : value w s.high <ℤ value w t.high). half_way w s t s.low s.high r one p
+    (record {
+      line = side-high s;
+      after_first = omega (arith, ints, rs);
+      after_second = omega (arith, ints, a);
+      before_first = omega (arith, ints);
+      before_second = omega (arith, ints, h);
+    }) rs)
+    (λ (h : value w t.high ≤ℤ value w s.high). half_way w s t s.low t.high r one p
+    (record {
+      line = one.high;
+      after_first = omega (arith, ints, b);
+      after_second = omega (arith, ints, rt);
+      before_first = h;
+      before_second = omega (arith, ints);
+    }) b))
 
 -- ---- a weight for the four ends
 abbrev pub heavy : ℤ
@@ -197,8 +268,17 @@ close_weight s t c =
     let low = s.low.y -ℤ pos (2 ^ 41) in
     let high = s.low.y +ℤ pos (2 ^ 41) in
     let a = c.first.y in let b = c.low_low.y in let d = c.low_high.y in
-    weight_from_spread heavy low high (s.low ∷ s.high ∷ t.low ∷ t.high ∷ []) (omega (arith, ints)) (omega (arith, ints))
-    ((omega (arith, ints), omega (arith, ints)), ((omega (arith, ints, a), omega (arith, ints, a)), ((omega (arith, ints, b), omega (arith, ints, b)), ((omega (arith, ints, d), omega (arith, ints, d)), tt))))
+    weight_from_spread heavy low high (s.low ∷ s.high ∷ t.low ∷ t.high ∷ []) (omega (arith, ints))
+    (omega (arith, ints)) (
+      (omega (arith, ints), omega (arith, ints)),
+      (
+        (omega (arith, ints, a), omega (arith, ints, a)),
+        (
+          (omega (arith, ints, b), omega (arith, ints, b)),
+          ((omega (arith, ints, d), omega (arith, ints, d)), tt),
+        ),
+      ),
+    )
 
 -- ---- in the words of the order of points
 -- two sorted edges whose four ends are close
@@ -211,10 +291,19 @@ rising_edges : (s t : Edge) → AreSorted s t → AreRising heavy s t
 rising_edges s t h =
     let ends = s.low ∷ s.high ∷ t.low ∷ t.high ∷ [] in
     let w = close_weight s t h.close in
-    record { first = rise_positive heavy ends s w (inl refl) (inr (inl refl)) h.first; second = rise_positive heavy ends t w (inr (inr (inl refl))) (inr (inr (inr (inl refl)))) h.second }
+    record {
+      first = rise_positive heavy ends s w (inl refl) (inr (inl refl)) h.first;
+      second = rise_positive heavy ends t w (inr (inr (inl refl)))
+          (inr (inr (inr (inl refl)))) h.second;
+    }
 
 touch_back : (s t : Edge) → edges.Touch t s → edges.Touch s t
-touch_back s t h = record { at = h.at; of_first = h.of_second; of_second = h.of_first; only = λ z Z on_s on_t. h.only z Z on_t on_s }
+touch_back s t h = record {
+  at = h.at;
+  of_first = h.of_second;
+  of_second = h.of_first;
+  only = λ z Z on_s on_t. h.only z Z on_t on_s;
+}
 
 pub line_apart : (s t : Edge) → AreSorted s t → Before s.high t.low ⊎ Before t.high s.low
     → edges.Disjoint s t
@@ -223,7 +312,10 @@ line_apart s t h b =
     let r = rising_edges s t h in
     elim b [
       | inl k ↦ before_apart heavy s t r (w s.high t.low (inr (inl refl)) (inr (inr (inl refl))) k)
-      | inr k ↦ let a = before_apart heavy t s (record { first = r.second; second = r.first }) (w t.high s.low (inr (inr (inr (inl refl)))) (inl refl) k) in λ z Z on_s on_t. a z Z on_t on_s
+      | inr k ↦ let a =
+          before_apart heavy t s (record { first = r.second; second = r.first })
+          (w t.high s.low (inr (inr (inr (inl refl)))) (inl refl) k) in
+          λ z Z on_s on_t. a z Z on_t on_s
     ]
 
 pub line_touch : (s t : Edge) → AreSorted s t → (s.high ≡ t.low) ⊎ (t.high ≡ s.low)
@@ -232,11 +324,14 @@ line_touch s t h b =
     let r = rising_edges s t h in
     elim b [
       | inl e ↦ touch_in_line heavy s t r e
-      | inr e ↦ touch_back s t (touch_in_line heavy t s (record { first = r.second; second = r.first }) e)
+      | inr e ↦ touch_back s t
+          (touch_in_line heavy t s (record { first = r.second; second = r.first }) e)
     ]
 
 pub line_bad : (s t : Edge) → AreSorted s t → IsOneLine s t → Before t.low s.high
     → Before s.low t.high → edges.Bad s t
 line_bad s t h one a b =
     let w = close_weight s t h.close in
-    bad_in_line heavy s t (rising_edges s t h) one (w t.low s.high (inr (inr (inl refl))) (inr (inl refl)) a) (w s.low t.high (inl refl) (inr (inr (inr (inl refl)))) b)
+    bad_in_line heavy s t (rising_edges s t h) one
+    (w t.low s.high (inr (inr (inl refl))) (inr (inl refl)) a)
+    (w s.low t.high (inl refl) (inr (inr (inr (inl refl)))) b)

@@ -46,7 +46,13 @@ counts e (n ∷ ns) (inr h) = omega (arith, sum_by-cons (one_at e) n ns, counts 
 
 counts_none : (e : ℕ) (ns : List ℕ) → (Has e ns → ⊥) → count e ns ≡ 0
 counts_none e [] f = refl
-counts_none e (n ∷ ns) f = omega (arith, sum_by-cons (one_at e) n ns, one_other e n (λ q. f (inl (sym q))), counts_none e ns (λ h. f (inr h)))
+counts_none e (n ∷ ns) f =
+    omega (
+      arith,
+      sum_by-cons (one_at e) n ns,
+      one_other e n (λ q. f (inl (sym q))),
+      counts_none e ns (λ h. f (inr h)),
+    )
 
 -- an element of a list without repeats counts once, and any other not at all
 counts_once : (e : ℕ) (ns : List ℕ) → Once ns → count e ns ≤ 1
@@ -56,7 +62,12 @@ counts_once e (n ∷ ns) o = by_test (counts_once e ns o.1) (nat_eq n e) refl
     by_test : count e ns ≤ 1 → (t : Bool) → nat_eq n e ≡ t → count e (n ∷ ns) ≤ 1
     by_test r true q =
         let same : n ≡ e = grind (arith, nat_tests) in
-        omega (arith, sum_by-cons (one_at e) n ns, one_same e n same, counts_none e ns (λ h. o.0 (subst (λ (i : ℕ). Has i ns) (sym same) h)))
+        omega (
+          arith,
+          sum_by-cons (one_at e) n ns,
+          one_same e n same,
+          counts_none e ns (λ h. o.0 (subst (λ (i : ℕ). Has i ns) (sym same) h)),
+        )
     by_test r false q =
         let other : n ≡ e → ⊥ = λ (w : n ≡ e). grind (arith, nat_tests) in
         omega (arith, sum_by-cons (one_at e) n ns, one_other e n other, r)
@@ -64,7 +75,8 @@ counts_once e (n ∷ ns) o = by_test (counts_once e ns o.1) (nat_eq n e) refl
 once_from : (ns : List ℕ) → ((e : ℕ) → count e ns ≤ 1) → Once ns
 once_from [] f = tt
 once_from (n ∷ ns) f = (
-  (λ h. let a = f n in let b = counts n ns h in omega (arith, a, b, sum_by-cons (one_at n) n ns, one_same n n refl)),
+  (λ h. let a = f n in let b = counts n ns h in
+      omega (arith, a, b, sum_by-cons (one_at n) n ns, one_same n n refl)),
   once_from ns (λ e. let a = f e in omega (arith, a, sum_by-cons (one_at e) n ns)),
 )
 
@@ -84,7 +96,8 @@ sorted_neighbours lt (x ∷ []) h = (tt, tt)
 sorted_neighbours lt (x ∷ (y ∷ ys)) h = (
   h 0 x (omega arith) (omega arith),
   sorted_neighbours lt (y ∷ ys) (λ k d l m.
-      subst (λ (n : ℕ). lt (get_or (x ∷ (y ∷ ys)) n d) (get_or (y ∷ ys) k d) ≡ false) (shift k) (h (suc k) d (omega arith) (omega (arith, m)))),
+      subst (λ (n : ℕ). lt (get_or (x ∷ (y ∷ ys)) n d) (get_or (y ∷ ys) k d) ≡ false) (shift k)
+      (h (suc k) d (omega arith) (omega (arith, m)))),
 )
   where
     shift : (k : ℕ) → suc k + 1 ≡ suc (k + 1)

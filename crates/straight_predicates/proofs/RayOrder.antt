@@ -25,7 +25,8 @@ turn a b = turn_between a.direction b.direction
 
 turn_back : (a b : Ray) → turn b a ≡ pos 0 -ℤ turn a b
 turn_back a b =
-    ring (minus (times (at 2) (at 1)) (times (at 3) (at 0))) (minus (num (pos 0)) (minus (times (at 0) (at 3)) (times (at 1) (at 2))))
+    ring (minus (times (at 2) (at 1)) (times (at 3) (at 0)))
+    (minus (num (pos 0)) (minus (times (at 0) (at 3)) (times (at 1) (at 2))))
     (vars (a.direction.x ∷ a.direction.y ∷ b.direction.x ∷ b.direction.y ∷ [])) refl
 
 -- a comes before b, or they are of one slope and number
@@ -41,7 +42,8 @@ not_after a b h = by_sign
         by_lt_z (turn a b) (pos 0)
         (λ (l : turn a b <ℤ pos 0).
         let back = turn_back a b in
-        let e : ray_cmp b a ≡ Less = ap (λ o. ordering_then o (nat_cmp b.edge a.edge)) (int_less (pos 0) (turn b a) (omega (arith, ints, l, back))) in
+        let e : ray_cmp b a ≡ Less = ap (λ o. ordering_then o (nat_cmp b.edge a.edge))
+        (int_less (pos 0) (turn b a) (omega (arith, ints, l, back))) in
         absurd (differ (sym (ap is_lt e) ∙ h)))
         (λ (l : pos 0 ≤ℤ turn a b).
         by_lt_z (pos 0) (turn a b)
@@ -49,7 +51,9 @@ not_after a b h = by_sign
         (λ (k : turn a b ≤ℤ pos 0).
         let back = turn_back a b in
         let zero : turn b a ≡ pos 0 = omega (arith, ints, l, k, back) in
-        let e : ray_cmp b a ≡ nat_cmp b.edge a.edge = ap (λ o. ordering_then o (nat_cmp b.edge a.edge)) (int_equal (pos 0) (turn b a) (sym zero)) in
+        let e : ray_cmp b a ≡ nat_cmp b.edge a.edge = ap
+        (λ o. ordering_then o (nat_cmp b.edge a.edge))
+        (int_equal (pos 0) (turn b a) (sym zero)) in
         inr (omega (arith, ints, l, k), by_number a.edge b.edge (sym (ap is_lt e) ∙ h))))
       where
         differ : true ≡ false → ⊥
@@ -61,11 +65,13 @@ not_after a b h = by_sign
 after_not : (a b : Ray) → NotAfter a b → ray_lt b a ≡ false
 after_not a b (inl l) =
     let back = turn_back a b in
-    ap (λ o. is_lt (ordering_then o (nat_cmp b.edge a.edge))) (int_greater (pos 0) (turn b a) (omega (arith, ints, l, back)))
+    ap (λ o. is_lt (ordering_then o (nat_cmp b.edge a.edge)))
+    (int_greater (pos 0) (turn b a) (omega (arith, ints, l, back)))
 after_not a b (inr l) =
     let back = turn_back a b in
     let z = l.0 in
-    ap (λ o. is_lt (ordering_then o (nat_cmp b.edge a.edge))) (int_equal (pos 0) (turn b a) (omega (arith, ints, z, back))) ∙ nat_least b.edge a.edge l.1
+    ap (λ o. is_lt (ordering_then o (nat_cmp b.edge a.edge)))
+    (int_equal (pos 0) (turn b a) (omega (arith, ints, z, back))) ∙ nat_least b.edge a.edge l.1
 
 -- ---- directions as points, from the origin
 abbrev point_of : Ray → Point
@@ -82,7 +88,8 @@ ahead r =
 
 cross_turn : (a b : Ray) → cross no_point (point_of a) (point_of b) ≡ turn a b
 cross_turn a b =
-    ring (minus (times (minus (at 0) (num (pos 0))) (minus (at 3) (num (pos 0)))) (times (minus (at 1) (num (pos 0))) (minus (at 2) (num (pos 0)))))
+    ring (minus (times (minus (at 0) (num (pos 0))) (minus (at 3) (num (pos 0))))
+    (times (minus (at 1) (num (pos 0))) (minus (at 2) (num (pos 0)))))
     (minus (times (at 0) (at 3)) (times (at 1) (at 2)))
     (vars (a.direction.x ∷ a.direction.y ∷ b.direction.x ∷ b.direction.y ∷ [])) refl
 
@@ -94,18 +101,28 @@ left_through a b c h k s =
     subst (λ (z : ℤ). pos 0 <ℤ z) (cross_turn a c)
     (turns_left no_point (point_of a) (point_of b) (point_of c) (ahead a) (ahead b) (ahead c)
     (subst (λ (z : ℤ). pos 0 ≤ℤ z) (sym ab) h) (subst (λ (z : ℤ). pos 0 ≤ℤ z) (sym bc) k)
-    (elim s [ inl l ↦ inl (subst (λ (z : ℤ). pos 0 <ℤ z) (sym ab) l) | inr l ↦ inr (subst (λ (z : ℤ). pos 0 <ℤ z) (sym bc) l) ]))
+    (elim s [
+      | inl l ↦ inl (subst (λ (z : ℤ). pos 0 <ℤ z) (sym ab) l)
+      | inr l ↦ inr (subst (λ (z : ℤ). pos 0 <ℤ z) (sym bc) l)
+    ]))
 
 none_through : (a b c : Ray) → turn a b ≡ pos 0 → turn b c ≡ pos 0 → turn a c ≡ pos 0
 none_through a b c h k =
     sym (cross_turn a c)
-    ∙ turns_none no_point (point_of a) (point_of b) (point_of c) (ahead a) (ahead b) (ahead c) (cross_turn a b ∙ h) (cross_turn b c ∙ k)
+    ∙ turns_none no_point (point_of a) (point_of b) (point_of c) (ahead a) (ahead b) (ahead c)
+    (cross_turn a b ∙ h) (cross_turn b c ∙ k)
 
 not_after_trans : (a b c : Ray) → NotAfter a b → NotAfter b c → NotAfter a c
-not_after_trans a b c (inl x) (inl y) = inl (left_through a b c (omega (arith, ints, x)) (omega (arith, ints, y)) (inl x))
-not_after_trans a b c (inl x) (inr y) = let z = y.0 in inl (left_through a b c (omega (arith, ints, x)) (omega (arith, ints, z)) (inl x))
-not_after_trans a b c (inr x) (inl y) = let z = x.0 in inl (left_through a b c (omega (arith, ints, z)) (omega (arith, ints, y)) (inr y))
-not_after_trans a b c (inr x) (inr y) = let l = x.1 in let r = y.1 in inr (none_through a b c x.0 y.0, omega (arith, l, r))
+not_after_trans a b c (inl x) (inl y) =
+    inl (left_through a b c (omega (arith, ints, x)) (omega (arith, ints, y)) (inl x))
+not_after_trans a b c (inl x) (inr y) =
+    let z = y.0 in
+    inl (left_through a b c (omega (arith, ints, x)) (omega (arith, ints, z)) (inl x))
+not_after_trans a b c (inr x) (inl y) =
+    let z = x.0 in
+    inl (left_through a b c (omega (arith, ints, z)) (omega (arith, ints, y)) (inr y))
+not_after_trans a b c (inr x) (inr y) =
+    let l = x.1 in let r = y.1 in inr (none_through a b c x.0 y.0, omega (arith, l, r))
 
 -- of two rays one is not after the other
 either : (a b : Ray) → NotAfter a b ⊎ NotAfter b a
@@ -123,7 +140,10 @@ either a b =
 
 pub rays_rank : IsStrictWeakOrder ray_lt
 rays_rank = record {
-  one_way = λ x y h. elim (either x y) [ inl l ↦ after_not x y l | inr l ↦ absurd (clash (sym h ∙ after_not y x l)) ];
+  one_way = λ x y h. elim (either x y) [
+    | inl l ↦ after_not x y l
+    | inr l ↦ absurd (clash (sym h ∙ after_not y x l))
+  ];
   chain = λ x y z h k. after_not z x (not_after_trans z y x (not_after z y k) (not_after y x h));
 }
   where
@@ -139,13 +159,16 @@ ray_turn : (edges : List Edge) (p : Point) (r s : Ray) → IsRayOf edges r → I
     → (edge_of edges r.edge).low ≡ p → (edge_of edges s.edge).low ≡ p
     → turn r s ≡ turn_at (edge_of edges) r.edge (edge_of edges s.edge).high
 ray_turn edges p r s h k e f =
-    same_turn (edge_of edges r.edge).low (edge_of edges r.edge).high (edge_of edges s.edge).high (edge_of edges s.edge).low _ _ _ _ h.x h.y k.x k.y (f ∙ sym e)
+    same_turn (edge_of edges r.edge).low (edge_of edges r.edge).high (edge_of edges s.edge).high
+    (edge_of edges s.edge).low _ _ _ _ h.x h.y k.x k.y (f ∙ sym e)
 
 by_slope : (edges : List Edge) (p : Point) (r s : Ray) → IsRayOf edges r → IsRayOf edges s
     → (edge_of edges r.edge).low ≡ p → (edge_of edges s.edge).low ≡ p
     → (r.edge ≡ s.edge → ⊥) → NotAfter r s → BySlope (edge_of edges) r.edge s.edge
-by_slope edges p r s h k e f n (inl l) = inl (subst (λ (z : ℤ). pos 0 <ℤ z) (ray_turn edges p r s h k e f) l)
-by_slope edges p r s h k e f n (inr l) = let o = l.1 in inr (sym (ray_turn edges p r s h k e f) ∙ l.0, omega (arith, o, n))
+by_slope edges p r s h k e f n (inl l) =
+    inl (subst (λ (z : ℤ). pos 0 <ℤ z) (ray_turn edges p r s h k e f) l)
+by_slope edges p r s h k e f n (inr l) =
+    let o = l.1 in inr (sym (ray_turn edges p r s h k e f) ∙ l.0, omega (arith, o, n))
 
 pub rays_by_slope : (edges : List Edge) (p : Point) (rays : List Ray)
     → ((r : Ray) → Has r rays → IsRayOf edges r × ((edge_of edges r.edge).low ≡ p))
@@ -155,5 +178,7 @@ rays_by_slope edges p [] f h o = tt
 rays_by_slope edges p (r ∷ []) f h o = (tt, tt)
 rays_by_slope edges p (r ∷ (s ∷ rays)) f h o =
     let a = f r (inl refl) in
-    let b = f s (inr (inl refl)) in
-    (by_slope edges p r s a.0 b.0 a.1 b.1 (λ q. o.0 (inl q)) (not_after r s h.0), rays_by_slope edges p (s ∷ rays) (λ t i. f t (inr i)) h.1 o.1)
+    let b = f s (inr (inl refl)) in (
+      by_slope edges p r s a.0 b.0 a.1 b.1 (λ q. o.0 (inl q)) (not_after r s h.0),
+      rays_by_slope edges p (s ∷ rays) (λ t i. f t (inr i)) h.1 o.1,
+    )

@@ -17,7 +17,12 @@ pub slots_push : (from : ℕ) (stops : List Stop) (s : Stop)
     ++ record { at = s.at; from = end_from from stops; middle = s.middle; upto = s.upto } ∷ []
 slots_push from [] s = refl
 slots_push from (t ∷ stops) s =
-    ap (λ (ss : List Slot). record { at = t.at; from = from; middle = t.middle; upto = t.upto } ∷ ss) (slots_push t.upto stops s)
+    ap (λ (ss : List Slot). record {
+      at = t.at;
+      from = from;
+      middle = t.middle;
+      upto = t.upto;
+    } ∷ ss) (slots_push t.upto stops s)
 
 pub end_push : (from : ℕ) (stops : List Stop) (s : Stop) → end_from from (stops ++ s ∷ []) ≡ s.upto
 end_push from [] s = refl
@@ -68,7 +73,8 @@ later_slot (suc k) stops e d p l =
     one_less : (k : ℕ) → suc k - 1 ≡ k
     one_less k = omega arith
 
-module _ (numbers : List ℕ) (stops : List Stop) (k : ℕ) (l : k < length (map (timed_at numbers) (slots_from 0 stops))) where
+module _ (numbers : List ℕ) (stops : List Stop) (k : ℕ)
+    (l : k < length (map (timed_at numbers) (slots_from 0 stops))) where
   pub event_there : k < length stops
   event_there =
       let a = length-map (slots_from 0 stops) (timed_at numbers) in
@@ -81,7 +87,8 @@ module _ (numbers : List ℕ) (stops : List Stop) (k : ℕ) (l : k < length (map
   pub event_is : (s : Slot) (e : Timed) → ((d : Slot) → s ≡ get_or (slots_from 0 stops) k d)
       → get_or (map (timed_at numbers) (slots_from 0 stops)) k e ≡ timed_at numbers s
   event_is s e h =
-      get_or-map (timed_at numbers) (slots_from 0 stops) k s e slot_there ∙ ap (timed_at numbers) (sym (h s))
+      get_or-map (timed_at numbers) (slots_from 0 stops) k s e slot_there
+      ∙ ap (timed_at numbers) (sym (h s))
 
   pub slot_within : (s : Slot) → AreSlots (length numbers) (slots_from 0 stops)
       → ((d : Slot) → s ≡ get_or (slots_from 0 stops) k d) → IsSlot (length numbers) s

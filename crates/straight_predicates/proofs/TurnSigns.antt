@@ -34,12 +34,16 @@ pub record AreTurns (s t : Edge) (first second : Turn) : Type 0 where
 pub turns_aside : (s t : Edge) (low high : Turn) → AreTurns s t low high → AreOneSide low high
     → IsAside s t
 turns_aside s t low high h (inl e) = inl (
-  subst (λ (x : ℤ). pos 0 <ℤ x) (sym (side-cross s t.low)) (subst (λ (r : Turn). HasSign r (cross s.low s.high t.low)) e.0 h.low),
-  subst (λ (x : ℤ). pos 0 <ℤ x) (sym (side-cross s t.high)) (subst (λ (r : Turn). HasSign r (cross s.low s.high t.high)) e.1 h.high),
+  subst (λ (x : ℤ). pos 0 <ℤ x) (sym (side-cross s t.low))
+      (subst (λ (r : Turn). HasSign r (cross s.low s.high t.low)) e.0 h.low),
+  subst (λ (x : ℤ). pos 0 <ℤ x) (sym (side-cross s t.high))
+      (subst (λ (r : Turn). HasSign r (cross s.low s.high t.high)) e.1 h.high),
 )
 turns_aside s t low high h (inr e) = inr (
-  subst (λ (x : ℤ). x <ℤ pos 0) (sym (side-cross s t.low)) (subst (λ (r : Turn). HasSign r (cross s.low s.high t.low)) e.0 h.low),
-  subst (λ (x : ℤ). x <ℤ pos 0) (sym (side-cross s t.high)) (subst (λ (r : Turn). HasSign r (cross s.low s.high t.high)) e.1 h.high),
+  subst (λ (x : ℤ). x <ℤ pos 0) (sym (side-cross s t.low))
+      (subst (λ (r : Turn). HasSign r (cross s.low s.high t.low)) e.0 h.low),
+  subst (λ (x : ℤ). x <ℤ pos 0) (sym (side-cross s t.high))
+      (subst (λ (r : Turn). HasSign r (cross s.low s.high t.high)) e.1 h.high),
 )
 
 pub aside_turns : (s t : Edge) (low high : Turn) → AreTurns s t low high → IsAside s t
@@ -55,7 +59,11 @@ aside_turns s t low high h (inr a) = inr (
 
 pub turns_across : (s t : Edge) (low high : Turn) → AreTurns s t low high
     → (AreStraight low high → ⊥) → IsAcross s t
-turns_across s t low high h n a = n (is_straight low _ h.low (sym (side-cross s t.low) ∙ a.0), is_straight high _ h.high (sym (side-cross s t.high) ∙ a.1))
+turns_across s t low high h n a =
+    n (
+      is_straight low _ h.low (sym (side-cross s t.low) ∙ a.0),
+      is_straight high _ h.high (sym (side-cross s t.high) ∙ a.1),
+    )
 
 pub crosses_line : (s t : Edge) → cross s.low s.high t.low ≡ pos 0
     → cross s.low s.high t.high ≡ pos 0 → IsOneLine s t

@@ -18,10 +18,17 @@ way w p a = ((w *ℤ a.x) +ℤ a.y) -ℤ ((w *ℤ p.x) +ℤ p.y)
 turns-sum : (w : ℤ) (p a b c : Point)
     → way w p b *ℤ cross p a c ≡ (way w p a *ℤ cross p b c) +ℤ (way w p c *ℤ cross p a b)
 turns-sum w p a b c =
-    let PX = at 0 in let PY = at 1 in let AX = at 2 in let AY = at 3 in let BX = at 4 in let BY = at 5 in let CX = at 6 in let CY = at 7 in let W = at 8 in
+    let PX = at 0 in
+    let PY = at 1 in
+    let AX = at 2 in
+    let AY = at 3 in
+    let BX = at 4 in let BY = at 5 in let CX = at 6 in let CY = at 7 in let W = at 8 in
     let WAY : Expr → Expr → Expr = λ x y. minus (plus (times W x) y) (plus (times W PX) PY) in
-    let CROSS : Expr → Expr → Expr → Expr → Expr = λ x y u v. minus (times (minus x PX) (minus v PY)) (times (minus y PY) (minus u PX)) in
-    ring (times (WAY BX BY) (CROSS AX AY CX CY)) (plus (times (WAY AX AY) (CROSS BX BY CX CY)) (times (WAY CX CY) (CROSS AX AY BX BY)))
+    let CROSS : Expr → Expr → Expr → Expr
+    → Expr = λ x y u v. minus (times (minus x PX) (minus v PY))
+    (times (minus y PY) (minus u PX)) in
+    ring (times (WAY BX BY) (CROSS AX AY CX CY))
+    (plus (times (WAY AX AY) (CROSS BX BY CX CY)) (times (WAY CX CY) (CROSS AX AY BX BY)))
     (vars (p.x ∷ p.y ∷ a.x ∷ a.y ∷ b.x ∷ b.y ∷ c.x ∷ c.y ∷ w ∷ [])) refl
 
 -- the signs of such a sum
@@ -61,9 +68,11 @@ module _ (p a b c : Point) (ha : Before p a) (hb : Before p b) (hc : Before p c)
       → ((pos 0 <ℤ cross p a b) ⊎ (pos 0 <ℤ cross p b c)) → pos 0 <ℤ cross p a c
   turns_left x y s =
       let (w, ra, rb, rc) = ways in
-      sum_sign (way w p a) (way w p b) (way w p c) (cross p a b) (cross p b c) (cross p a c) ra rb rc (turns-sum w p a b c) x y s
+      sum_sign (way w p a) (way w p b) (way w p c) (cross p a b) (cross p b c)
+      (cross p a c) ra rb rc (turns-sum w p a b c) x y s
 
   pub turns_none : cross p a b ≡ pos 0 → cross p b c ≡ pos 0 → cross p a c ≡ pos 0
   turns_none x y =
       let (w, ra, rb, rc) = ways in
-      sum_zero (way w p a) (way w p b) (way w p c) (cross p a b) (cross p b c) (cross p a c) rb (turns-sum w p a b c) x y
+      sum_zero (way w p a) (way w p b) (way w p c) (cross p a b) (cross p b c) (cross p a c) rb
+      (turns-sum w p a b c) x y

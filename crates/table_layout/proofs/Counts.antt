@@ -30,24 +30,55 @@ length-surface w (an_attribute n o (Area l p)) = refl
 pub length-areas : (w : Owner) (c : ℕ) (own : List Attribute)
     → length (area_tables w c own) ≡ areas_in own
 length-areas w c [] = refl
-length-areas w c (a ∷ as_) = omega (arith, length-append (area_table w c a) (area_tables w (c + length (columns_of [] a)) as_), length-area w c a, length-areas w (c + length (columns_of [] a)) as_)
+length-areas w c (a ∷ as_) =
+    omega (
+      arith,
+      length-append (area_table w c a)
+          (area_tables w (c + length (columns_of [] a)) as_),
+      length-area w c a,
+      length-areas w (c + length (columns_of [] a)) as_,
+    )
 
 pub length-surfaces : (w : Owner) (own : List Attribute)
     → length (flat_map (surface_table w) own) ≡ surfaces_in own
 length-surfaces w [] = refl
-length-surfaces w (a ∷ as_) = omega (arith, length-append (surface_table w a) (flat_map (surface_table w) as_), length-surface w a, length-surfaces w as_)
+length-surfaces w (a ∷ as_) =
+    omega (
+      arith,
+      length-append (surface_table w a) (flat_map (surface_table w) as_),
+      length-surface w a,
+      length-surfaces w as_,
+    )
 
 pub length-with_helpers : (w : Owner) (own : List Attribute) (lists : List (List ℕ))
     → length (with_helpers w own lists) ≡ areas_in own + 1 + surfaces_in own
-length-with_helpers w own lists = omega (arith, length-append (area_tables w 0 own) (main_table w own lists ∷ flat_map (surface_table w) own), length-areas w 0 own, length-surfaces w own)
+length-with_helpers w own lists =
+    omega (
+      arith,
+      length-append (area_tables w 0 own)
+          (main_table w own lists ∷ flat_map (surface_table w) own),
+      length-areas w 0 own,
+      length-surfaces w own,
+    )
 
 pub length-beside : (n : ℕ) (mains : List ℕ) (first : ℕ) (ts : List ModelTable)
     → length (tables_beside n mains (numbers_from first ts) ts) ≡ tables_in ts
 length-beside n mains first [] = refl
 length-beside n mains first (t ∷ ts) =
-    let w : Owner = record { topic = n; mains = mains; main = first + areas_in (listed t.attributes); name = t.name } in
+    let w : Owner = record {
+      topic = n;
+      mains = mains;
+      main = first + areas_in (listed t.attributes);
+      name = t.name;
+    } in
     let next : ℕ = first + areas_in (listed t.attributes) + 1 + surfaces_in (listed t.attributes) in
-    omega (arith, length-append (with_helpers w (listed t.attributes) t.idents) (tables_beside n mains (numbers_from next ts) ts), length-with_helpers w (listed t.attributes) t.idents, length-beside n mains next ts)
+    omega (
+      arith,
+      length-append (with_helpers w (listed t.attributes) t.idents)
+          (tables_beside n mains (numbers_from next ts) ts),
+      length-with_helpers w (listed t.attributes) t.idents,
+      length-beside n mains next ts,
+    )
 
 pub length-topic : (n first : ℕ) (ts : List ModelTable)
     → length (topic_tables n first ts) ≡ tables_in ts
@@ -66,11 +97,18 @@ helpers_few (a ∷ as_) = omega (arith, helper_count a, helpers_few as_)
 
 tables_few : (ts : List ModelTable) → tables_in ts ≤ sum_by table_name_count ts
 tables_few [] = omega arith
-tables_few (t ∷ ts) = omega (arith, sum_by-cons table_name_count t ts, helpers_few (listed t.attributes), tables_few ts)
+tables_few (t ∷ ts) =
+    omega (
+      arith,
+      sum_by-cons table_name_count t ts,
+      helpers_few (listed t.attributes),
+      tables_few ts,
+    )
 
 pub numbers_few : (ts : List Topic) → numbers_in ts ≤ sum_by topic_name_count ts
 numbers_few [] = omega arith
-numbers_few (t ∷ ts) = omega (arith, sum_by-cons topic_name_count t ts, tables_few t.tables, numbers_few ts)
+numbers_few (t ∷ ts) =
+    omega (arith, sum_by-cons topic_name_count t ts, tables_few t.tables, numbers_few ts)
 
 -- ---- what is sound is small
 small_attribute : (k : ℕ) (a : Attribute) → IsSoundAttribute k a → HasFew a
@@ -85,12 +123,19 @@ small_tables k [] few h = All-nil IsSmallTable
 small_tables k (t ∷ ts) few h =
     let cons = sum_by-cons table_name_count t ts in
     let sound = All-head (IsSoundTable k) t ts h in
-    let small : AreFew (listed t.attributes) = record { few = omega arith; lines = All-weaker (IsSoundAttribute k) HasFew (small_attribute k) (listed t.attributes) sound.attributes } in
-    All-cons IsSmallTable t ts small (small_tables k ts (omega arith) (All-tail (IsSoundTable k) t ts h))
+    let small : AreFew (listed t.attributes) = record {
+      few = omega arith;
+      lines = All-weaker (IsSoundAttribute k) HasFew (small_attribute k)
+          (listed t.attributes) sound.attributes;
+    } in
+    All-cons IsSmallTable t ts small
+    (small_tables k ts (omega arith) (All-tail (IsSoundTable k) t ts h))
 
 pub small_topics : (ts : List Topic) → sum_by topic_name_count ts ≤ 4194304 → All IsSoundTopic ts
     → All IsSmallTopic ts
 small_topics [] few h = All-nil IsSmallTopic
 small_topics (t ∷ ts) few h =
     let cons = sum_by-cons topic_name_count t ts in
-    All-cons IsSmallTopic t ts (small_tables (length t.tables) t.tables (omega arith) (All-head IsSoundTopic t ts h)) (small_topics ts (omega arith) (All-tail IsSoundTopic t ts h))
+    All-cons IsSmallTopic t ts
+    (small_tables (length t.tables) t.tables (omega arith) (All-head IsSoundTopic t ts h))
+    (small_topics ts (omega arith) (All-tail IsSoundTopic t ts h))

@@ -33,7 +33,14 @@ length_each mains (an_attribute n o (Surface l p)) = refl
 length_columns : (mains : List ℕ) (own : List Attribute)
     → length (flat_map (columns_of mains) own) ≡ length (flat_map (columns_of []) own)
 length_columns mains [] = refl
-length_columns mains (a ∷ as_) = omega (arith, length-append (columns_of mains a) (flat_map (columns_of mains) as_), length-append (columns_of [] a) (flat_map (columns_of []) as_), length_each mains a, length_columns mains as_)
+length_columns mains (a ∷ as_) =
+    omega (
+      arith,
+      length-append (columns_of mains a) (flat_map (columns_of mains) as_),
+      length-append (columns_of [] a) (flat_map (columns_of []) as_),
+      length_each mains a,
+      length_columns mains as_,
+    )
 
 column_count : (mains : List ℕ) (a : Attribute)
     → length (columns_of mains a) + length (lines_of a) ≤ 1
@@ -46,7 +53,14 @@ column_count mains (an_attribute n o (Surface l p)) = omega arith
 columns_few : (mains : List ℕ) (own : List Attribute)
     → length (flat_map (columns_of mains) own) + length (flat_map lines_of own) ≤ length own
 columns_few mains [] = omega arith
-columns_few mains (a ∷ as_) = omega (arith, length-append (columns_of mains a) (flat_map (columns_of mains) as_), length-append (lines_of a) (flat_map lines_of as_), column_count mains a, columns_few mains as_)
+columns_few mains (a ∷ as_) =
+    omega (
+      arith,
+      length-append (columns_of mains a) (flat_map (columns_of mains) as_),
+      length-append (lines_of a) (flat_map lines_of as_),
+      column_count mains a,
+      columns_few mains as_,
+    )
 
 abbrev Within : List Table → ℕ → Column → Type 0
 Within tables topic c = NamesMain tables topic c.form
@@ -58,8 +72,12 @@ form_within n k mains f all h = tt
 
 each_within : (n : List Table) (k : ℕ) (mains : List ℕ) (a : Attribute) → All (IsMain n k) mains
     → IsSoundAttribute (length mains) a → All (Within n k) (columns_of mains a)
-each_within n k mains (an_attribute m o (Value f)) all h = All-cons (Within n k) (record { name = m; optional = o; form = form_in mains f }) [] (form_within n k mains f all h) (All-nil (Within n k))
-each_within n k mains (an_attribute m o (Area l p)) all h = All-cons (Within n k) (record { name = m; optional = o; form = AreaPoint l.window }) [] tt (All-nil (Within n k))
+each_within n k mains (an_attribute m o (Value f)) all h =
+    All-cons (Within n k) (record { name = m; optional = o; form = form_in mains f }) []
+    (form_within n k mains f all h) (All-nil (Within n k))
+each_within n k mains (an_attribute m o (Area l p)) all h =
+    All-cons (Within n k) (record { name = m; optional = o; form = AreaPoint l.window }) [] tt
+    (All-nil (Within n k))
 each_within n k mains (an_attribute m o (Polyline l)) all h = All-nil (Within n k)
 each_within n k mains (an_attribute m o (Surface l p)) all h = All-nil (Within n k)
 
@@ -67,7 +85,10 @@ columns_within : (n : List Table) (k : ℕ) (mains : List ℕ) (own : List Attri
     → All (IsMain n k) mains → All (IsSoundAttribute (length mains)) own
     → All (Within n k) (flat_map (columns_of mains) own)
 columns_within n k mains [] all h = All-nil (Within n k)
-columns_within n k mains (a ∷ as_) all h = All-append (Within n k) (columns_of mains a) (flat_map (columns_of mains) as_) (each_within n k mains a all (All-head (IsSoundAttribute (length mains)) a as_ h)) (columns_within n k mains as_ all (All-tail (IsSoundAttribute (length mains)) a as_ h))
+columns_within n k mains (a ∷ as_) all h =
+    All-append (Within n k) (columns_of mains a) (flat_map (columns_of mains) as_)
+    (each_within n k mains a all (All-head (IsSoundAttribute (length mains)) a as_ h))
+    (columns_within n k mains as_ all (All-tail (IsSoundAttribute (length mains)) a as_ h))
 
 -- ---- the attributes of a boundary's lines
 line_sound : (k : ℕ) (a : Attribute) → IsLineAttribute k a → IsSoundAttribute k a
@@ -79,20 +100,31 @@ line_sound k (an_attribute n o (Surface l p)) h = absurd h
 no_lines : (k : ℕ) (own : List Attribute) → All (IsLineAttribute k) own
     → length (flat_map lines_of own) ≡ 0
 no_lines k [] h = refl
-no_lines k (an_attribute n o (Value f) ∷ as_) h = no_lines k as_ (All-tail (IsLineAttribute k) (an_attribute n o (Value f)) as_ h)
-no_lines k (an_attribute n o (Area l p) ∷ as_) h = absurd (All-head (IsLineAttribute k) (an_attribute n o (Area l p)) as_ h)
-no_lines k (an_attribute n o (Polyline l) ∷ as_) h = absurd (All-head (IsLineAttribute k) (an_attribute n o (Polyline l)) as_ h)
-no_lines k (an_attribute n o (Surface l p) ∷ as_) h = absurd (All-head (IsLineAttribute k) (an_attribute n o (Surface l p)) as_ h)
+no_lines k (an_attribute n o (Value f) ∷ as_) h =
+    no_lines k as_ (All-tail (IsLineAttribute k) (an_attribute n o (Value f)) as_ h)
+no_lines k (an_attribute n o (Area l p) ∷ as_) h =
+    absurd (All-head (IsLineAttribute k) (an_attribute n o (Area l p)) as_ h)
+no_lines k (an_attribute n o (Polyline l) ∷ as_) h =
+    absurd (All-head (IsLineAttribute k) (an_attribute n o (Polyline l)) as_ h)
+no_lines k (an_attribute n o (Surface l p) ∷ as_) h =
+    absurd (All-head (IsLineAttribute k) (an_attribute n o (Surface l p)) as_ h)
 
-own_within : (n : List Table) (k : ℕ) (mains : List ℕ) (own : List Attribute) (lists : List (List ℕ))
+own_within : (n : List Table) (k : ℕ) (mains : List ℕ) (own : List Attribute)
+    (lists : List (List ℕ))
     → All (IsMain n k) mains → IsSoundPart (length mains) own lists
     → All (Within n k) (flat_map (columns_of mains) own)
-own_within n k mains own lists all h = columns_within n k mains own all (All-weaker (IsLineAttribute (length mains)) (IsSoundAttribute (length mains)) (line_sound (length mains)) own h.attributes)
+own_within n k mains own lists all h =
+    columns_within n k mains own all
+    (All-weaker (IsLineAttribute (length mains)) (IsSoundAttribute (length mains))
+    (line_sound (length mains)) own h.attributes)
 
 own_places : (k : ℕ) (mains : List ℕ) (first : ℕ) (own : List Attribute) (lists : List (List ℕ))
     → IsSoundPart k own lists
-    → All (All (λ p. p < first + length (flat_map (columns_of mains) own) + 1)) (idents_of first own lists)
-own_places k mains first own lists h = idents_below (first + length (flat_map (columns_of mains) own) + 1) first own lists (omega (arith, length_columns mains own, no_lines k own h.attributes))
+    → All (All (λ p. p < first + length (flat_map (columns_of mains) own) + 1))
+    (idents_of first own lists)
+own_places k mains first own lists h =
+    idents_below (first + length (flat_map (columns_of mains) own) + 1) first own lists
+    (omega (arith, length_columns mains own, no_lines k own h.attributes))
 
 -- ---- helper tables
 -- a declared table of its topic and its name
@@ -101,22 +133,32 @@ record IsOwner (w : Owner) (t : Table) : Type 0 where
   in_topic : t.topic ≡ w.topic
   named : t.name ≡ w.name
 
-area_valid : (count : ℕ) (whole : List Table) (w : Owner) (owner : Table) (before after : List Column) (a : Attribute)
+area_valid : (count : ℕ) (whole : List Table) (w : Owner) (owner : Table)
+    (before after : List Column) (a : Attribute)
     → w.topic < count → All (IsMain whole w.topic) w.mains → slice_get whole w.main ≡ Some owner
     → IsOwner w owner
-    → owner.columns ≡ before ++ (columns_of w.mains a ++ after) → IsSoundAttribute (length w.mains) a → All (IsTable count whole) (area_table w (length before) a)
-area_valid count whole w owner before after (an_attribute n b (Value f)) topic all main o columns h = All-nil (IsTable count whole)
-area_valid count whole w owner before after (an_attribute n b (Polyline l)) topic all main o columns h = All-nil (IsTable count whole)
-area_valid count whole w owner before after (an_attribute n b (Surface l p)) topic all main o columns h = All-nil (IsTable count whole)
-area_valid count whole w owner before after (an_attribute n b (Area l (a_part own lists))) topic all main o columns h =
+    → owner.columns ≡ before ++ (columns_of w.mains a ++ after)
+    → IsSoundAttribute (length w.mains) a
+    → All (IsTable count whole) (area_table w (length before) a)
+area_valid count whole w owner before after
+    (an_attribute n b (Value f)) topic all main o columns h = All-nil (IsTable count whole)
+area_valid count whole w owner before after
+    (an_attribute n b (Polyline l)) topic all main o columns h = All-nil (IsTable count whole)
+area_valid count whole w owner before after
+    (an_attribute n b (Surface l p)) topic all main o columns h = All-nil (IsTable count whole)
+area_valid count whole w owner before after
+    (an_attribute n b (Area l (a_part own lists))) topic all main o columns h =
     let x : Column = record { name = n; optional = b; form = AreaPoint l.window } in
-    let at : slice_get owner.columns (length before) ≡ Some x = ap (λ (s : List Column). slice_get s (length before)) columns ∙ get_at before x after in
+    let at : slice_get owner.columns (length before)
+    ≡ Some x = ap (λ (s : List Column). slice_get s (length before)) columns
+    ∙ get_at before x after in
     All-cons (IsTable count whole) _ []
     (record {
       topic = topic;
       few = omega (arith, columns_few w.mains (listed own), h.1.few);
       references = own_within whole w.topic w.mains (listed own) lists all h.1;
-      idents = subst (λ b. All (All (λ p. p < b)) (idents_of 0 (listed own) lists)) (omega arith) (own_places (length w.mains) w.mains 0 (listed own) lists h.1);
+      idents = subst (λ b. All (All (λ p. p < b)) (idents_of 0 (listed own) lists)) (omega arith)
+          (own_places (length w.mains) w.mains 0 (listed own) lists h.1);
       role = record {
         owner = owner;
         point = x;
@@ -139,16 +181,29 @@ surface_valid : (count : ℕ) (whole : List Table) (w : Owner) (owner : Table) (
     → w.topic < count → All (IsMain whole w.topic) w.mains → slice_get whole w.main ≡ Some owner
     → IsOwner w owner → IsSoundAttribute (length w.mains) a
     → All (IsTable count whole) (surface_table w a)
-surface_valid count whole w owner (an_attribute n b (Value f)) topic all main o h = All-nil (IsTable count whole)
-surface_valid count whole w owner (an_attribute n b (Polyline l)) topic all main o h = All-nil (IsTable count whole)
-surface_valid count whole w owner (an_attribute n b (Area l p)) topic all main o h = All-nil (IsTable count whole)
-surface_valid count whole w owner (an_attribute n b (Surface l (a_part own lists))) topic all main o h =
+surface_valid count whole w owner (an_attribute n b (Value f)) topic all main o h =
+    All-nil (IsTable count whole)
+surface_valid count whole w owner (an_attribute n b (Polyline l)) topic all main o h =
+    All-nil (IsTable count whole)
+surface_valid count whole w owner (an_attribute n b (Area l p)) topic all main o h =
+    All-nil (IsTable count whole)
+surface_valid count whole w owner (an_attribute n b (Surface l (a_part own lists))) topic all main o
+    h =
     All-cons (IsTable count whole) _ []
     (record {
       topic = topic;
       few = omega (arith, columns_few w.mains (listed own), h.few);
-      references = All-cons (Within whole w.topic) (owner_column w) (flat_map (columns_of w.mains) (listed own)) (record { table = owner; at = main; role = o.role; in_topic = o.in_topic }) (own_within whole w.topic w.mains (listed own) lists all h);
-      idents = subst (λ b. All (All (λ p. p < b)) (idents_of 1 (listed own) lists)) (omega arith) (own_places (length w.mains) w.mains 1 (listed own) lists h);
+      references =
+          All-cons (Within whole w.topic) (owner_column w)
+          (flat_map (columns_of w.mains) (listed own)) (record {
+            table = owner;
+            at = main;
+            role = o.role;
+            in_topic = o.in_topic;
+          })
+          (own_within whole w.topic w.mains (listed own) lists all h);
+      idents = subst (λ b. All (All (λ p. p < b)) (idents_of 1 (listed own) lists)) (omega arith)
+          (own_places (length w.mains) w.mains 1 (listed own) lists h);
       role = record {
         owner = owner;
         reference = owner_column w;
@@ -167,17 +222,29 @@ surface_valid count whole w owner (an_attribute n b (Surface l (a_part own lists
     })
     (All-nil (IsTable count whole))
 
-areas_valid : (count : ℕ) (whole : List Table) (w : Owner) (owner : Table) (before : List Column) (c : ℕ) (as_ : List Attribute)
+areas_valid : (count : ℕ) (whole : List Table) (w : Owner) (owner : Table) (before : List Column)
+    (c : ℕ) (as_ : List Attribute)
     → w.topic < count → All (IsMain whole w.topic) w.mains → slice_get whole w.main ≡ Some owner
     → IsOwner w owner
-    → owner.columns ≡ before ++ flat_map (columns_of w.mains) as_ → length before ≡ c → All (IsSoundAttribute (length w.mains)) as_ → All (IsTable count whole) (area_tables w c as_)
-areas_valid count whole w owner before c [] topic all main o columns l h = All-nil (IsTable count whole)
+    → owner.columns ≡ before ++ flat_map (columns_of w.mains) as_ → length before ≡ c
+    → All (IsSoundAttribute (length w.mains)) as_
+    → All (IsTable count whole) (area_tables w c as_)
+areas_valid count whole w owner before c [] topic all main o columns l h =
+    All-nil (IsTable count whole)
 areas_valid count whole w owner before c (a ∷ as_) topic all main o columns l h =
-    let one = area_valid count whole w owner before (flat_map (columns_of w.mains) as_) a topic all main o columns (All-head (IsSoundAttribute (length w.mains)) a as_ h) in
-    let far : length (before ++ columns_of w.mains a) ≡ c + length (columns_of [] a) = omega (arith, length-append before (columns_of w.mains a), length_each w.mains a) in
-    All-append (IsTable count whole) (area_table w c a) (area_tables w (c + length (columns_of [] a)) as_)
+    let one = area_valid count whole w owner before
+    (flat_map (columns_of w.mains) as_) a topic all main o columns
+    (All-head (IsSoundAttribute (length w.mains)) a as_ h) in
+    let far : length (before ++ columns_of w.mains a)
+    ≡ c + length (columns_of [] a) =
+    omega (arith, length-append before (columns_of w.mains a), length_each w.mains a) in
+    All-append (IsTable count whole) (area_table w c a)
+    (area_tables w (c + length (columns_of [] a)) as_)
     (subst (λ n. All (IsTable count whole) (area_table w n a)) l one)
-    (areas_valid count whole w owner (before ++ columns_of w.mains a) (c + length (columns_of [] a)) as_ topic all main o (columns ∙ sym (append_assoc before (columns_of w.mains a) (flat_map (columns_of w.mains) as_))) far (All-tail (IsSoundAttribute (length w.mains)) a as_ h))
+    (areas_valid count whole w owner (before ++ columns_of w.mains a)
+    (c + length (columns_of [] a)) as_ topic all main o (columns
+    ∙ sym (append_assoc before (columns_of w.mains a) (flat_map (columns_of w.mains) as_))) far
+    (All-tail (IsSoundAttribute (length w.mains)) a as_ h))
 
 surfaces_valid : (count : ℕ) (whole : List Table) (w : Owner) (owner : Table) (as_ : List Attribute)
     → w.topic < count → All (IsMain whole w.topic) w.mains → slice_get whole w.main ≡ Some owner
@@ -186,10 +253,13 @@ surfaces_valid : (count : ℕ) (whole : List Table) (w : Owner) (owner : Table) 
 surfaces_valid count whole w owner [] topic all main o h = All-nil (IsTable count whole)
 surfaces_valid count whole w owner (a ∷ as_) topic all main o h =
     All-append (IsTable count whole) (surface_table w a) (flat_map (surface_table w) as_)
-    (surface_valid count whole w owner a topic all main o (All-head (IsSoundAttribute (length w.mains)) a as_ h))
-    (surfaces_valid count whole w owner as_ topic all main o (All-tail (IsSoundAttribute (length w.mains)) a as_ h))
+    (surface_valid count whole w owner a topic all main o
+    (All-head (IsSoundAttribute (length w.mains)) a as_ h))
+    (surfaces_valid count whole w owner as_ topic all main o
+    (All-tail (IsSoundAttribute (length w.mains)) a as_ h))
 
-pub with_helpers_valid : (count : ℕ) (whole : List Table) (w : Owner) (own : List Attribute) (lists : List (List ℕ))
+pub with_helpers_valid : (count : ℕ) (whole : List Table) (w : Owner) (own : List Attribute)
+    (lists : List (List ℕ))
     → w.topic < count → length own ≤ 4194304 → All (IsMain whole w.topic) w.mains
     → slice_get whole w.main ≡ Some (main_table w own lists)
     → All (IsSoundAttribute (length w.mains)) own
@@ -200,10 +270,12 @@ with_helpers_valid count whole w own lists topic few all main h =
       topic = topic;
       few = omega (arith, columns_few w.mains own, few);
       references = columns_within whole w.topic w.mains own all h;
-      idents = idents_below (length (flat_map (columns_of w.mains) own) + length (flat_map lines_of own)) 0 own lists (omega (arith, length_columns w.mains own));
+      idents = idents_below (length (flat_map (columns_of w.mains) own)
+          + length (flat_map lines_of own)) 0 own lists (omega (arith, length_columns w.mains own));
       role = tt;
     } in
     let is : IsOwner w t = record { role = refl; in_topic = refl; named = refl } in
     All-append (IsTable count whole) (area_tables w 0 own) (t ∷ flat_map (surface_table w) own)
     (areas_valid count whole w t [] 0 own topic all main is refl refl h)
-    (All-cons (IsTable count whole) t (flat_map (surface_table w) own) valid (surfaces_valid count whole w t own topic all main is h))
+    (All-cons (IsTable count whole) t (flat_map (surface_table w) own) valid
+    (surfaces_valid count whole w t own topic all main is h))

@@ -29,8 +29,10 @@ HasLineName l = IsName l.name
 
 column_named : (mains : List ℕ) (a : Attribute) → IsNamedAttribute a
     → All HasColumnName (columns_of mains a)
-column_named mains (an_attribute n o (Value f)) h = All-cons HasColumnName _ [] h (All-nil HasColumnName)
-column_named mains (an_attribute n o (Area l p)) h = All-cons HasColumnName _ [] h.0 (All-nil HasColumnName)
+column_named mains (an_attribute n o (Value f)) h =
+    All-cons HasColumnName _ [] h (All-nil HasColumnName)
+column_named mains (an_attribute n o (Area l p)) h =
+    All-cons HasColumnName _ [] h.0 (All-nil HasColumnName)
 column_named mains (an_attribute n o (Polyline l)) h = All-nil HasColumnName
 column_named mains (an_attribute n o (Surface l p)) h = All-nil HasColumnName
 
@@ -38,7 +40,9 @@ columns_named : (mains : List ℕ) (own : List Attribute) → All IsNamedAttribu
     → All HasColumnName (flat_map (columns_of mains) own)
 columns_named mains [] h = All-nil HasColumnName
 columns_named mains (a ∷ as_) h =
-    All-append HasColumnName (columns_of mains a) (flat_map (columns_of mains) as_) (column_named mains a (All-head IsNamedAttribute a as_ h)) (columns_named mains as_ (All-tail IsNamedAttribute a as_ h))
+    All-append HasColumnName (columns_of mains a) (flat_map (columns_of mains) as_)
+    (column_named mains a (All-head IsNamedAttribute a as_ h))
+    (columns_named mains as_ (All-tail IsNamedAttribute a as_ h))
 
 line_named : (a : Attribute) → IsNamedAttribute a → All HasLineName (lines_of a)
 line_named (an_attribute n o (Polyline l)) h = All-cons HasLineName l [] h.1 (All-nil HasLineName)
@@ -49,7 +53,10 @@ line_named (an_attribute n o (Surface l p)) h = All-nil HasLineName
 lines_named : (own : List Attribute) → All IsNamedAttribute own
     → All HasLineName (flat_map lines_of own)
 lines_named [] h = All-nil HasLineName
-lines_named (a ∷ as_) h = All-append HasLineName (lines_of a) (flat_map lines_of as_) (line_named a (All-head IsNamedAttribute a as_ h)) (lines_named as_ (All-tail IsNamedAttribute a as_ h))
+lines_named (a ∷ as_) h =
+    All-append HasLineName (lines_of a) (flat_map lines_of as_)
+    (line_named a (All-head IsNamedAttribute a as_ h))
+    (lines_named as_ (All-tail IsNamedAttribute a as_ h))
 
 -- ---- tables
 -- a declared table has names
@@ -57,7 +64,8 @@ abbrev pub Declared : Table → Type 0
 Declared t = t.role ≡ Main → IsNamedTable t
 
 area_is_none : (w : Owner) (c : ℕ) (a : Attribute) → All Declared (area_table w c a)
-area_is_none w c (an_attribute n o (Area l (a_part own lists))) = All-cons Declared _ [] (λ e. absurd (cc)) (All-nil Declared)
+area_is_none w c (an_attribute n o (Area l (a_part own lists))) =
+    All-cons Declared _ [] (λ e. absurd (cc)) (All-nil Declared)
 area_is_none w c (an_attribute n o (Value f)) = All-nil Declared
 area_is_none w c (an_attribute n o (Polyline l)) = All-nil Declared
 area_is_none w c (an_attribute n o (Surface l p)) = All-nil Declared
@@ -66,10 +74,12 @@ areas_are_none : (w : Owner) (c : ℕ) (own : List Attribute) → All Declared (
 areas_are_none w c [] = All-nil Declared
 areas_are_none w c (a ∷ as_) =
     let next : ℕ = c + length (columns_of [] a) in
-    All-append Declared (area_table w c a) (area_tables w next as_) (area_is_none w c a) (areas_are_none w next as_)
+    All-append Declared (area_table w c a) (area_tables w next as_) (area_is_none w c a)
+    (areas_are_none w next as_)
 
 surface_is_none : (w : Owner) (a : Attribute) → All Declared (surface_table w a)
-surface_is_none w (an_attribute n o (Surface l (a_part own lists))) = All-cons Declared _ [] (λ e. absurd (cc)) (All-nil Declared)
+surface_is_none w (an_attribute n o (Surface l (a_part own lists))) =
+    All-cons Declared _ [] (λ e. absurd (cc)) (All-nil Declared)
 surface_is_none w (an_attribute n o (Value f)) = All-nil Declared
 surface_is_none w (an_attribute n o (Polyline l)) = All-nil Declared
 surface_is_none w (an_attribute n o (Area l p)) = All-nil Declared
@@ -77,14 +87,21 @@ surface_is_none w (an_attribute n o (Area l p)) = All-nil Declared
 surfaces_are_none : (w : Owner) (own : List Attribute)
     → All Declared (flat_map (surface_table w) own)
 surfaces_are_none w [] = All-nil Declared
-surfaces_are_none w (a ∷ as_) = All-append Declared (surface_table w a) (flat_map (surface_table w) as_) (surface_is_none w a) (surfaces_are_none w as_)
+surfaces_are_none w (a ∷ as_) =
+    All-append Declared (surface_table w a) (flat_map (surface_table w) as_) (surface_is_none w a)
+    (surfaces_are_none w as_)
 
 with_helpers_named : (w : Owner) (own : List Attribute) (lists : List (List ℕ)) → IsName w.name
     → All IsNamedAttribute own → All Declared (with_helpers w own lists)
 with_helpers_named w own lists n h =
     let t : Table = main_table w own lists in
-    let named : IsNamedTable t = record { name = n; columns = columns_named w.mains own h; lines = lines_named own h } in
-    All-append Declared (area_tables w 0 own) (t ∷ flat_map (surface_table w) own) (areas_are_none w 0 own)
+    let named : IsNamedTable t = record {
+      name = n;
+      columns = columns_named w.mains own h;
+      lines = lines_named own h;
+    } in
+    All-append Declared (area_tables w 0 own) (t ∷ flat_map (surface_table w) own)
+    (areas_are_none w 0 own)
     (All-cons Declared t (flat_map (surface_table w) own) (λ _. named) (surfaces_are_none w own))
 
 beside_named : (topic : ℕ) (mains ms : List ℕ) (ts : List ModelTable) → All sound.IsNamedTable ts
@@ -94,8 +111,10 @@ beside_named topic mains (m ∷ ms) [] h = All-nil Declared
 beside_named topic mains (m ∷ ms) (t ∷ ts) h =
     let w : Owner = record { topic = topic; mains = mains; main = m; name = t.name } in
     let named : sound.IsNamedTable t = All-head sound.IsNamedTable t ts h in
-    All-append Declared (with_helpers w (listed t.attributes) t.idents) (tables_beside topic mains ms ts)
-    (with_helpers_named w (listed t.attributes) t.idents named.name named.attributes) (beside_named topic mains ms ts (All-tail sound.IsNamedTable t ts h))
+    All-append Declared (with_helpers w (listed t.attributes) t.idents)
+    (tables_beside topic mains ms ts)
+    (with_helpers_named w (listed t.attributes) t.idents named.name named.attributes)
+    (beside_named topic mains ms ts (All-tail sound.IsNamedTable t ts h))
 
 pub tables_named : (topic first : ℕ) (ts : List Topic) → All IsNamedTopic ts
     → All Declared (tables_from topic first ts)
@@ -103,7 +122,9 @@ tables_named topic first [] h = All-nil Declared
 tables_named topic first (t ∷ ts) h =
     let one : List Table = topic_tables topic first t.tables in
     let rest : List Table = tables_from (topic + 1) (first + length one) ts in
-    All-append Declared one rest (beside_named topic _ _ t.tables (All-head IsNamedTopic t ts h).tables) (tables_named (topic + 1) (first + length one) ts (All-tail IsNamedTopic t ts h))
+    All-append Declared one rest
+    (beside_named topic _ _ t.tables (All-head IsNamedTopic t ts h).tables)
+    (tables_named (topic + 1) (first + length one) ts (All-tail IsNamedTopic t ts h))
 
 pub topics_named : (ts : List Topic) → All IsNamedTopic ts → All IsName (topic_names_of ts)
 topics_named ts h = All-map IsName (λ (t : Topic). t.name) ts (λ i t lt. (h i t lt).name)
@@ -111,13 +132,17 @@ topics_named ts h = All-map IsName (λ (t : Topic). t.name) ts (λ i t lt. (h i 
 -- ---- areas
 at_place : {X : Type 0} (P : X → Type 0) (xs : List X) (i : ℕ) (x : X) → All P xs
     → slice_get xs i ≡ Some x → P x
-at_place P xs i x h e = subst P (get_or_from_slice_get xs i x x e) (h i x (slice_get_within xs i x e))
+at_place P xs i x h e =
+    subst P (get_or_from_slice_get xs i x x e) (h i x (slice_get_within xs i x e))
 
 column_there : (tables : List Table) (main place : ℕ) (t : Table) (c : Column)
     → slice_get tables main ≡ Some t → slice_get t.columns place ≡ Some c
     → column_name tables main place ≡ c.name
 column_there tables main place t c e f =
-    let there : column_at tables main place ≡ Some c = ap (λ (o : Option Table). option_and_then (λ (t : Table). slice_get t.columns place) o) e ∙ f in
+    let there : column_at tables main place
+    ≡ Some c = ap
+    (λ (o : Option Table). option_and_then (λ (t : Table). slice_get t.columns place) o) e
+    ∙ f in
     ap (λ (o : Option Column). unwrap_or (option_map (λ (c : Column). c.name) o) []) there
 
 pub area_named : (l : Layout) (k : ℕ) (a : AreaOf) → IsValid l → slice_get l.areas k ≡ Some a
@@ -125,15 +150,23 @@ pub area_named : (l : Layout) (k : ℕ) (a : AreaOf) → IsValid l → slice_get
 area_named l k a v e =
     let IsPlaced : Table → Type 0 = IsTable (length l.topics) l.tables in
     let area : IsArea l.tables a = at_place (IsArea l.tables) l.areas k a v.areas e in
-    let helper : IsPlaced area.helper = at_place IsPlaced l.tables a.lines area.helper v.tables area.lines in
-    let lines : IsAreaTable l.tables area.helper a.main a.column = subst (IsRole l.tables area.helper) area.role helper.role in
-    let owner : IsPlaced lines.owner = at_place IsPlaced l.tables a.main lines.owner v.tables lines.main in
-    let named : IsNamedTable lines.owner = at_place Declared l.tables a.main lines.owner v.names.tables lines.main lines.is_main in
-    let point : IsName lines.point.name = at_place HasColumnName lines.owner.columns a.column lines.point named.columns lines.column in
+    let helper : IsPlaced area.helper = at_place IsPlaced l.tables a.lines area.helper v.tables
+    area.lines in
+    let lines : IsAreaTable l.tables area.helper a.main a.column = subst
+    (IsRole l.tables area.helper) area.role helper.role in
+    let owner : IsPlaced lines.owner = at_place IsPlaced l.tables a.main lines.owner v.tables
+    lines.main in
+    let named : IsNamedTable lines.owner = at_place Declared l.tables a.main lines.owner
+    v.names.tables lines.main lines.is_main in
+    let point : IsName lines.point.name = at_place HasColumnName lines.owner.columns a.column
+    lines.point named.columns lines.column in
     record {
       table = lines.owner;
       main = lines.main;
       topic_name = v.names.topics lines.owner.topic [] owner.topic;
       table_name = named.name;
-      name = subst IsName (sym (area.name ∙ column_there l.tables a.main a.column lines.owner lines.point lines.main lines.column)) point;
+      name = subst IsName
+          (sym (area.name
+          ∙ column_there l.tables a.main a.column lines.owner lines.point lines.main lines.column))
+          point;
     }

@@ -54,7 +54,12 @@ no_times : (name : List ℕ) (names : List (List ℕ)) → is_among name names �
 no_times name [] h = refl
 no_times name (x ∷ xs) h =
     let p = or_parts (same name x) (is_among name xs) h in
-    omega (arith, sum_by-cons (λ n. once (pointwise nat_eq n name)) x xs, none (pointwise nat_eq x name) refl p.0, no_times name xs p.1)
+    omega (
+      arith,
+      sum_by-cons (λ n. once (pointwise nat_eq n name)) x xs,
+      none (pointwise nat_eq x name) refl p.0,
+      no_times name xs p.1,
+    )
   where
     none : (t : Bool) → pointwise nat_eq x name ≡ t → same name x ≡ false → once t ≡ 0
     none true e f = absurd (true≢false (sym (among name x e) ∙ f))
@@ -65,7 +70,10 @@ one_more : (names : List (List ℕ)) (k : List ℕ) → AreDifferent names → i
 one_more names k all h name = go (pointwise nat_eq k name) refl
   where
     both : times name (names ++ k ∷ []) ≡ times name names + once (pointwise nat_eq k name)
-    both = sum_by-append (λ n. once (pointwise nat_eq n name)) names (k ∷ []) ∙ ap (λ (n : ℕ). times name names + n) (sum_by-cons (λ n. once (pointwise nat_eq n name)) k [] ∙ plain (once (pointwise nat_eq k name)))
+    both = sum_by-append (λ n. once (pointwise nat_eq n name)) names (k ∷ [])
+        ∙ ap (λ (n : ℕ). times name names + n)
+        (sum_by-cons (λ n. once (pointwise nat_eq n name)) k []
+        ∙ plain (once (pointwise nat_eq k name)))
       where
         plain : (n : ℕ) → n + 0 ≡ n
         plain n = omega arith
@@ -73,7 +81,8 @@ one_more names k all h name = go (pointwise nat_eq k name) refl
     go : (t : Bool) → pointwise nat_eq k name ≡ t → times name (names ++ k ∷ []) ≤ 1
     go true e =
         let same_name : k ≡ name = (bytes_eq-Decides k name).0 e in
-        let z : times name names ≡ 0 = subst (λ (x : List ℕ). times x names ≡ 0) same_name (no_times k names h) in
+        let z : times name names ≡ 0 = subst (λ (x : List ℕ). times x names ≡ 0) same_name
+        (no_times k names h) in
         let one : once (pointwise nat_eq k name) ≡ 1 = rw e refl in
         omega (arith, both, z, one)
     go false e =
@@ -86,7 +95,8 @@ different before [] all e = subst AreDifferent (sym (append-nil before)) all
 different before (x ∷ es) all e =
     let none = none_of _ (twice (before ++ x.key ∷ []) es) e in
     let fresh : is_among x.key before ≡ false = not_told (is_among x.key before) none.0 in
-    subst AreDifferent (append_assoc before (x.key ∷ []) (keys es)) (different (before ++ x.key ∷ []) es (one_more before x.key all fresh) none.1)
+    subst AreDifferent (append_assoc before (x.key ∷ []) (keys es))
+    (different (before ++ x.key ∷ []) es (one_more before x.key all fresh) none.1)
   where
     not_told : (b : Bool) → fault_if b code.Twice x.name ≡ [] → b ≡ false
     not_told false e = refl
@@ -102,7 +112,9 @@ not_twice before es none = go (twice before es) refl
   where
     go : (fs : List Fault) → twice before es ≡ fs → twice before es ≡ []
     go [] e = e
-    go (f ∷ fs) e = absurd (none f.name (told_again before es f (subst (λ (l : List Fault). In l f) (sym e) (inl refl))).1)
+    go (f ∷ fs) e =
+        absurd (none f.name
+        (told_again before es f (subst (λ (l : List Fault). In l f) (sym e) (inl refl))).1)
 
 different_names : (es : List Entry) → ((n : Ident) → StandsAgain [] es n → ⊥)
     → AreDifferent (keys es)
@@ -115,42 +127,66 @@ keys_append (e ∷ es) fs = ap (λ (xs : List (List ℕ)). e.key ∷ xs) (keys_a
 
 -- an attribute has a helper table where its type is a SURFACE or an AREA
 abbrev Decided : List ℕ → List ℕ → Bool → Bool → resolved.AttributeForm → Type 0
-Decided table name o b f = helper_names table (resolved.an_attribute name o f) ≡ cond b (helper_name table name ∷ []) []
+Decided table name o b f =
+    helper_names table (resolved.an_attribute name o f) ≡ cond b (helper_name table name ∷ []) []
 
 by_kind : (table name : List ℕ) (o : Bool) (s : Scope) (k : TypeSyntax) (f : resolved.AttributeForm)
     → IsTypeForm name o s k f → Decided table name o (is_boundary k) f
-by_kind table name o s (Polyline l) f h = ap (λ (x : resolved.AttributeForm). helper_names table (resolved.an_attribute name o x)) h.1
-by_kind table name o s (Surface l) f h = ap (λ (x : resolved.AttributeForm). helper_names table (resolved.an_attribute name o x)) h.2
-by_kind table name o s (Area l) f h = ap (λ (x : resolved.AttributeForm). helper_names table (resolved.an_attribute name o x)) h.2
-by_kind table name o s (Named n) f h = ap (λ (x : resolved.AttributeForm). helper_names table (resolved.an_attribute name o x)) h.1
-by_kind table name o s (Coord2 c) f h = ap (λ (x : resolved.AttributeForm). helper_names table (resolved.an_attribute name o x)) h.1
-by_kind table name o s (Coord3 c) f h = ap (λ (x : resolved.AttributeForm). helper_names table (resolved.an_attribute name o x)) h.1
-by_kind table name o s (Dim1 p) f h = ap (λ (x : resolved.AttributeForm). helper_names table (resolved.an_attribute name o x)) h.1
-by_kind table name o s (Dim2 p) f h = ap (λ (x : resolved.AttributeForm). helper_names table (resolved.an_attribute name o x)) h.1
-by_kind table name o s (Radians p) f h = ap (λ (x : resolved.AttributeForm). helper_names table (resolved.an_attribute name o x)) h.1
-by_kind table name o s (Grads p) f h = ap (λ (x : resolved.AttributeForm). helper_names table (resolved.an_attribute name o x)) h.1
-by_kind table name o s (Degrees p) f h = ap (λ (x : resolved.AttributeForm). helper_names table (resolved.an_attribute name o x)) h.1
-by_kind table name o s (Range p) f h = ap (λ (x : resolved.AttributeForm). helper_names table (resolved.an_attribute name o x)) h.1
-by_kind table name o s (Text d) f h = ap (λ (x : resolved.AttributeForm). helper_names table (resolved.an_attribute name o x)) h.1
-by_kind table name o s Date f h = ap (λ (x : resolved.AttributeForm). helper_names table (resolved.an_attribute name o x)) h.1
-by_kind table name o s HAlignment f h = ap (λ (x : resolved.AttributeForm). helper_names table (resolved.an_attribute name o x)) h.1
-by_kind table name o s VAlignment f h = ap (λ (x : resolved.AttributeForm). helper_names table (resolved.an_attribute name o x)) h.1
-by_kind table name o s (Enumeration es) f h = ap (λ (x : resolved.AttributeForm). helper_names table (resolved.an_attribute name o x)) h.1
+by_kind table name o s (Polyline l) f h =
+    ap (λ (x : resolved.AttributeForm). helper_names table (resolved.an_attribute name o x)) h.1
+by_kind table name o s (Surface l) f h =
+    ap (λ (x : resolved.AttributeForm). helper_names table (resolved.an_attribute name o x)) h.2
+by_kind table name o s (Area l) f h =
+    ap (λ (x : resolved.AttributeForm). helper_names table (resolved.an_attribute name o x)) h.2
+by_kind table name o s (Named n) f h =
+    ap (λ (x : resolved.AttributeForm). helper_names table (resolved.an_attribute name o x)) h.1
+by_kind table name o s (Coord2 c) f h =
+    ap (λ (x : resolved.AttributeForm). helper_names table (resolved.an_attribute name o x)) h.1
+by_kind table name o s (Coord3 c) f h =
+    ap (λ (x : resolved.AttributeForm). helper_names table (resolved.an_attribute name o x)) h.1
+by_kind table name o s (Dim1 p) f h =
+    ap (λ (x : resolved.AttributeForm). helper_names table (resolved.an_attribute name o x)) h.1
+by_kind table name o s (Dim2 p) f h =
+    ap (λ (x : resolved.AttributeForm). helper_names table (resolved.an_attribute name o x)) h.1
+by_kind table name o s (Radians p) f h =
+    ap (λ (x : resolved.AttributeForm). helper_names table (resolved.an_attribute name o x)) h.1
+by_kind table name o s (Grads p) f h =
+    ap (λ (x : resolved.AttributeForm). helper_names table (resolved.an_attribute name o x)) h.1
+by_kind table name o s (Degrees p) f h =
+    ap (λ (x : resolved.AttributeForm). helper_names table (resolved.an_attribute name o x)) h.1
+by_kind table name o s (Range p) f h =
+    ap (λ (x : resolved.AttributeForm). helper_names table (resolved.an_attribute name o x)) h.1
+by_kind table name o s (Text d) f h =
+    ap (λ (x : resolved.AttributeForm). helper_names table (resolved.an_attribute name o x)) h.1
+by_kind table name o s Date f h =
+    ap (λ (x : resolved.AttributeForm). helper_names table (resolved.an_attribute name o x)) h.1
+by_kind table name o s HAlignment f h =
+    ap (λ (x : resolved.AttributeForm). helper_names table (resolved.an_attribute name o x)) h.1
+by_kind table name o s VAlignment f h =
+    ap (λ (x : resolved.AttributeForm). helper_names table (resolved.an_attribute name o x)) h.1
+by_kind table name o s (Enumeration es) f h =
+    ap (λ (x : resolved.AttributeForm). helper_names table (resolved.an_attribute name o x)) h.1
 
 -- the names of the helper tables of some attributes
-record HasHelpers (s : Scope) (table : List ℕ) (as_ : Attributes) (fs : resolved.Attributes) : Type 0 where
+record HasHelpers (s : Scope) (table : List ℕ) (as_ : Attributes)
+    (fs : resolved.Attributes) : Type 0 where
   names : List Entry
   are : AreHelpers s table as_ names
   taken : keys names ≡ flat_map (helper_names table) (listed fs)
 
-one_helper : (s : Scope) (table : List ℕ) (n : Ident) (o : Bool) (c : Content) (as_ : Attributes) (f : resolved.AttributeForm) (rest : resolved.Attributes)
+one_helper : (s : Scope) (table : List ℕ) (n : Ident) (o : Bool) (c : Content) (as_ : Attributes)
+    (f : resolved.AttributeForm) (rest : resolved.Attributes)
     → IsContent n.text o s c f → HasHelpers s table as_ rest
-    → HasHelpers s table (and_attribute (an_attribute n o c) as_) (resolved.and_attribute (resolved.an_attribute n.text o f) rest)
+    → HasHelpers s table (and_attribute (an_attribute n o c) as_)
+    (resolved.and_attribute (resolved.an_attribute n.text o f) rest)
 one_helper s table n o (Reference r) as_ f rest h more =
     record {
       names = more.names;
       are = inr (λ w. w, more.are);
-      taken = more.taken ∙ ap (λ (x : resolved.AttributeForm). helper_names table (resolved.an_attribute n.text o x) ++ flat_map (helper_names table) (listed rest)) (sym h.1);
+      taken = more.taken
+          ∙ ap (λ (x : resolved.AttributeForm). helper_names table
+          (resolved.an_attribute n.text o x) ++ flat_map (helper_names table) (listed rest))
+          (sym h.1);
     }
 one_helper s table n o (Value t) as_ f rest h more = by_test (is_boundary h.0.kind) refl
   where
@@ -158,25 +194,40 @@ one_helper s table n o (Value t) as_ f rest h more = by_test (is_boundary h.0.ki
     decided = by_kind table n.text o h.0.scope h.0.kind f h.2
 
     by_test : (b : Bool) → is_boundary h.0.kind ≡ b
-        → HasHelpers s table (and_attribute (an_attribute n o (Value t)) as_) (resolved.and_attribute (resolved.an_attribute n.text o f) rest)
+        → HasHelpers s table (and_attribute (an_attribute n o (Value t)) as_)
+        (resolved.and_attribute (resolved.an_attribute n.text o f) rest)
     by_test true e =
         record {
           names = record { key = helper_name table n.text; name = n } ∷ more.names;
           are = inl (more.names, (h.0, h.1, e), refl, more.are);
-          taken = ap (λ (l : List (List ℕ)). helper_name table n.text ∷ l) more.taken ∙ ap (λ (l : List (List ℕ)). l ++ flat_map (helper_names table) (listed rest)) (sym (subst (λ (b : Bool). Decided table n.text o b f) e decided));
+          taken = ap (λ (l : List (List ℕ)). helper_name table n.text ∷ l) more.taken
+              ∙ ap (λ (l : List (List ℕ)). l ++ flat_map (helper_names table) (listed rest))
+              (sym (subst (λ (b : Bool). Decided table n.text o b f) e decided));
         }
     by_test false e =
         record {
           names = more.names;
-          are = inr (λ w. true≢false (sym w.2 ∙ ap (λ (m : Meaning). is_boundary m.kind) (one_meaning w.0 h.0 s t w.1 h.1) ∙ e), more.are);
-          taken = more.taken ∙ ap (λ (l : List (List ℕ)). l ++ flat_map (helper_names table) (listed rest)) (sym (subst (λ (b : Bool). Decided table n.text o b f) e decided));
+          are = inr (
+            λ w. true≢false (sym w.2
+                ∙ ap (λ (m : Meaning). is_boundary m.kind) (one_meaning w.0 h.0 s t w.1 h.1) ∙ e),
+            more.are,
+          );
+          taken = more.taken
+              ∙ ap (λ (l : List (List ℕ)). l ++ flat_map (helper_names table) (listed rest))
+              (sym (subst (λ (b : Bool). Decided table n.text o b f) e decided));
         }
 
 helpers_there : (s : Scope) (table : List ℕ) (as_ : Attributes) (fs : resolved.Attributes)
     → AreAttributes s as_ fs → HasHelpers s table as_ fs
-helpers_there s table no_attributes fs h = subst (HasHelpers s table no_attributes) (sym h) (record { names = []; are = refl; taken = refl })
+helpers_there s table no_attributes fs h =
+    subst (HasHelpers s table no_attributes) (sym h) (record {
+      names = [];
+      are = refl;
+      taken = refl;
+    })
 helpers_there s table (and_attribute (an_attribute n o c) as_) fs h =
-    subst (HasHelpers s table (and_attribute (an_attribute n o c) as_)) (sym h.2) (one_helper s table n o c as_ h.0 h.1 h.3 (helpers_there s table as_ h.1 h.4))
+    subst (HasHelpers s table (and_attribute (an_attribute n o c) as_)) (sym h.2)
+    (one_helper s table n o c as_ h.0 h.1 h.3 (helpers_there s table as_ h.1 h.4))
 
 record HasTableNames (s : Scope) (ts : List TableSyntax) (ms : List ModelTable) : Type 0 where
   names : List Entry
@@ -189,7 +240,8 @@ tables_there s [] [] h = record { names = []; are = refl; taken = refl }
 tables_there s [] (m ∷ ms) h = absurd h
 tables_there s (t ∷ ts) [] h = absurd h
 tables_there s (t ∷ ts) (m ∷ ms) h =
-    let own : HasHelpers s t.name.text t.attributes m.attributes = helpers_there s t.name.text t.attributes m.attributes h.0.attributes in
+    let own : HasHelpers s t.name.text t.attributes m.attributes = helpers_there s t.name.text
+    t.attributes m.attributes h.0.attributes in
     let rest : HasTableNames s ts ms = tables_there s ts ms h.1 in
     record {
       names = entry t.name ∷ (own.names ++ rest.names);
@@ -197,8 +249,10 @@ tables_there s (t ∷ ts) (m ∷ ms) h =
       taken =
           ap (λ (l : List (List ℕ)). t.name.text ∷ l) (keys_append own.names rest.names)
           ∙ ap (λ (l : List (List ℕ)). t.name.text ∷ (l ++ keys rest.names)) own.taken
-          ∙ ap (λ (l : List (List ℕ)). t.name.text ∷ (flat_map (helper_names t.name.text) (listed m.attributes) ++ l)) rest.taken
-          ∙ ap (λ (n : List ℕ). (n ∷ flat_map (helper_names n) (listed m.attributes)) ++ flat_map names_taken ms) (sym h.0.name);
+          ∙ ap (λ (l : List (List ℕ)). t.name.text
+          ∷ (flat_map (helper_names t.name.text) (listed m.attributes) ++ l)) rest.taken
+          ∙ ap (λ (n : List ℕ). (n ∷ flat_map (helper_names n) (listed m.attributes))
+          ++ flat_map names_taken ms) (sym h.0.name);
     }
 
 topic_names_there : (above : List DomainSyntax) (ts : List TopicSyntax) (rs : List Topic)
@@ -206,15 +260,21 @@ topic_names_there : (above : List DomainSyntax) (ts : List TopicSyntax) (rs : Li
 topic_names_there above [] [] h = refl
 topic_names_there above [] (r ∷ rs) h = absurd h
 topic_names_there above (t ∷ ts) [] h = absurd h
-topic_names_there above (t ∷ ts) (r ∷ rs) h = ap (λ (n : List ℕ). n ∷ keys (map entry (map (λ t. t.name) ts))) (sym h.0.name) ∙ ap (λ (l : List (List ℕ)). r.name ∷ l) (topic_names_there above ts rs h.1)
+topic_names_there above (t ∷ ts) (r ∷ rs) h =
+    ap (λ (n : List ℕ). n ∷ keys (map entry (map (λ t. t.name) ts))) (sym h.0.name)
+    ∙ ap (λ (l : List (List ℕ)). r.name ∷ l) (topic_names_there above ts rs h.1)
 
 -- ---- the whole
 module _ (m : ModelSyntax) (none : BreaksNone m) where
   topic_different : (t : TopicSyntax) (r : Topic) → Contains m.topics t → IsTopic (everywhere m) t r
       → AreDifferent (topic_names_taken r)
   topic_different t r c h =
-      let there : HasTableNames (inside (everywhere m) t) t.tables r.tables = tables_there (inside (everywhere m) t) t.tables r.tables h.tables in
-      subst AreDifferent there.taken (different_names there.names (λ n w. none (record { code = code.Twice; name = n }) (table_twice t there.names n c there.are w)))
+      let there : HasTableNames (inside (everywhere m) t) t.tables r.tables = tables_there
+      (inside (everywhere m) t) t.tables r.tables h.tables in
+      subst AreDifferent there.taken
+      (different_names there.names
+      (λ n w. none (record { code = code.Twice; name = n })
+      (table_twice t there.names n c there.are w)))
 
   each_different : (ts : List TopicSyntax) (rs : List Topic)
       → ((t : TopicSyntax) → In ts t → In m.topics t) → AllZip (IsTopic (everywhere m)) ts rs
@@ -223,11 +283,15 @@ module _ (m : ModelSyntax) (none : BreaksNone m) where
   each_different [] (r ∷ rs) sub h = absurd h
   each_different (t ∷ ts) [] sub h = absurd h
   each_different (t ∷ ts) (r ∷ rs) sub h =
-      All-cons (λ r. AreDifferent (topic_names_taken r)) r rs (topic_different t r (contains m.topics t (sub t (inl refl))) h.0) (each_different ts rs (λ x k. sub x (inr k)) h.1)
+      All-cons (λ r. AreDifferent (topic_names_taken r)) r rs
+      (topic_different t r (contains m.topics t (sub t (inl refl))) h.0)
+      (each_different ts rs (λ x k. sub x (inr k)) h.1)
 
   pub own_names : (r : ResolvedModel) → IsModel m r → HasOwnNames r
   own_names r h =
       record {
-        topics = subst AreDifferent (topic_names_there (everywhere m) m.topics r.topics h.topics) (different_names (map entry (map (λ t. t.name) m.topics)) (λ n w. none (record { code = code.Twice; name = n }) (topic_twice n w)));
+        topics = subst AreDifferent (topic_names_there (everywhere m) m.topics r.topics h.topics)
+            (different_names (map entry (map (λ t. t.name) m.topics))
+            (λ n w. none (record { code = code.Twice; name = n }) (topic_twice n w)));
         tables = each_different m.topics r.topics (λ t k. k) h.topics;
       }

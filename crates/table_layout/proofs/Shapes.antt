@@ -31,19 +31,36 @@ pub small_surface : (a : Attribute) (n : List ℕ) (o : Bool) (l : LineForm) (p 
     → a ≡ an_attribute n o (Surface l p) → HasFew a → IsSmallPart p
 small_surface a n o l p e h = subst HasFew e h
 
-pub helper_table_is : (w : Owner) (role : Role) (first : List Column) (n : List ℕ) (l : LineForm) (p : LinePart) (own : List Attribute) (lists : List (List ℕ))
+pub helper_table_is : (w : Owner) (role : Role) (first : List Column) (n : List ℕ) (l : LineForm)
+    (p : LinePart) (own : List Attribute) (lists : List (List ℕ))
     → p ≡ a_part (attributes_in own) lists
-    → helper_table w role first n l p ≡ record { topic = w.topic; name = helper_name w.name n; role = role; columns = first ++ flat_map (columns_of w.mains) own; lines = boundary n l; idents = idents_of (length first) own lists }
+    → helper_table w role first n l p ≡ record {
+      topic = w.topic;
+      name = helper_name w.name n;
+      role = role;
+      columns = first ++ flat_map (columns_of w.mains) own;
+      lines = boundary n l;
+      idents = idents_of (length first) own lists;
+    }
 helper_table_is w role first n l p own lists e =
     ap (helper_table w role first n l) e
-    ∙ ap (λ (s : List Attribute). let t : Table = record { topic = w.topic; name = helper_name w.name n; role = role; columns = first ++ flat_map (columns_of w.mains) s; lines = boundary n l; idents = idents_of (length first) s lists } in t) (listed_in own)
+    ∙ ap (λ (s : List Attribute). let t : Table = record {
+      topic = w.topic;
+      name = helper_name w.name n;
+      role = role;
+      columns = first ++ flat_map (columns_of w.mains) s;
+      lines = boundary n l;
+      idents = idents_of (length first) s lists;
+    } in t) (listed_in own)
 
-pub area_table_is : (w : Owner) (column : ℕ) (a : Attribute) (n : List ℕ) (o : Bool) (l : LineForm) (p : LinePart)
+pub area_table_is : (w : Owner) (column : ℕ) (a : Attribute) (n : List ℕ) (o : Bool) (l : LineForm)
+    (p : LinePart)
     → a ≡ an_attribute n o (Area l p)
     → area_table w column a ≡ helper_table w (AreaLines w.main column) [] n l p ∷ []
 area_table_is w column a n o l p e = ap (area_table w column) e
 
-pub surface_table_is : (w : Owner) (a : Attribute) (n : List ℕ) (o : Bool) (l : LineForm) (p : LinePart)
+pub surface_table_is : (w : Owner) (a : Attribute) (n : List ℕ) (o : Bool) (l : LineForm)
+    (p : LinePart)
     → a ≡ an_attribute n o (Surface l p)
     → surface_table w a ≡ helper_table w (SurfaceLines w.main) (owner_column w ∷ []) n l p ∷ []
 surface_table_is w a n o l p e = ap (surface_table w) e

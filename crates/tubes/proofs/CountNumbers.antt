@@ -1,4 +1,5 @@
--- How far the points beside the middle of two points are from them, and the count of two points by its bits.
+-- How far the points beside the middle of two points are from them, and the count of two points by
+-- its bits.
 use Rattle.std.proofs.Common.{rules, ◌≡◌, ℕ, zero, suc, ◌+◌, ◌-◌, ◌*◌, ◌%◌, ◌<◌, ◌≤◌, ◌^◌, Bool}
 use Rattle.std.proofs.Common.{true, false, cond, nat_lt, None, Some, ℤ, pos, ◌+ℤ◌, ◌*ℤ◌, ◌-ℤ◌, ◌<ℤ◌}
 use Rattle.std.proofs.Common.{◌≤ℤ◌, [], ◌∷◌, arith, ap, refl, sym, ◌∙◌, subst}
@@ -36,23 +37,29 @@ abbrev IsSmall : ℕ → ℤ → Type 0
 IsSmall l w = (w ≤ℤ pos l) × ((pos 0 -ℤ w) ≤ℤ pos l)
 
 square_back : (a b : ℤ) → (a -ℤ b) *ℤ (a -ℤ b) ≡ (b -ℤ a) *ℤ (b -ℤ a)
-square_back a b = ring (times (minus (at 0) (at 1)) (minus (at 0) (at 1))) (times (minus (at 1) (at 0)) (minus (at 1) (at 0))) (vars (a ∷ b ∷ [])) refl
+square_back a b =
+    ring (times (minus (at 0) (at 1)) (minus (at 0) (at 1)))
+    (times (minus (at 1) (at 0)) (minus (at 1) (at 0))) (vars (a ∷ b ∷ [])) refl
 
 difference_x : (p q : Point)
     → IsSmall (whole_distance p q) (p.x -ℤ q.x) × IsSmall (whole_distance p q) (q.x -ℤ p.x)
 unfolding distance
 difference_x p q =
     let s = square_nonnegative (p.y -ℤ q.y) in
-    let e = square_back q.x p.x in
-    (size_at_most (p.x -ℤ q.x) (distance p q) (omega (arith, ints, s)), size_at_most (q.x -ℤ p.x) (distance p q) (omega (arith, ints, s, e)))
+    let e = square_back q.x p.x in (
+      size_at_most (p.x -ℤ q.x) (distance p q) (omega (arith, ints, s)),
+      size_at_most (q.x -ℤ p.x) (distance p q) (omega (arith, ints, s, e)),
+    )
 
 difference_y : (p q : Point)
     → IsSmall (whole_distance p q) (p.y -ℤ q.y) × IsSmall (whole_distance p q) (q.y -ℤ p.y)
 unfolding distance
 difference_y p q =
     let s = square_nonnegative (p.x -ℤ q.x) in
-    let e = square_back q.y p.y in
-    (size_at_most (p.y -ℤ q.y) (distance p q) (omega (arith, ints, s)), size_at_most (q.y -ℤ p.y) (distance p q) (omega (arith, ints, s, e)))
+    let e = square_back q.y p.y in (
+      size_at_most (p.y -ℤ q.y) (distance p q) (omega (arith, ints, s)),
+      size_at_most (q.y -ℤ p.y) (distance p q) (omega (arith, ints, s, e)),
+    )
 
 by_bool : (P : ℤ → Type 0) (b : Bool) (u v : ℤ) → P u → P v → P (cond b u v)
 by_bool P true u v h k = h
@@ -64,8 +71,10 @@ unfolding beside
 is_beside h p q n m l nl nm =
     let dx = difference_x p q in
     let dy = difference_y p q in
-    let tx = by_bool (IsSmall (whole_distance p q)) (is_positive (bend h)) (q.y -ℤ p.y) (p.y -ℤ q.y) dy.1 dy.0 in
-    let ty = by_bool (IsSmall (whole_distance p q)) (is_positive (bend h)) (p.x -ℤ q.x) (q.x -ℤ p.x) dx.0 dx.1 in
+    let tx = by_bool (IsSmall (whole_distance p q)) (is_positive (bend h)) (q.y -ℤ p.y)
+    (p.y -ℤ q.y) dy.1 dy.0 in
+    let ty = by_bool (IsSmall (whole_distance p q)) (is_positive (bend h)) (p.x -ℤ q.x)
+    (q.x -ℤ p.x) dx.0 dx.1 in
     let x = moved_from (whole_distance p q) m p.x q.x (turned_x h p q) n l tx.0 tx.1 nl nm in
     let y = moved_from (whole_distance p q) m p.y q.y (turned_y h p q) n l ty.0 ty.1 nl nm in
     record { right = x.0; left = x.1; above = y.0; below = y.1 }
@@ -74,16 +83,28 @@ is_beside h p q n m l nl nm =
 near_one : (m r : ℕ) (s p q v : ℤ) → IsNear r s p → IsNear (2 ^ 28) p q
     → (pos 2 *ℤ v) ≤ℤ ((p +ℤ q) +ℤ pos (2 * m)) → (p +ℤ q) <ℤ ((pos 2 *ℤ v) +ℤ pos (2 * m + 2))
     → IsNear (r + 2 ^ 27 + m) s v
-near_one m r s p q v h k u l = record { above = omega (arith, ints, h.above, k.above, u, l); below = omega (arith, ints, h.below, k.below, u, l) }
+near_one m r s p q v h k u l = record {
+  above = omega (arith, ints, h.above, k.above, u, l);
+  below = omega (arith, ints, h.below, k.below, u, l);
+}
 
 pub beside_near : (m r : ℕ) (s p q v : Point) → AreNear r s p → AreNear (2 ^ 28) p q
     → IsBeside m p q v → AreNear (r + 2 ^ 27 + m) s v
-beside_near m r s p q v h k b = record { x = near_one m r s.x p.x q.x v.x h.x k.x b.right b.left; y = near_one m r s.y p.y q.y v.y h.y k.y b.above b.below }
+beside_near m r s p q v h k b = record {
+  x = near_one m r s.x p.x q.x v.x h.x k.x b.right b.left;
+  y = near_one m r s.y p.y q.y v.y h.y k.y b.above b.below;
+}
 
 pub near_more : (m n : ℕ) (p q : Point) → m ≤ n → AreNear m p q → AreNear n p q
 near_more m n p q l h = record {
-  x = record { above = omega (arith, ints, h.x.above, l); below = omega (arith, ints, h.x.below, l) };
-  y = record { above = omega (arith, ints, h.y.above, l); below = omega (arith, ints, h.y.below, l) };
+  x = record {
+    above = omega (arith, ints, h.x.above, l);
+    below = omega (arith, ints, h.x.below, l);
+  };
+  y = record {
+    above = omega (arith, ints, h.y.above, l);
+    below = omega (arith, ints, h.y.below, l);
+  };
 }
 
 -- the point that the test of k asks for
@@ -91,11 +112,18 @@ pub tested_near : (h : HalfArc) (s p q : Point) (k : ℕ) → AreNear (2 ^ 31) s
     → AreNear (2 ^ 28) p q → 0 < whole_distance p q → k < 2 ^ 27
     → AreNear (2 ^ 32) s (beside h p q (pos k -ℤ pos 2))
 tested_near h s p q k n st l b =
-    near_more (2 ^ 31 + 2 ^ 27 + 2 ^ 27) (2 ^ 32) s _ (omega arith) (beside_near (2 ^ 27) (2 ^ 31) s p q _ n st (is_beside h p q (pos k -ℤ pos 2) (2 ^ 27) l (omega (arith, ints, b)) (omega (arith, ints, b))))
+    near_more (2 ^ 31 + 2 ^ 27 + 2 ^ 27) (2 ^ 32) s _ (omega arith)
+    (beside_near (2 ^ 27) (2 ^ 31) s p q _ n st
+    (is_beside h p q (pos k -ℤ pos 2) (2 ^ 27) l (omega (arith, ints, b))
+    (omega (arith, ints, b))))
 
 -- a point near a short one has room
 pub has_room : (s p : Point) → IsShort s → AreNear (2 ^ 31) s p → HasRoom p
-has_room s p h n = let hx = h.x in let hy = h.y in let nx = n.x in let ny = n.y in record { x = omega (arith, ints, hx, nx); y = omega (arith, ints, hy, ny) }
+has_room s p h n =
+    let hx = h.x in
+    let hy = h.y in
+    let nx = n.x in
+    let ny = n.y in record { x = omega (arith, ints, hx, nx); y = omega (arith, ints, hy, ny) }
 
 -- ---- the bits
 pub bits_step : (test : ℕ → Bool) (more left k : ℕ) → more ≡ suc left
@@ -122,7 +150,8 @@ twice n = omega arith
 -- the number that is tested for the bit of 2 ^ left, and what is left of it
 pub tested_small : (k more left : ℕ) → more ≡ suc left → k + 2 ^ more ≤ 2 ^ 27
     → (k + 2 ^ left) + 2 ^ left ≤ 2 ^ 27
-tested_small k more left e h = let t = twice left in let f = ap (λ n. 2 ^ n) e in omega (arith, h, t, f)
+tested_small k more left e h =
+    let t = twice left in let f = ap (λ n. 2 ^ n) e in omega (arith, h, t, f)
 
 pub small_test : (top done k : ℕ) → top ≤ 27 → done < top → k + 2 ^ (top - done) ≤ 2 ^ 27
     → k + 1 * 2 ^ (top - 1 - done) % 2 ^ 32 < 2 ^ 27
@@ -131,20 +160,25 @@ small_test top done k m d h =
     let up : top - done ≡ suc left = omega (arith, d) in
     let t = tested_small k (top - done) left up h in
     let p = pow_mono {i = 0} {j = left} (omega arith) in
-    subst (λ (n : ℕ). k + n < 2 ^ 27) (sym (bit_is left (omega (arith, m, d)))) (omega (arith, t, p))
+    subst (λ (n : ℕ). k + n < 2 ^ 27) (sym (bit_is left (omega (arith, m, d))))
+    (omega (arith, t, p))
 
 -- one turn of the loop over the bits
 pub preserved : (test : ℕ → Bool) (top done k more next all : ℕ) (t : Bool) → top ≤ 27 → done < top
     → more ≡ k + 1 * 2 ^ (top - 1 - done) % 2 ^ 32 → t ≡ test more → next ≡ cond t more k
-    → with_bits test (top - done) k ≡ all → k + 2 ^ (top - done) ≤ 2 ^ 27 → (with_bits test (top - (done + 1)) next ≡ all) × (next + 2 ^ (top - (done + 1)) ≤ 2 ^ 27)
+    → with_bits test (top - done) k ≡ all → k + 2 ^ (top - done) ≤ 2 ^ 27
+    → (with_bits test (top - (done + 1)) next ≡ all) × (next + 2 ^ (top - (done + 1)) ≤ 2 ^ 27)
 preserved test top done k more next all t b d m e n h l =
     let rest = top - 1 - done in
     let left : top - (done + 1) ≡ rest = omega (arith, d) in
     let up : top - done ≡ suc rest = omega (arith, d) in
     let f : more ≡ k + 2 ^ rest = m ∙ ap (λ b. k + b) (bit_is rest (omega (arith, b, d))) in
-    let g : next ≡ cond (test (k + 2 ^ rest)) (k + 2 ^ rest) k = n ∙ ap (λ b. cond b more k) e ∙ ap (λ m. cond (test m) m k) f in (
-      ap (λ n. with_bits test n next) left ∙ ap (λ n. with_bits test rest n) g ∙ sym (bits_step test (top - done) rest k up) ∙ h,
-      subst (λ p. next + 2 ^ p ≤ 2 ^ 27) (sym left) (by_test t next n (tested_small k (top - done) rest up l) f),
+    let g : next ≡ cond (test (k + 2 ^ rest)) (k + 2 ^ rest) k = n ∙ ap (λ b. cond b more k) e
+    ∙ ap (λ m. cond (test m) m k) f in (
+      ap (λ n. with_bits test n next) left ∙ ap (λ n. with_bits test rest n) g
+          ∙ sym (bits_step test (top - done) rest k up) ∙ h,
+      subst (λ p. next + 2 ^ p ≤ 2 ^ 27) (sym left)
+          (by_test t next n (tested_small k (top - done) rest up l) f),
     )
   where
     by_test : (t : Bool) (next : ℕ) → next ≡ cond t more k
@@ -162,7 +196,9 @@ bits_skip test top (suc more) h f =
     let low = pow_mono {i = top} {j = top + more} (omega arith) in
     let high = pow_mono {i = top + more} {j = 26} (omega (arith, h)) in
     let e = f (0 + 2 ^ (top + more)) (omega (arith, low)) (omega (arith, high)) in
-    bits_step test (top + suc more) (top + more) 0 (omega arith) ∙ ap (λ t. with_bits test (top + more) (cond t (0 + 2 ^ (top + more)) 0)) e ∙ bits_skip test top more (omega (arith, h)) f
+    bits_step test (top + suc more) (top + more) 0 (omega arith)
+    ∙ ap (λ t. with_bits test (top + more) (cond t (0 + 2 ^ (top + more)) 0)) e
+    ∙ bits_skip test top more (omega (arith, h)) f
 
 -- the width of the numbers below end
 pub width_is : (end m l w i : ℕ) → m ≡ max end 1 → m < 2 * 2 ^ l → w ≡ min (l + 1) 27 → 2 ^ w ≤ i
@@ -186,12 +222,16 @@ top_small top h = let p = pow_mono {i = top} {j = 27} h in omega (arith, p)
 pub inside_true : (h : HalfArc) (p q v : Point) (k : ℕ) → v ≡ beside h p q (pos k -ℤ pos 2)
     → power h (point v) <ℤ pos 0 → true ≡ is_inside h p q k
 unfolding is_inside
-inside_true h p q v k e l = sym (positive_true _ (let m = subst (λ v. power h (point v) <ℤ pos 0) e l in omega (arith, ints, m)))
+inside_true h p q v k e l =
+    sym (positive_true _ (let m = subst (λ v. power h (point v) <ℤ pos 0) e l in
+    omega (arith, ints, m)))
 
 pub inside_false : (h : HalfArc) (p q v : Point) (k : ℕ) → v ≡ beside h p q (pos k -ℤ pos 2)
     → pos 0 ≤ℤ power h (point v) → false ≡ is_inside h p q k
 unfolding is_inside
-inside_false h p q v k e l = sym (positive_false _ (let m = subst (λ v. pos 0 ≤ℤ power h (point v)) e l in omega (arith, ints, m)))
+inside_false h p q v k e l =
+    sym (positive_false _ (let m = subst (λ v. pos 0 ≤ℤ power h (point v)) e l in
+    omega (arith, ints, m)))
 
 pub not_inside : (s : Side) (z : ℤ) → HasSign s z → (s ≡ side.Inside → ⊥) → pos 0 ≤ℤ z
 not_inside side.Inside z h n = absurd (n refl)
@@ -201,7 +241,9 @@ not_inside side.Outside z h n = omega (arith, ints, h)
 pub count_is : (h : HalfArc) (p q : Point) → 0 < whole_distance p q
     → count h p q ≡ cond (is_inside h p q 0) (Some (with_bits (is_inside h p q) 27 0)) None
 unfolding count
-count_is h p q l = ap (λ t. cond t (cond (is_inside h p q 0) (Some (with_bits (is_inside h p q) 27 0)) None) None) (positive _ l)
+count_is h p q l =
+    ap (λ t. cond t (cond (is_inside h p q 0) (Some (with_bits (is_inside h p q) 27 0)) None) None)
+    (positive _ l)
   where
     positive : (n : ℕ) → 0 < n → nat_lt 0 n ≡ true
     positive n l = search rules

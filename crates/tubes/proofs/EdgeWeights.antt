@@ -59,7 +59,8 @@ weighted d level low tubes =
         ≤ most (curve d i).kind
     by_kind i l (inl e) =
         subst (λ (x : CurveKind).
-        length (runs.edges_of i x (curve d i) (drawn_bays d level i)) ≤ most x) (sym e) (omega arith)
+        length (runs.edges_of i x (curve d i) (drawn_bays d level i)) ≤ most x) (sym e)
+        (omega arith)
     by_kind i l (inr e) =
         let a = arc_length i (curve d i) (drawn_bays d level i) in
         let b = bay_count d level i (tubes i (record { there = l; kind = e })) in
@@ -76,7 +77,8 @@ weighted d level low tubes =
         ≤ most (curve d k).kind
     each k l =
         subst (λ (i : ℕ). length (runs.edges_of i (curve d k).kind (curve d k)
-        (drawn_bays d level i)) ≤ most (curve d k).kind) (first k) (by_kind k l (decide_kind (curve d k).kind))
+        (drawn_bays d level i)) ≤ most (curve d k).kind) (first k)
+        (by_kind k l (decide_kind (curve d k).kind))
 
 pub few_of_curves : (d : Plan) → length d.curves ≤ 16000000 → HasFewEdges d
 few_of_curves d few_ level low tubes =

@@ -51,8 +51,10 @@ pub left_is_not : (c : Curve) (t : Turn) → HasSign t (cross c.from c.to c.thir
     → (t ≡ turn.Left → ⊥) → false ≡ runs.third_is_left c
 unfolding bend
 left_is_not c turn.Left h n = absurd (n refl)
-left_is_not c turn.Straight h n = sym (not_positive (cross c.from c.to c.third) (let e = h in omega (arith, ints, e)))
-left_is_not c turn.Right h n = sym (not_positive (cross c.from c.to c.third) (let e = h in omega (arith, ints, e)))
+left_is_not c turn.Straight h n =
+    sym (not_positive (cross c.from c.to c.third) (let e = h in omega (arith, ints, e)))
+left_is_not c turn.Right h n =
+    sym (not_positive (cross c.from c.to c.third) (let e = h in omega (arith, ints, e)))
 
 not_true : (b : Bool) → (IsTrue b → ⊥) → b ≡ false
 not_true true n = absurd (n refl)
@@ -62,7 +64,8 @@ positive_test : (z : ℤ) → lt_z (pos 0) z ≡ is_positive z
 positive_test z =
     by_lt_z (pos 0) z
     (λ (l : pos 0 <ℤ z). (lt_test (pos 0) z).1 l ∙ sym (positive_is z l))
-    (λ (l : z ≤ℤ pos 0). not_true (lt_z (pos 0) z) (λ h. let k = (lt_test (pos 0) z).0 h in omega (arith, ints, k, l)) ∙ sym (not_positive z l))
+    (λ (l : z ≤ℤ pos 0). not_true (lt_z (pos 0) z) (λ h. let k = (lt_test (pos 0) z).0 h in
+    omega (arith, ints, k, l)) ∙ sym (not_positive z l))
 
 pub runs_is : (c : Curve) (e : Edge) (wide tall right above sum : ℤ) → wide ≡ c.to.x -ℤ c.from.x
     → tall ≡ c.to.y -ℤ c.from.y → right ≡ e.high.x -ℤ e.low.x → above ≡ e.high.y -ℤ e.low.y
@@ -70,16 +73,23 @@ pub runs_is : (c : Curve) (e : Edge) (wide tall right above sum : ℤ) → wide 
     → lt_z (pos 0) sum ≡ runs.runs_on c e
 unfolding along
 runs_is c e wide tall right above sum w t r a s =
-    positive_test sum ∙ ap is_positive (s ∙ ap (λ z. (z *ℤ right) +ℤ (tall *ℤ above)) w ∙ ap (λ z. ((c.to.x -ℤ c.from.x) *ℤ right) +ℤ (z *ℤ above)) t
-    ∙ ap (λ z. ((c.to.x -ℤ c.from.x) *ℤ z) +ℤ ((c.to.y -ℤ c.from.y) *ℤ above)) r ∙ ap (λ z. ((c.to.x -ℤ c.from.x) *ℤ (e.high.x -ℤ e.low.x)) +ℤ ((c.to.y -ℤ c.from.y) *ℤ z)) a
-    ∙ moved c.from.x c.from.y (c.to.x -ℤ c.from.x) (c.to.y -ℤ c.from.y) e.low.x e.low.y e.high.x e.high.y)
+    positive_test sum
+    ∙ ap is_positive (s ∙ ap (λ z. (z *ℤ right) +ℤ (tall *ℤ above)) w
+    ∙ ap (λ z. ((c.to.x -ℤ c.from.x) *ℤ right) +ℤ (z *ℤ above)) t
+    ∙ ap (λ z. ((c.to.x -ℤ c.from.x) *ℤ z) +ℤ ((c.to.y -ℤ c.from.y) *ℤ above)) r
+    ∙ ap (λ z. ((c.to.x -ℤ c.from.x) *ℤ (e.high.x -ℤ e.low.x)) +ℤ ((c.to.y -ℤ c.from.y) *ℤ z)) a
+    ∙ moved c.from.x c.from.y (c.to.x -ℤ c.from.x)
+    (c.to.y -ℤ c.from.y) e.low.x e.low.y e.high.x e.high.y)
   where
     moved : (fx fy w t lx ly hx hy : ℤ) → (w *ℤ (hx -ℤ lx)) +ℤ (t *ℤ (hy -ℤ ly))
-        ≡ ((w *ℤ (hx -ℤ (fx *ℤ pos 1))) +ℤ (t *ℤ (hy -ℤ (fy *ℤ pos 1)))) -ℤ ((w *ℤ (lx -ℤ (fx *ℤ pos 1))) +ℤ (t *ℤ (ly -ℤ (fy *ℤ pos 1))))
+        ≡ ((w *ℤ (hx -ℤ (fx *ℤ pos 1))) +ℤ (t *ℤ (hy -ℤ (fy *ℤ pos 1))))
+        -ℤ ((w *ℤ (lx -ℤ (fx *ℤ pos 1))) +ℤ (t *ℤ (ly -ℤ (fy *ℤ pos 1))))
     moved fx fy w t lx ly hx hy = ring
         (plus (times (at 2) (minus (at 6) (at 4))) (times (at 3) (minus (at 7) (at 5))))
-        (minus (plus (times (at 2) (minus (at 6) (times (at 0) (num (pos 1))))) (times (at 3) (minus (at 7) (times (at 1) (num (pos 1))))))
-        (plus (times (at 2) (minus (at 4) (times (at 0) (num (pos 1))))) (times (at 3) (minus (at 5) (times (at 1) (num (pos 1)))))))
+        (minus (plus (times (at 2) (minus (at 6) (times (at 0) (num (pos 1)))))
+        (times (at 3) (minus (at 7) (times (at 1) (num (pos 1))))))
+        (plus (times (at 2) (minus (at 4) (times (at 0) (num (pos 1)))))
+        (times (at 3) (minus (at 5) (times (at 1) (num (pos 1)))))))
         (vars (fx ∷ fy ∷ w ∷ t ∷ lx ∷ ly ∷ hx ∷ hy ∷ [])) refl
 
 -- ---- the edges of tubes are small
@@ -87,7 +97,10 @@ near_both : (a p q : Point) → AreNear (2 ^ 28) a p → AreNear (2 ^ 28) a q �
 near_both a p q h k = record { x = one a.x p.x q.x h.x k.x; y = one a.y p.y q.y h.y k.y }
   where
     one : (a p q : ℤ) → IsNear (2 ^ 28) a p → IsNear (2 ^ 28) a q → IsNear (2 ^ 29) p q
-    one a p q h k = record { above = omega (arith, ints, h.above, h.below, k.above, k.below); below = omega (arith, ints, h.above, h.below, k.above, k.below) }
+    one a p q h k = record {
+      above = omega (arith, ints, h.above, h.below, k.above, k.below);
+      below = omega (arith, ints, h.above, h.below, k.above, k.below);
+    }
 
 near_edge : (p q : Point) → AreNear (2 ^ 29) p q
     → AreNear (2 ^ 29) (edge_from p q).low (edge_from p q).high
@@ -96,7 +109,10 @@ near_edge p q h = by_test (comes_first p q)
     turned : (a b : ℤ) → IsNear (2 ^ 29) a b → IsNear (2 ^ 29) b a
     turned a b h = record { above = h.below; below = h.above }
 
-    by_test : (b : Bool) → AreNear (2 ^ 29) (cond {A = Edge} b (record { low = p; high = q }) (record { low = q; high = p })).low (cond {A = Edge} b (record { low = p; high = q }) (record { low = q; high = p })).high
+    by_test : (b : Bool)
+        → AreNear (2 ^ 29)
+        (cond {A = Edge} b (record { low = p; high = q }) (record { low = q; high = p })).low
+        (cond {A = Edge} b (record { low = p; high = q }) (record { low = q; high = p })).high
     by_test true = h
     by_test false = record { x = turned p.x q.x h.x; y = turned p.y q.y h.y }
 
@@ -110,7 +126,10 @@ nearer : (p q : Point) → AreNear (2 ^ 26) p q → AreNear (2 ^ 28) p q
 nearer p q h = record { x = one p.x q.x h.x; y = one p.y q.y h.y }
   where
     one : (a b : ℤ) → IsNear (2 ^ 26) a b → IsNear (2 ^ 28) a b
-    one a b h = record { above = omega (arith, ints, h.above); below = omega (arith, ints, h.below) }
+    one a b h = record {
+      above = omega (arith, ints, h.above);
+      below = omega (arith, ints, h.below);
+    }
 
 module _ (d : Plan) where
   abbrev HasSmall : runs.Owned → Type 0
@@ -126,8 +145,13 @@ module _ (d : Plan) where
       → HasCircle (arc (curve d i)) → AreNear (2 ^ 28) (curve d i).from p
       → Each (AreNear (2 ^ 28) (curve d i).from) qs → Each HasSmall (runs.chain i part p qs)
   small_chain i part p [] h n k = tt
-  small_chain i part p (q ∷ qs) h n k =
-      (small_part part (curve d i) (edge_from p q) (record { circle = h; near = near_edge p q (near_both (curve d i).from p q n k.0) }), small_chain i part q qs h k.0 k.1)
+  small_chain i part p (q ∷ qs) h n k = (
+    small_part part (curve d i) (edge_from p q) (record {
+      circle = h;
+      near = near_edge p q (near_both (curve d i).from p q n k.0);
+    }),
+    small_chain i part q qs h k.0 k.1,
+  )
 
   small_curve : (i level : ℕ) (k : CurveKind) → (k ≡ kind.HalfArc → HasTube (arc (curve d i)) level)
       → Each HasSmall (runs.edges_of i k (curve d i) (drawn_bays d level i))
@@ -139,15 +163,20 @@ module _ (d : Plan) where
       by_tube (vs, os, m) =
           let a = near_self (curve d i).from in
           subst (Each HasSmall) (sym (owned_are i (curve d i) level vs os m))
-          (each_app HasSmall (runs.chain i runs.inner (curve d i).from vs) (runs.chain i runs.outer (curve d i).from (os ++ (curve d i).to ∷ []))
+          (each_app HasSmall (runs.chain i runs.inner (curve d i).from vs)
+          (runs.chain i runs.outer (curve d i).from (os ++ (curve d i).to ∷ []))
           (small_chain i runs.inner (curve d i).from vs m.circle a m.inner_near)
           (small_chain i runs.outer (curve d i).from (os ++ (curve d i).to ∷ []) m.circle a
-          (each_app (AreNear (2 ^ 28) (curve d i).from) os ((curve d i).to ∷ []) m.outer_near (nearer (curve d i).from (curve d i).to m.circle.ends, tt))))
+          (each_app (AreNear (2 ^ 28) (curve d i).from) os ((curve d i).to ∷ []) m.outer_near
+          (nearer (curve d i).from (curve d i).to m.circle.ends, tt))))
 
   small_all : (level : ℕ) → HaveTubes d level
       → Each HasSmall (runs.edge_list (drawn_bays d level) 0 d.curves)
   small_all level tubes =
-      each_owned HasSmall (drawn_bays d level) _ d.curves 0 (λ k l. subst (λ n. Each HasSmall (runs.edges_of n (curve d k).kind (curve d k) (drawn_bays d level n))) (first k)
+      each_owned HasSmall (drawn_bays d level) _ d.curves 0
+      (λ k l. subst
+      (λ n. Each HasSmall (runs.edges_of n (curve d k).kind (curve d k) (drawn_bays d level n)))
+      (first k)
       (small_curve k level (curve d k).kind (λ h. tubes k (record { there = l; kind = h }))))
     where
       first : (k : ℕ) → k ≡ 0 + k
@@ -155,7 +184,9 @@ module _ (d : Plan) where
 
 pub edge_by_owned : (d : Plan) (level e : ℕ) → e < length (edges_at d level)
     → edge_at d level e ≡ edge_as (owned_at d level e)
-edge_by_owned d level e l = mapped (runs.edge_list (drawn_bays d level) 0 d.curves) e (subst (λ (n : ℕ). e < n) (edge_count d level) l)
+edge_by_owned d level e l =
+    mapped (runs.edge_list (drawn_bays d level) 0 d.curves) e
+    (subst (λ (n : ℕ). e < n) (edge_count d level) l)
   where
     mapped : (os : List runs.Owned) (k : ℕ) → k < length os
         → edge_of (map edge_as os) k ≡ edge_as (get_or os k runs.no_edge)
@@ -165,12 +196,14 @@ edge_by_owned d level e l = mapped (runs.edge_list (drawn_bays d level) 0 d.curv
 
 -- ---- the side that two tests say is that of the half-edge within
 sides_agree : (e : ℕ) (p : runs.Part) (c : Curve) (x : Edge)
-    → side_of (part_of p) c x ≡ facing_of p (runs.side_within (runs.third_is_left c) p (runs.runs_on c x) e)
+    → side_of (part_of p) c x ≡ facing_of p
+    (runs.side_within (runs.third_is_left c) p (runs.runs_on c x) e)
 sides_agree e runs.whole c x = refl
 sides_agree e runs.inner c x = by_tests (runs.third_is_left c) (runs.runs_on c x)
   where
     by_tests : (left on : Bool)
-        → cond (cond left on (not on)) facing.Below facing.Above ≡ facing_of runs.inner (runs.side_within left runs.inner on e)
+        → cond (cond left on (not on)) facing.Below facing.Above
+        ≡ facing_of runs.inner (runs.side_within left runs.inner on e)
     by_tests true true = refl
     by_tests true false = refl
     by_tests false true = refl
@@ -178,14 +211,16 @@ sides_agree e runs.inner c x = by_tests (runs.third_is_left c) (runs.runs_on c x
 sides_agree e runs.outer c x = by_tests (runs.third_is_left c) (runs.runs_on c x)
   where
     by_tests : (left on : Bool)
-        → cond (cond left on (not on)) facing.Above facing.Below ≡ facing_of runs.outer (runs.side_within left runs.outer on e)
+        → cond (cond left on (not on)) facing.Above facing.Below
+        ≡ facing_of runs.outer (runs.side_within left runs.outer on e)
     by_tests true true = refl
     by_tests true false = refl
     by_tests false true = refl
     by_tests false false = refl
 
 -- in the words of the list
-module _ (d : Plan) (level : ℕ) (list : EdgeList) (t : IsTubedList d level list) (e : ℕ) (l : e < length list.edges.items) where
+module _ (d : Plan) (level : ℕ) (list : EdgeList) (t : IsTubedList d level list) (e : ℕ)
+    (l : e < length list.edges.items) where
   fits : e < length (edges_at d level)
   fits = subst (λ (es : List Edge). e < length es) t.edges l
 
@@ -195,42 +230,56 @@ module _ (d : Plan) (level : ℕ) (list : EdgeList) (t : IsTubedList d level lis
   pub owner_is : owner_at list.owners.items e ≡ owner_as (owned_at d level e)
   owner_is = owner_by_number d level list no_owner e t l
 
-  pub small : HasSmallTube (owner_at list.owners.items e).part (curve d (owner_at list.owners.items e).curve) (edge_of list.edges.items e)
+  pub small : HasSmallTube (owner_at list.owners.items e).part
+      (curve d (owner_at list.owners.items e).curve) (edge_of list.edges.items e)
   small =
-      let a = each_at (HasSmall d) (runs.edge_list (drawn_bays d level) 0 d.curves) e runs.no_edge (small_all d level t.tubes) (subst (λ (n : ℕ). e < n) (edge_count d level) fits) in
-      subst (λ (o : Owner). HasSmallTube o.part (curve d o.curve) (edge_of list.edges.items e)) (sym owner_is)
-      (subst (λ (x : Edge). HasSmallTube (part_of (owned_at d level e).part) (curve d (owned_at d level e).curve) x) (sym (edge_is ∙ edge_by_owned d level e fits)) a)
+      let a = each_at (HasSmall d) (runs.edge_list (drawn_bays d level) 0 d.curves) e runs.no_edge
+      (small_all d level t.tubes) (subst (λ (n : ℕ). e < n) (edge_count d level) fits) in
+      subst (λ (o : Owner). HasSmallTube o.part (curve d o.curve) (edge_of list.edges.items e))
+      (sym owner_is)
+      (subst (λ (x : Edge). HasSmallTube (part_of (owned_at d level e).part)
+      (curve d (owned_at d level e).curve) x) (sym (edge_is ∙ edge_by_owned d level e fits)) a)
 
   -- ---- the side is that of the definition
   pub side_is : listed_side d list e ≡ facing_at d level e
   side_is =
       ap (λ (o : Owner). side_of o.part (curve d o.curve) (edge_of list.edges.items e)) owner_is
-      ∙ ap (λ (x : Edge). side_of (part_of (owned_at d level e).part) (curve d (owned_at d level e).curve) x) edge_is
-      ∙ sides_agree e (owned_at d level e).part (curve d (owned_at d level e).curve) (edge_at d level e)
+      ∙ ap (λ (x : Edge). side_of (part_of (owned_at d level e).part)
+      (curve d (owned_at d level e).curve) x) edge_is
+      ∙ sides_agree e (owned_at d level e).part (curve d (owned_at d level e).curve)
+      (edge_at d level e)
 
   -- ---- in the words of what the code reads
   pub owner_read : (o : Owner) → o ≡ get_or list.owners.items e o → o ≡ owner_at list.owners.items e
-  owner_read o h = h ∙ get_or_default list.owners.items e o no_owner (subst (λ (n : ℕ). e < n) (sym (list_sizes d level list t)) l)
+  owner_read o h =
+      h ∙ get_or_default list.owners.items e o no_owner
+      (subst (λ (n : ℕ). e < n) (sym (list_sizes d level list t)) l)
 
   pub curve_within : (o : Owner) → o ≡ get_or list.owners.items e o → o.curve < length d.curves
-  curve_within o h = subst (λ (p : Owner). p.curve < length d.curves) (sym (owner_read o h ∙ owner_is)) (owner_within d level e fits)
+  curve_within o h =
+      subst (λ (p : Owner). p.curve < length d.curves) (sym (owner_read o h ∙ owner_is))
+      (owner_within d level e fits)
 
   pub curve_read : (o : Owner) (k : Curve) → o ≡ get_or list.owners.items e o
       → k ≡ get_or d.curves o.curve k → k ≡ curve d (owner_at list.owners.items e).curve
-  curve_read o k h g = g ∙ get_or_default d.curves o.curve k no_curve (curve_within o h) ∙ ap (λ (p : Owner). curve d p.curve) (owner_read o h)
+  curve_read o k h g = g ∙ get_or_default d.curves o.curve k no_curve (curve_within o h)
+      ∙ ap (λ (p : Owner). curve d p.curve) (owner_read o h)
 
   pub small_read : (o : Owner) (k : Curve) → o ≡ get_or list.owners.items e o
       → k ≡ get_or d.curves o.curve k → HasSmallTube o.part k (edge_of list.edges.items e)
   small_read o k h g =
-      subst (λ (p : Owner). HasSmallTube p.part k (edge_of list.edges.items e)) (sym (owner_read o h))
-      (subst (λ (x : Curve). HasSmallTube (owner_at list.owners.items e).part x (edge_of list.edges.items e)) (sym (curve_read o k h g)) small)
+      subst (λ (p : Owner). HasSmallTube p.part k (edge_of list.edges.items e))
+      (sym (owner_read o h))
+      (subst (λ (x : Curve). HasSmallTube (owner_at list.owners.items e).part x
+      (edge_of list.edges.items e)) (sym (curve_read o k h g)) small)
 
   pub side_read : (o : Owner) (k : Curve) → o ≡ get_or list.owners.items e o
       → k ≡ get_or d.curves o.curve k
       → side_of o.part k (edge_of list.edges.items e) ≡ listed_side d list e
   side_read o k h g =
       ap (λ (p : Owner). side_of p.part k (edge_of list.edges.items e)) (owner_read o h)
-      ∙ ap (λ (x : Curve). side_of (owner_at list.owners.items e).part x (edge_of list.edges.items e)) (curve_read o k h g)
+      ∙ ap (λ (x : Curve). side_of (owner_at list.owners.items e).part x
+      (edge_of list.edges.items e)) (curve_read o k h g)
 
 -- all edges are read
 pub all_read : (e : ℕ) (xs es : List Edge) → xs ≡ es → e ≤ length xs → length xs ≤ e → e ≡ length es
@@ -238,8 +287,11 @@ all_read e xs es q h k = subst (λ (ys : List Edge). e ≡ length ys) q (omega (
 
 pub facings_are : (d : Plan) (level : ℕ) (list : EdgeList) (facings : List Facing)
     → IsTubedList d level list → length facings ≡ length list.edges.items
-    → ((k : ℕ) → k < length list.edges.items → slice_index_or facings k facing.Neither ≡ listed_side d list k) → AreFacings d level facings
+    → ((k : ℕ) → k < length list.edges.items
+    → slice_index_or facings k facing.Neither ≡ listed_side d list k)
+    → AreFacings d level facings
 facings_are d level list facings t n f = record {
   count = n ∙ ap length t.edges;
-  each = λ e l. let k = subst (λ (es : List Edge). e < length es) (sym t.edges) l in f e k ∙ side_is d level list t e k;
+  each = λ e l. let k = subst (λ (es : List Edge). e < length es) (sym t.edges) l in
+      f e k ∙ side_is d level list t e k;
 }

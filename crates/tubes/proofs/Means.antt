@@ -22,7 +22,8 @@ less : (a d : ℕ) → a / d ≤ a
 less a d = omega arith
 
 pub floor_is : (a : ℤ) (k : ℕ) → 0 < k
-    → ((pos k *ℤ int_div_euclid a (pos k)) ≤ℤ a) × (a <ℤ ((pos k *ℤ int_div_euclid a (pos k)) +ℤ pos k))
+    → ((pos k *ℤ int_div_euclid a (pos k)) ≤ℤ a)
+    × (a <ℤ ((pos k *ℤ int_div_euclid a (pos k)) +ℤ pos k))
 floor_is a k h =
     let p = parts a k h in
     let u = up-product (pos k) (int_div_euclid a (pos k)) in
@@ -37,8 +38,10 @@ floor_only a q k h l m =
     let one : pos k *ℤ pos 1 ≡ pos k = omega (arith, ints) in
     let s = product-sum (pos k) q (pos 1) in
     let t = product-sum (pos k) r (pos 1) in
-    let u = cancel_lt (pos k) r (q +ℤ pos 1) (omega (arith, ints, h)) (omega (arith, ints, f.0, m, s, one)) in
-    let v = cancel_lt (pos k) q (r +ℤ pos 1) (omega (arith, ints, h)) (omega (arith, ints, f.1, l, t, one)) in
+    let u = cancel_lt (pos k) r (q +ℤ pos 1) (omega (arith, ints, h))
+    (omega (arith, ints, f.0, m, s, one)) in
+    let v = cancel_lt (pos k) q (r +ℤ pos 1) (omega (arith, ints, h))
+    (omega (arith, ints, f.1, l, t, one)) in
     omega (arith, ints, u, v)
 
 -- twice a number
@@ -46,10 +49,12 @@ double : (l : ℕ) → pos (2 * l) ≡ pos l +ℤ pos l
 double l = omega (arith, ints)
 
 split : (p e w l n : ℤ)
-    → ((p +ℤ e) *ℤ l) +ℤ ((pos 2 *ℤ n) *ℤ w) ≡ ((l +ℤ l) *ℤ p) +ℤ (((e -ℤ p) *ℤ l) +ℤ ((n +ℤ n) *ℤ w))
+    → ((p +ℤ e) *ℤ l) +ℤ ((pos 2 *ℤ n) *ℤ w)
+    ≡ ((l +ℤ l) *ℤ p) +ℤ (((e -ℤ p) *ℤ l) +ℤ ((n +ℤ n) *ℤ w))
 split p e w l n = ring
     (plus (times (plus (at 0) (at 1)) (at 3)) (times (times (num (pos 2)) (at 4)) (at 2)))
-    (plus (times (plus (at 3) (at 3)) (at 0)) (plus (times (minus (at 1) (at 0)) (at 3)) (times (plus (at 4) (at 4)) (at 2))))
+    (plus (times (plus (at 3) (at 3)) (at 0))
+    (plus (times (minus (at 1) (at 0)) (at 3)) (times (plus (at 4) (at 4)) (at 2))))
     (vars (p ∷ e ∷ w ∷ l ∷ n ∷ [])) refl
 
 moved_by : (p e w n : ℤ) (l : ℕ) (k : ℤ) → 0 < l → k ≡ pos (2 * l)
@@ -63,13 +68,15 @@ moved_by p e w n l k h g =
     let t : (pos l +ℤ pos l) *ℤ p ≡ pos (2 * l) *ℤ p = ap (λ (k : ℤ). k *ℤ p) (sym d) in
     let r = product-sum (pos (2 * l)) p q in
     ap (λ (k : ℤ). p +ℤ int_div_euclid o k) g
-    ∙ floor_only _ (p +ℤ q) (2 * l) (omega (arith, h)) (omega (arith, ints, f.0, s, t, r)) (omega (arith, ints, f.1, s, t, r))
+    ∙ floor_only _ (p +ℤ q) (2 * l) (omega (arith, h)) (omega (arith, ints, f.0, s, t, r))
+    (omega (arith, ints, f.1, s, t, r))
 
 pub moved_is : (p e w l n way over : ℤ) → pos 0 <ℤ l → way ≡ e -ℤ p
     → over ≡ (way *ℤ l) +ℤ ((n +ℤ n) *ℤ w)
     → p +ℤ int_div_euclid over (l +ℤ l) ≡ moved (unsigned_abs l) (p +ℤ e) w n
 moved_is p e w (pos l) n way over h f g =
-    ap (λ (o : ℤ). p +ℤ int_div_euclid o (pos l +ℤ pos l)) (g ∙ ap (λ (v : ℤ). (v *ℤ pos l) +ℤ ((n +ℤ n) *ℤ w)) f)
+    ap (λ (o : ℤ). p +ℤ int_div_euclid o (pos l +ℤ pos l)) (g
+    ∙ ap (λ (v : ℤ). (v *ℤ pos l) +ℤ ((n +ℤ n) *ℤ w)) f)
     ∙ moved_by p e w n l (pos l +ℤ pos l) (omega (arith, ints, h)) (sym (double l))
 moved_is p e w (negsuc l) n way over h f g = absurd (omega (arith, ints, h))
 
@@ -79,16 +86,25 @@ twice_more m = omega (arith, ints)
 -- how far such a point is from the two
 pub moved_from : (l m : ℕ) (p e w n : ℤ) → 0 < l → w ≤ℤ pos l → (pos 0 -ℤ w) ≤ℤ pos l → n ≤ℤ pos m
     → (pos 0 -ℤ n) ≤ℤ pos m
-    → ((pos 2 *ℤ moved l (p +ℤ e) w n) ≤ℤ ((p +ℤ e) +ℤ pos (2 * m))) × ((p +ℤ e) <ℤ ((pos 2 *ℤ moved l (p +ℤ e) w n) +ℤ pos (2 * m + 2)))
+    → ((pos 2 *ℤ moved l (p +ℤ e) w n) ≤ℤ ((p +ℤ e) +ℤ pos (2 * m)))
+    × ((p +ℤ e) <ℤ ((pos 2 *ℤ moved l (p +ℤ e) w n) +ℤ pos (2 * m + 2)))
 moved_from l m p e w n h wl wm nl nm =
     let v = moved l (p +ℤ e) w n in
     let f = floor_is (((p +ℤ e) *ℤ pos l) +ℤ ((pos 2 *ℤ n) *ℤ w)) (2 * l) (omega (arith, h)) in
     let b = product_most m l n w nl nm wl wm in
-    let a : (pos 2 *ℤ n) *ℤ w ≡ pos 2 *ℤ (n *ℤ w) = ring (times (times (num (pos 2)) (at 0)) (at 1)) (times (num (pos 2)) (times (at 0) (at 1))) (vars (n ∷ w ∷ [])) refl in
-    let c : pos (2 * l) *ℤ v ≡ pos l *ℤ (pos 2 *ℤ v) = ap (λ (k : ℤ). k *ℤ v) (double l) ∙ ring (times (plus (at 0) (at 0)) (at 1)) (times (at 0) (times (num (pos 2)) (at 1))) (vars (pos l ∷ v ∷ [])) refl in
-    let d : pos l *ℤ ((p +ℤ e) +ℤ pos (2 * m)) ≡ ((p +ℤ e) *ℤ pos l) +ℤ (pos 2 *ℤ pos (m * l)) = spread l m (p +ℤ e) in
-    let g : pos l *ℤ ((pos 2 *ℤ v) +ℤ pos (2 * m + 2)) ≡ ((pos l *ℤ (pos 2 *ℤ v)) +ℤ (pos 2 *ℤ pos (m * l))) +ℤ pos (2 * l) = wider l m (pos 2 *ℤ v) in
-    let i : pos l *ℤ (p +ℤ e) ≡ (p +ℤ e) *ℤ pos l = ring (times (at 0) (at 1)) (times (at 1) (at 0)) (vars (pos l ∷ (p +ℤ e) ∷ [])) refl in (
+    let a : (pos 2 *ℤ n) *ℤ w ≡ pos 2 *ℤ (n *ℤ w) = ring (times (times (num (pos 2)) (at 0)) (at 1))
+    (times (num (pos 2)) (times (at 0) (at 1))) (vars (n ∷ w ∷ [])) refl in
+    let c : pos (2 * l) *ℤ v ≡ pos l *ℤ (pos 2 *ℤ v) = ap (λ (k : ℤ). k *ℤ v) (double l)
+    ∙ ring (times (plus (at 0) (at 0)) (at 1)) (times (at 0) (times (num (pos 2)) (at 1)))
+    (vars (pos l ∷ v ∷ [])) refl in
+    let d : pos l *ℤ ((p +ℤ e) +ℤ pos (2 * m))
+    ≡ ((p +ℤ e) *ℤ pos l) +ℤ (pos 2 *ℤ pos (m * l)) = spread l m (p +ℤ e) in
+    let g : pos l *ℤ ((pos 2 *ℤ v) +ℤ pos (2 * m + 2))
+    ≡ ((pos l *ℤ (pos 2 *ℤ v)) +ℤ (pos 2 *ℤ pos (m * l))) +ℤ pos (2 * l) =
+    wider l m (pos 2 *ℤ v) in
+    let i : pos l *ℤ (p +ℤ e) ≡ (p +ℤ e)
+    *ℤ pos l = ring (times (at 0) (at 1)) (times (at 1) (at 0))
+    (vars (pos l ∷ (p +ℤ e) ∷ [])) refl in (
       cancel_le (pos l) _ _ (omega (arith, ints, h)) (omega (arith, ints, f.0, a, b.0, c, d)),
       cancel_lt (pos l) _ _ (omega (arith, ints, h)) (omega (arith, ints, f.1, a, b.1, c, g, i)),
     )
@@ -97,13 +113,17 @@ moved_from l m p e w n h wl wm nl nm =
         → pos l *ℤ (s +ℤ pos (2 * m)) ≡ (s *ℤ pos l) +ℤ (pos 2 *ℤ pos (m * l))
     spread l m s =
         ap (λ (k : ℤ). pos l *ℤ (s +ℤ k)) (double m)
-        ∙ ring (times (at 0) (plus (at 1) (plus (at 2) (at 2)))) (plus (times (at 1) (at 0)) (times (num (pos 2)) (times (at 2) (at 0)))) (vars (pos l ∷ s ∷ pos m ∷ [])) refl
+        ∙ ring (times (at 0) (plus (at 1) (plus (at 2) (at 2))))
+        (plus (times (at 1) (at 0)) (times (num (pos 2)) (times (at 2) (at 0))))
+        (vars (pos l ∷ s ∷ pos m ∷ [])) refl
 
     wider : (l m : ℕ) (s : ℤ)
         → pos l *ℤ (s +ℤ pos (2 * m + 2)) ≡ ((pos l *ℤ s) +ℤ (pos 2 *ℤ pos (m * l))) +ℤ pos (2 * l)
     wider l m s =
         ap (λ (k : ℤ). pos l *ℤ (s +ℤ k)) (twice_more m)
-        ∙ ring (times (at 0) (plus (at 1) (plus (plus (at 2) (at 2)) (num (pos 2))))) (plus (plus (times (at 0) (at 1)) (times (num (pos 2)) (times (at 2) (at 0)))) (plus (at 0) (at 0))) (vars (pos l ∷ s ∷ pos m ∷ [])) refl
+        ∙ ring (times (at 0) (plus (at 1) (plus (plus (at 2) (at 2)) (num (pos 2)))))
+        (plus (plus (times (at 0) (at 1)) (times (num (pos 2)) (times (at 2) (at 0))))
+        (plus (at 0) (at 0))) (vars (pos l ∷ s ∷ pos m ∷ [])) refl
         ∙ ap (λ (k : ℤ). ((pos l *ℤ s) +ℤ (pos 2 *ℤ pos (m * l))) +ℤ k) (sym (double l))
 
 pub quotient_within : (m : ℕ) (a d : ℤ) → IsWithin m a → pos 0 <ℤ d

@@ -1,4 +1,5 @@
--- The points of a tube round by round: what is made for two neighbours, what is made for a list of them, and how near they stay.
+-- The points of a tube round by round: what is made for two neighbours, what is made for a list of
+-- them, and how near they stay.
 use Rattle.std.proofs.Common.{rules, ◌≡◌, ℕ, zero, suc, ◌+◌, ◌-◌, ◌*◌, ◌/◌, ◌<◌, ◌≤◌, ◌^◌, Bool}
 use Rattle.std.proofs.Common.{true, false, cond, nat_lt, Option, None, Some, List, [], ◌∷◌, ◌++◌}
 use Rattle.std.proofs.Common.{length, drop, ℤ, pos, ◌+ℤ◌, ◌*ℤ◌, ◌-ℤ◌, ◌<ℤ◌, ◌≤ℤ◌, arith, ap, refl}
@@ -22,7 +23,8 @@ use Rattle.tubes.proofs.TubePoints.{inner_are, some_same, taken}
 bits_below : (test : ℕ → Bool) (b k : ℕ) → with_bits test b k < k + 2 ^ b
 unfolding with_bits
 bits_below test zero k = omega arith
-bits_below test (suc b) k = by_test (test (k + 2 ^ b)) (bits_below test b (k + 2 ^ b)) (bits_below test b k)
+bits_below test (suc b) k =
+    by_test (test (k + 2 ^ b)) (bits_below test b (k + 2 ^ b)) (bits_below test b k)
   where
     by_test : (t : Bool) → with_bits test b (k + 2 ^ b) < (k + 2 ^ b) + 2 ^ b
         → with_bits test b k < k + 2 ^ b → with_bits test b (cond t (k + 2 ^ b) k) < k + 2 ^ suc b
@@ -39,18 +41,22 @@ counted h p q k e = by_first _ refl e
   where
     by_second : (t : Bool) → cond t (Some (with_bits (is_inside h p q) 27 0)) None ≡ Some k
         → k < 2 ^ 27
-    by_second true f = subst (λ (n : ℕ). n < 2 ^ 27) (some_same _ _ f) (bits_below (is_inside h p q) 27 0)
+    by_second true f =
+        subst (λ (n : ℕ). n < 2 ^ 27) (some_same _ _ f) (bits_below (is_inside h p q) 27 0)
     by_second false f = cc
 
     by_first : (t : Bool) → nat_lt 0 (whole_distance p q) ≡ t
-        → cond t (cond (is_inside h p q 0) (Some (with_bits (is_inside h p q) 27 0)) None) None ≡ Some k
+        → cond t (cond (is_inside h p q 0) (Some (with_bits (is_inside h p q) 27 0)) None) None
+        ≡ Some k
         → IsCounted h p q k
     by_first true l f = record { some = search rules; small = by_second _ f }
     by_first false l f = cc
 
 pub no_count : (h : HalfArc) (p q : Point) → whole_distance p q ≡ 0 → count h p q ≡ None
 unfolding count
-no_count h p q e = ap (λ n. cond (nat_lt 0 n) (cond (is_inside h p q 0) (Some (with_bits (is_inside h p q) 27 0)) None) None) e
+no_count h p q e =
+    ap (λ n. cond (nat_lt 0 n)
+    (cond (is_inside h p q 0) (Some (with_bits (is_inside h p q) 27 0)) None) None) e
 
 -- ---- what is made for two neighbours
 pub none_of : {X Y : Type 0} (o : Option X) (f : X → Option Y) → o ≡ None → None ≡ and_then o f
@@ -73,7 +79,9 @@ unfolding refine
 refine_none h p q qs e = by_count (count h p q) e
   where
     by_count : (o : Option ℕ) → and_then o (λ k. Some (beside h p q (pos k -ℤ pos 2))) ≡ None
-        → and_then o (λ k. and_then (refine h q qs) (λ rest. Some (beside h p q (pos k -ℤ pos 2) ∷ q ∷ rest))) ≡ None
+        → and_then o
+        (λ k. and_then (refine h q qs)
+        (λ rest. Some (beside h p q (pos k -ℤ pos 2) ∷ q ∷ rest))) ≡ None
     by_count None e = refl
     by_count (Some k) e = cc
 
@@ -83,28 +91,40 @@ unfolding refine
 refine_some h p q v qs e = by_count (count h p q) e
   where
     by_count : (o : Option ℕ) → and_then o (λ k. Some (beside h p q (pos k -ℤ pos 2))) ≡ Some v
-        → and_then o (λ k. and_then (refine h q qs) (λ rest. Some (beside h p q (pos k -ℤ pos 2) ∷ q ∷ rest))) ≡ and_then (refine h q qs) (λ rest. Some (v ∷ q ∷ rest))
+        → and_then o
+        (λ k. and_then (refine h q qs)
+        (λ rest. Some (beside h p q (pos k -ℤ pos 2) ∷ q ∷ rest)))
+        ≡ and_then (refine h q qs) (λ rest. Some (v ∷ q ∷ rest))
     by_count None e = cc
-    by_count (Some k) e = ap (λ w. and_then (refine h q qs) (λ rest. Some (w ∷ q ∷ rest))) (some_same _ _ e)
+    by_count (Some k) e =
+        ap (λ w. and_then (refine h q qs) (λ rest. Some (w ∷ q ∷ rest))) (some_same _ _ e)
 
 put_two : (made : List Point) (v q : Point) (o : Option (List Point))
-    → put_before made (and_then o (λ rest. Some (v ∷ q ∷ rest))) ≡ put_before ((made ++ v ∷ []) ++ q ∷ []) o
+    → put_before made (and_then o (λ rest. Some (v ∷ q ∷ rest)))
+    ≡ put_before ((made ++ v ∷ []) ++ q ∷ []) o
 put_two made v q None = refl
-put_two made v q (Some rest) = ap (λ s. Some s) (sym (append_assoc (made ++ v ∷ []) (q ∷ []) rest ∙ append_assoc made (v ∷ []) (q ∷ rest)))
+put_two made v q (Some rest) =
+    ap (λ s. Some s)
+    (sym (append_assoc (made ++ v ∷ []) (q ∷ []) rest ∙ append_assoc made (v ∷ []) (q ∷ rest)))
 
-pub refine_step : (h : HalfArc) (p q v : Point) (qs made more : List Point) (all : Option (List Point))
+pub refine_step : (h : HalfArc) (p q v : Point) (qs made more : List Point)
+    (all : Option (List Point))
     → middle h p q ≡ Some v → more ≡ (made ++ v ∷ []) ++ q ∷ []
     → put_before made (refine h p (q ∷ qs)) ≡ all → put_before more (refine h q qs) ≡ all
-refine_step h p q v qs made more all e m i = ap (λ s. put_before s (refine h q qs)) m ∙ sym (put_two made v q (refine h q qs)) ∙ ap (λ o. put_before made o) (sym (refine_some h p q v qs e)) ∙ i
+refine_step h p q v qs made more all e m i =
+    ap (λ s. put_before s (refine h q qs)) m ∙ sym (put_two made v q (refine h q qs))
+    ∙ ap (λ o. put_before made o) (sym (refine_some h p q v qs e)) ∙ i
 
 pub refine_stops : (h : HalfArc) (p q : Point) (qs made : List Point) (all : Option (List Point))
     → None ≡ middle h p q → put_before made (refine h p (q ∷ qs)) ≡ all → all ≡ None
-refine_stops h p q qs made all e i = sym i ∙ ap (λ o. put_before made o) (refine_none h p q qs (sym e))
+refine_stops h p q qs made all e i =
+    sym i ∙ ap (λ o. put_before made o) (refine_none h p q qs (sym e))
 
 pub refine_ends : (h : HalfArc) (p : Point) (qs made : List Point) (all : Option (List Point))
     → qs ≡ [] → put_before made (refine h p qs) ≡ all → all ≡ Some made
 unfolding refine
-refine_ends h p qs made all e i = sym i ∙ ap (λ qs. put_before made (refine h p qs)) e ∙ ap (λ s. Some s) (append-nil made)
+refine_ends h p qs made all e i = sym i ∙ ap (λ qs. put_before made (refine h p qs)) e
+    ∙ ap (λ s. Some s) (append-nil made)
 
 pub outer_none : (h : HalfArc) (p q : Point) (qs : List Point) → over h p q ≡ None
     → outer_points h p (q ∷ qs) ≡ None
@@ -112,7 +132,9 @@ unfolding outer_points
 outer_none h p q qs e = by_count (count h p q) e
   where
     by_count : (o : Option ℕ) → and_then o (λ k. Some (beside h p q (pos ((5 * k) / 2 + 4)))) ≡ None
-        → and_then o (λ k. and_then (outer_points h q qs) (λ rest. Some (beside h p q (pos ((5 * k) / 2 + 4)) ∷ rest))) ≡ None
+        → and_then o
+        (λ k. and_then (outer_points h q qs)
+        (λ rest. Some (beside h p q (pos ((5 * k) / 2 + 4)) ∷ rest))) ≡ None
     by_count None e = refl
     by_count (Some k) e = cc
 
@@ -123,28 +145,38 @@ outer_some h p q v qs e = by_count (count h p q) e
   where
     by_count : (o : Option ℕ)
         → and_then o (λ k. Some (beside h p q (pos ((5 * k) / 2 + 4)))) ≡ Some v
-        → and_then o (λ k. and_then (outer_points h q qs) (λ rest. Some (beside h p q (pos ((5 * k) / 2 + 4)) ∷ rest))) ≡ and_then (outer_points h q qs) (λ rest. Some (v ∷ rest))
+        → and_then o
+        (λ k. and_then (outer_points h q qs)
+        (λ rest. Some (beside h p q (pos ((5 * k) / 2 + 4)) ∷ rest)))
+        ≡ and_then (outer_points h q qs) (λ rest. Some (v ∷ rest))
     by_count None e = cc
-    by_count (Some k) e = ap (λ w. and_then (outer_points h q qs) (λ rest. Some (w ∷ rest))) (some_same _ _ e)
+    by_count (Some k) e =
+        ap (λ w. and_then (outer_points h q qs) (λ rest. Some (w ∷ rest))) (some_same _ _ e)
 
 put_one : (made : List Point) (v : Point) (o : Option (List Point))
     → put_before made (and_then o (λ rest. Some (v ∷ rest))) ≡ put_before (made ++ v ∷ []) o
 put_one made v None = refl
 put_one made v (Some rest) = ap (λ s. Some s) (sym (append_assoc made (v ∷ []) rest))
 
-pub outer_step : (h : HalfArc) (p q v : Point) (qs made more : List Point) (all : Option (List Point))
+pub outer_step : (h : HalfArc) (p q v : Point) (qs made more : List Point)
+    (all : Option (List Point))
     → over h p q ≡ Some v → more ≡ made ++ v ∷ []
-    → put_before made (outer_points h p (q ∷ qs)) ≡ all → put_before more (outer_points h q qs) ≡ all
-outer_step h p q v qs made more all e m i = ap (λ s. put_before s (outer_points h q qs)) m ∙ sym (put_one made v (outer_points h q qs)) ∙ ap (λ o. put_before made o) (sym (outer_some h p q v qs e)) ∙ i
+    → put_before made (outer_points h p (q ∷ qs)) ≡ all
+    → put_before more (outer_points h q qs) ≡ all
+outer_step h p q v qs made more all e m i =
+    ap (λ s. put_before s (outer_points h q qs)) m ∙ sym (put_one made v (outer_points h q qs))
+    ∙ ap (λ o. put_before made o) (sym (outer_some h p q v qs e)) ∙ i
 
 pub outer_stops : (h : HalfArc) (p q : Point) (qs made : List Point) (all : Option (List Point))
     → None ≡ over h p q → put_before made (outer_points h p (q ∷ qs)) ≡ all → all ≡ None
-outer_stops h p q qs made all e i = sym i ∙ ap (λ o. put_before made o) (outer_none h p q qs (sym e))
+outer_stops h p q qs made all e i =
+    sym i ∙ ap (λ o. put_before made o) (outer_none h p q qs (sym e))
 
 pub outer_ends : (h : HalfArc) (p : Point) (qs made : List Point) (all : Option (List Point))
     → qs ≡ [] → put_before made (outer_points h p qs) ≡ all → all ≡ Some made
 unfolding outer_points
-outer_ends h p qs made all e i = sym i ∙ ap (λ qs. put_before made (outer_points h p qs)) e ∙ ap (λ s. Some s) (append-nil made)
+outer_ends h p qs made all e i = sym i ∙ ap (λ qs. put_before made (outer_points h p qs)) e
+    ∙ ap (λ s. Some s) (append-nil made)
 
 pub put_nothing : (o : Option (List Point)) → put_before [] o ≡ o
 put_nothing None = refl
@@ -153,8 +185,14 @@ put_nothing (Some rest) = refl
 -- ---- how near the points stay
 near_sum : (m n : ℕ) (a b c : Point) → AreNear m a b → AreNear n b c → AreNear (m + n) a c
 near_sum m n a b c h k = record {
-  x = record { above = omega (arith, ints, h.x.above, k.x.above); below = omega (arith, ints, h.x.below, k.x.below) };
-  y = record { above = omega (arith, ints, h.y.above, k.y.above); below = omega (arith, ints, h.y.below, k.y.below) };
+  x = record {
+    above = omega (arith, ints, h.x.above, k.x.above);
+    below = omega (arith, ints, h.x.below, k.x.below);
+  };
+  y = record {
+    above = omega (arith, ints, h.y.above, k.y.above);
+    below = omega (arith, ints, h.y.below, k.y.below);
+  };
 }
 
 abbrev Most : ℕ
@@ -169,26 +207,39 @@ step_on p q v h b = (
   where
     first : (p q v : ℤ) → IsNear (2 ^ 28) p q → (pos 2 *ℤ v) ≤ℤ ((p +ℤ q) +ℤ pos (2 * Most))
         → (p +ℤ q) <ℤ ((pos 2 *ℤ v) +ℤ pos (2 * Most + 2)) → IsNear (2 ^ 28) p v
-    first p q v h u l = record { above = omega (arith, ints, h.above, h.below, u, l); below = omega (arith, ints, h.above, h.below, u, l) }
+    first p q v h u l = record {
+      above = omega (arith, ints, h.above, h.below, u, l);
+      below = omega (arith, ints, h.above, h.below, u, l);
+    }
 
     second : (p q v : ℤ) → IsNear (2 ^ 28) p q → (pos 2 *ℤ v) ≤ℤ ((p +ℤ q) +ℤ pos (2 * Most))
         → (p +ℤ q) <ℤ ((pos 2 *ℤ v) +ℤ pos (2 * Most + 2)) → IsNear (2 ^ 28) v q
-    second p q v h u l = record { above = omega (arith, ints, h.above, h.below, u, l); below = omega (arith, ints, h.above, h.below, u, l) }
+    second p q v h u l = record {
+      above = omega (arith, ints, h.above, h.below, u, l);
+      below = omega (arith, ints, h.above, h.below, u, l);
+    }
 
 refined_near : (h : HalfArc) (r : ℕ) (p : Point) (vs ws : List Point) → refine h p vs ≡ Some ws
     → AreNear r h.from p → Each (AreNear r h.from) vs → AreSteps p vs
     → AreSteps p ws × Each (AreNear (r + 2 ^ 28) h.from) ws
 unfolding refine
-refined_near h r p [] ws e n ns st = subst (λ ws. AreSteps p ws × Each (AreNear (r + 2 ^ 28) h.from) ws) (some_same _ _ e) (tt, tt)
+refined_near h r p [] ws e n ns st =
+    subst (λ ws. AreSteps p ws × Each (AreNear (r + 2 ^ 28) h.from) ws) (some_same _ _ e) (tt, tt)
 refined_near h r p (q ∷ vs) ws e n ns st =
     let (k, ek, f) = taken (count h p q) _ ws e in
     let (rest, er, g) = taken (refine h q vs) _ ws f in
     let i = refined_near h r q vs rest er ns.0 ns.1 st.1 in
     let c = counted h p q k ek in
-    let b = is_beside h p q (pos k -ℤ pos 2) Most c.some (omega (arith, ints, c.small)) (omega (arith, ints, c.small)) in
+    let b = is_beside h p q (pos k -ℤ pos 2) Most c.some (omega (arith, ints, c.small))
+    (omega (arith, ints, c.small)) in
     let s = step_on p q (beside h p q (pos k -ℤ pos 2)) st.0 b in
-    subst (λ ws. AreSteps p ws × Each (AreNear (r + 2 ^ 28) h.from) ws) (some_same _ _ g)
-    ((s.0, (s.1, i.0)), (near_sum r (2 ^ 28) h.from p _ n s.0, (near_more r (r + 2 ^ 28) h.from q (omega arith) ns.0, i.1)))
+    subst (λ ws. AreSteps p ws × Each (AreNear (r + 2 ^ 28) h.from) ws) (some_same _ _ g) (
+      (s.0, (s.1, i.0)),
+      (
+        near_sum r (2 ^ 28) h.from p _ n s.0,
+        (near_more r (r + 2 ^ 28) h.from q (omega arith) ns.0, i.1),
+      ),
+    )
 
 pub self_near : (r : ℕ) (p : Point) → 0 < r → AreNear r p p
 self_near r p l = record {
@@ -210,7 +261,8 @@ inner_at_hand h zero vs c e = subst (AreAtHand h ((0 + 1) * 2 ^ 28)) (some_same 
 inner_at_hand h (suc n) vs c e =
     let (us, eu, f) = taken (inner_points h n) _ vs e in
     let i = inner_at_hand h n us c eu in
-    let r = refined_near h ((n + 1) * 2 ^ 28) h.from us vs f (self_near ((n + 1) * 2 ^ 28) h.from (omega arith)) i.near i.steps in
+    let r = refined_near h ((n + 1) * 2 ^ 28) h.from us vs f
+    (self_near ((n + 1) * 2 ^ 28) h.from (omega arith)) i.near i.steps in
     record { steps = r.0; near = subst (λ (m : ℕ). Each (AreNear m h.from) vs) (more n) r.1 }
   where
     more : (n : ℕ) → (n + 1) * 2 ^ 28 + 2 ^ 28 ≡ (suc n + 1) * 2 ^ 28
@@ -229,7 +281,8 @@ rounds_more h n zero e = ap (λ m. inner_points h m) (same n) ∙ e
   where
     same : (n : ℕ) → n + 0 ≡ n
     same n = omega arith
-rounds_more h n (suc more) e = ap (λ m. inner_points h m) (later n more) ∙ ap (λ o. and_then o (refine h h.from)) (rounds_more h n more e)
+rounds_more h n (suc more) e = ap (λ m. inner_points h m) (later n more)
+    ∙ ap (λ o. and_then o (refine h h.from)) (rounds_more h n more e)
   where
     later : (n more : ℕ) → n + suc more ≡ suc (n + more)
     later n more = omega arith
@@ -244,7 +297,8 @@ rounds_stop h n m l e = ap (λ m. inner_points h m) (back n m l) ∙ rounds_more
 pub next_round : (h : HalfArc) (n : ℕ) (vs : List Point) → inner_points h n ≡ Some vs
     → refine h h.from vs ≡ inner_points h (n + 1)
 unfolding inner_points
-next_round h n vs e = ap (λ o. and_then o (refine h h.from)) (sym e) ∙ ap (λ m. inner_points h m) (sym (add-one n))
+next_round h n vs e = ap (λ o. and_then o (refine h h.from)) (sym e)
+    ∙ ap (λ m. inner_points h m) (sym (add-one n))
 
 pub first_round : (h : HalfArc) (vs : List Point) → vs ≡ h.to ∷ [] → inner_points h 0 ≡ Some vs
 unfolding inner_points
@@ -254,11 +308,13 @@ pub all_dropped : (vs : List Point) (n : ℕ) → length vs ≤ n → drop n vs 
 all_dropped vs n l = grind (arith, common_steps)
 
 pub dropped : (vs : List Point) (n : ℕ) → n < length vs → drop n vs ≡ nth vs n ∷ drop (n + 1) vs
-dropped vs n l = drop-cons vs n (record { x = pos 0; y = pos 0 }) l ∙ ap (λ m. nth vs n ∷ drop m vs) (sym (add-one n))
+dropped vs n l = drop-cons vs n (record { x = pos 0; y = pos 0 }) l
+    ∙ ap (λ m. nth vs n ∷ drop m vs) (sym (add-one n))
 
 pub few_points : (h : HalfArc) (n : ℕ) (vs : List Point) → n ≤ 6 → inner_points h n ≡ Some vs
     → length vs < 2 ^ 20
-few_points h n vs l e = let r = (inner_are h n vs e).size in let p = pow_mono l in omega (arith, r, p)
+few_points h n vs l e =
+    let r = (inner_are h n vs e).size in let p = pow_mono l in omega (arith, r, p)
 
 pub pushed_two : (made mid more : List Point) (v q : Point) → more ≡ mid ++ q ∷ []
     → mid ≡ made ++ v ∷ [] → more ≡ (made ++ v ∷ []) ++ q ∷ []

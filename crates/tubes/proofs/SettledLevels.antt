@@ -45,25 +45,32 @@ wide d level tubes i l h =
 pub tubed_run : (d : Plan) (level : ℕ) (list : EdgeList) (steps : List Step)
     → IsTubedList d level list → ((p : Point) → IsOwnCorner d level p)
     → Run (length list.edges.items) (edge_of list.edges.items) steps
-    → runs.IsTubedRun d (drawn_bays d level) (length list.edges.items) (edge_of list.edges.items) steps
+    → runs.IsTubedRun d (drawn_bays d level) (length list.edges.items)
+    (edge_of list.edges.items) steps
 tubed_run d level list steps t own run = record {
   tube = λ i l h. tube_by_number d level i (t.tubes i (record { there = l; kind = h }));
   count = count_by_curves d level list t;
   edge = λ e l. edge_by_number d level list t e l;
   run = run;
-  corner = λ k e f l. subst (λ (es : List Edge). e < length es → f < length es → runs.IsOfTube (owned_at d level e).part → IsEnd (edge_of es e) (get_or steps k no_step).at → IsEnd (edge_of es f) (get_or steps k no_step).at
-      → ((get_or steps k no_step).at ≡ (curve d (owned_at d level e).curve).from) ⊎ (((get_or steps k no_step).at ≡ (curve d (owned_at d level e).curve).to) ⊎ ((owned_at d level f).curve ≡ (owned_at d level e).curve)))
+  corner = λ k e f l. subst (λ (es : List Edge). e < length es → f < length es
+      → runs.IsOfTube (owned_at d level e).part → IsEnd (edge_of es e) (get_or steps k no_step).at
+      → IsEnd (edge_of es f) (get_or steps k no_step).at
+      → ((get_or steps k no_step).at ≡ (curve d (owned_at d level e).curve).from)
+      ⊎ (((get_or steps k no_step).at ≡ (curve d (owned_at d level e).curve).to)
+      ⊎ ((owned_at d level f).curve ≡ (owned_at d level e).curve)))
       (sym t.edges) (own (get_or steps k no_step).at e f);
 }
 
 pub settled_run : (d : Plan) (level : ℕ) (list : EdgeList) (steps : List Step)
     → IsTubedList d level list → IsSettledAt d level
     → Run (length list.edges.items) (edge_of list.edges.items) steps
-    → IsSettledDrawing d (drawn_bays d level) (length list.edges.items) (edge_of list.edges.items) steps
+    → IsSettledDrawing d (drawn_bays d level) (length list.edges.items)
+    (edge_of list.edges.items) steps
 settled_run d level list steps t s run = record {
   run = tubed_run d level list steps t s.corners run;
   wide = wide d level t.tubes;
-  settled = subst (λ (es : List Edge). IsSettledRun d (drawn_bays d level) (length es) (edge_of es)) (sym t.edges) s.triangles;
+  settled = subst (λ (es : List Edge). IsSettledRun d (drawn_bays d level) (length es) (edge_of es))
+      (sym t.edges) s.triangles;
 }
 
 -- ---- the other way
@@ -74,7 +81,8 @@ step_of_end m E steps e p run l h = by_end h
   where
     at_some : (q : Point) → AtSome q steps → q ≡ p
         → (k : ℕ) × (k < length steps) × ((get_or steps k no_step).at ≡ p)
-    at_some q (s, a, b) c = let i = index_of steps s a in (i.0, i.1, ap (λ (s : Step). s.at) i.2 ∙ sym b ∙ c)
+    at_some q (s, a, b) c =
+        let i = index_of steps s a in (i.0, i.1, ap (λ (s : Step). s.at) i.2 ∙ sym b ∙ c)
 
     by_end : IsEnd (E e) p → (k : ℕ) × (k < length steps) × ((get_or steps k no_step).at ≡ p)
     by_end (inl c) = at_some (E e).low (run.ends e l).0 c
@@ -85,11 +93,14 @@ pub level_settled : (d : Plan) (level : ℕ) (steps : List Step) → HaveTubes d
     → IsSettledAt d level
 level_settled d level steps tubes s = record {
   tubes = tubes;
-  meet = λ e f l k n. run_meets (length (edges_at d level)) (edge_at d level) steps s.run.run e f l k n;
+  meet = λ e f l k n. run_meets (length (edges_at d level))
+      (edge_at d level) steps s.run.run e f l k n;
   corners = λ p e f l k t a b.
       let i = step_of_end (length (edges_at d level)) (edge_at d level) steps e p s.run.run l a in
       subst (λ (q : Point). IsEnd (edge_at d level e) q → IsEnd (edge_at d level f) q
-      → (q ≡ (curve d (owned_at d level e).curve).from) ⊎ ((q ≡ (curve d (owned_at d level e).curve).to) ⊎ ((owned_at d level f).curve ≡ (owned_at d level e).curve)))
+      → (q ≡ (curve d (owned_at d level e).curve).from)
+      ⊎ ((q ≡ (curve d (owned_at d level e).curve).to)
+      ⊎ ((owned_at d level f).curve ≡ (owned_at d level e).curve)))
       i.2 (s.run.corner i.0 e f i.1 l k t) a b;
   triangles = s.settled;
 }
@@ -99,7 +110,8 @@ event_of_point : (table : List Timed) (p : Point) → Has p (map (λ (t : Timed)
     → (k : ℕ) × (k < length table) × ((event_of table k).at ≡ p)
 event_of_point [] p h = absurd h
 event_of_point (t ∷ table) p (inl e) = (0, omega arith, sym e)
-event_of_point (t ∷ table) p (inr h) = let (k, l, e) = event_of_point table p h in (suc k, omega (arith, l), e)
+event_of_point (t ∷ table) p (inr h) =
+    let (k, l, e) = event_of_point table p h in (suc k, omega (arith, l), e)
 
 pub own_corners : (d : Plan) (level : ℕ) (table : List Timed)
     → IsTimetable (length (edges_at d level)) (edge_at d level) table
@@ -107,9 +119,13 @@ pub own_corners : (d : Plan) (level : ℕ) (table : List Timed)
 own_corners d level table h own p e f l k t a b =
     let i = event_of_point table p (by_end a) in
     subst (λ (q : Point). IsEnd (edge_at d level e) q → IsEnd (edge_at d level f) q
-    → (q ≡ (curve d (owned_at d level e).curve).from) ⊎ ((q ≡ (curve d (owned_at d level e).curve).to) ⊎ ((owned_at d level f).curve ≡ (owned_at d level e).curve)))
+    → (q ≡ (curve d (owned_at d level e).curve).from)
+    ⊎ ((q ≡ (curve d (owned_at d level e).curve).to)
+    ⊎ ((owned_at d level f).curve ≡ (owned_at d level e).curve)))
     i.2 (own i.0 i.1 e f l k t) a b
   where
     by_end : IsEnd (edge_at d level e) p → Has p (map (λ (t : Timed). t.at) table)
-    by_end (inl c) = subst (λ (q : Point). Has q (map (λ (t : Timed). t.at) table)) c (h.events.ends e l).0
-    by_end (inr c) = subst (λ (q : Point). Has q (map (λ (t : Timed). t.at) table)) c (h.events.ends e l).1
+    by_end (inl c) =
+        subst (λ (q : Point). Has q (map (λ (t : Timed). t.at) table)) c (h.events.ends e l).0
+    by_end (inr c) =
+        subst (λ (q : Point). Has q (map (λ (t : Timed). t.at) table)) c (h.events.ends e l).1

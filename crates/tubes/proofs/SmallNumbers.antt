@@ -19,19 +19,33 @@ sum_back p q x y h k e f =
     rw (to_z-of_z a, to_z-of_z b, to_z-of_z c, e, f) refl
 
 pub near_less : (m n : ℕ) (a b : ℤ) → m < n + 1 → IsNear m a b → IsNear n a b
-near_less m n a b l h = record { above = omega (arith, ints, h.above, l); below = omega (arith, ints, h.below, l) }
+near_less m n a b l h = record {
+  above = omega (arith, ints, h.above, l);
+  below = omega (arith, ints, h.below, l);
+}
 
 pub near_back : (m : ℕ) (a b : ℤ) → IsNear m a b → IsNear m b a
-near_back m a b h = record { above = omega (arith, ints, h.below); below = omega (arith, ints, h.above) }
+near_back m a b h = record {
+  above = omega (arith, ints, h.below);
+  below = omega (arith, ints, h.above);
+}
 
 -- a product with factors of at most these sizes
 pub product_most : (m n : ℕ) (a b : ℤ) → a ≤ℤ pos m → (pos 0 -ℤ a) ≤ℤ pos m → b ≤ℤ pos n
     → (pos 0 -ℤ b) ≤ℤ pos n
     → ((a *ℤ b) ≤ℤ pos (m * n)) × ((pos 0 -ℤ (a *ℤ b)) ≤ℤ pos (m * n))
-product_most m n (pos a) (pos b) h i j k = let p = mul-le a b m n (omega (arith, ints, h)) (omega (arith, ints, j)) in (omega (arith, ints, p), omega (arith, ints, p))
-product_most m n (pos a) (negsuc b) h i j k = let p = mul-le a (suc b) m n (omega (arith, ints, h)) (omega (arith, ints, k)) in (omega (arith, ints, p), omega (arith, ints, p))
-product_most m n (negsuc a) (pos b) h i j k = let p = mul-le (suc a) b m n (omega (arith, ints, i)) (omega (arith, ints, j)) in (omega (arith, ints, p), omega (arith, ints, p))
-product_most m n (negsuc a) (negsuc b) h i j k = let p = mul-le (suc a) (suc b) m n (omega (arith, ints, i)) (omega (arith, ints, k)) in (omega (arith, ints, p), omega (arith, ints, p))
+product_most m n (pos a) (pos b) h i j k =
+    let p = mul-le a b m n (omega (arith, ints, h)) (omega (arith, ints, j)) in
+    (omega (arith, ints, p), omega (arith, ints, p))
+product_most m n (pos a) (negsuc b) h i j k =
+    let p = mul-le a (suc b) m n (omega (arith, ints, h)) (omega (arith, ints, k)) in
+    (omega (arith, ints, p), omega (arith, ints, p))
+product_most m n (negsuc a) (pos b) h i j k =
+    let p = mul-le (suc a) b m n (omega (arith, ints, i)) (omega (arith, ints, j)) in
+    (omega (arith, ints, p), omega (arith, ints, p))
+product_most m n (negsuc a) (negsuc b) h i j k =
+    let p = mul-le (suc a) (suc b) m n (omega (arith, ints, i)) (omega (arith, ints, k)) in
+    (omega (arith, ints, p), omega (arith, ints, p))
 
 -- a divisor that is above 0 and small
 pub some_divisor : (d : ℤ) → pos 0 <ℤ d → d <ℤ pos (2 ^ 62) → 0 < of_z w64 d

@@ -1,4 +1,5 @@
--- What the corners of a half arc's tube are: as many as the level says, on their sides, and the end of the half arc last.
+-- What the corners of a half arc's tube are: as many as the level says, on their sides, and the end
+-- of the half arc last.
 use Rattle.std.proofs.Common.{rules, ◌≡◌, ◌⊎◌, inl, inr, ℕ, zero, suc, ◌+◌, ◌*◌, ◌^◌, ◌<◌, ◌≤◌}
 use Rattle.std.proofs.Common.{Bool, true, false, cond, nat_lt, Option, None, Some, List, [], ◌∷◌}
 use Rattle.std.proofs.Common.{length, ℤ, pos, negsuc, ◌-ℤ◌, ◌<ℤ◌, ◌*ℤ◌, arith, ap, refl, sym, ◌∙◌}
@@ -42,7 +43,8 @@ root_is (suc n) = by_test (nat_lt (suc n) (suc (root n) * suc (root n))) refl (r
   where
     by_test : (b : Bool) → nat_lt (suc n) (suc (root n) * suc (root n)) ≡ b
         → (root n * root n ≤ n) × (n < suc (root n) * suc (root n))
-        → (cond b (root n) (suc (root n)) * cond b (root n) (suc (root n)) ≤ suc n) × (suc n < suc (cond b (root n) (suc (root n))) * suc (cond b (root n) (suc (root n))))
+        → (cond b (root n) (suc (root n)) * cond b (root n) (suc (root n)) ≤ suc n)
+        × (suc n < suc (cond b (root n) (suc (root n))) * suc (cond b (root n) (suc (root n))))
     by_test true e h = (omega (arith, h.0), below (suc n) _ e)
     by_test false e h = (above (suc n) _ e, greater (root n) n h.1)
 
@@ -76,11 +78,15 @@ count_is_inside h p q k e = by_first _ e
     by_second : (t : Bool) → is_inside h p q 0 ≡ t
         → cond t (Some (with_bits (is_inside h p q) 27 0)) None ≡ Some k
         → power h (point (beside h p q (pos k -ℤ pos 2))) <ℤ pos 0
-    by_second true f g = negative_is _ (subst (λ (n : ℕ). is_inside h p q n ≡ true) (some_same _ _ g) (counted (is_inside h p q) 27 0 f))
+    by_second true f g =
+        negative_is _
+        (subst (λ (n : ℕ). is_inside h p q n ≡ true) (some_same _ _ g)
+        (counted (is_inside h p q) 27 0 f))
     by_second false f g = cc
 
     by_first : (t : Bool)
-        → cond t (cond (is_inside h p q 0) (Some (with_bits (is_inside h p q) 27 0)) None) None ≡ Some k
+        → cond t (cond (is_inside h p q 0) (Some (with_bits (is_inside h p q) 27 0)) None) None
+        ≡ Some k
         → power h (point (beside h p q (pos k -ℤ pos 2))) <ℤ pos 0
     by_first true f = by_second (is_inside h p q 0) refl f
     by_first false f = cc
@@ -104,7 +110,8 @@ last_more P x y (z ∷ xs) f g = f (omega arith)
 refined : (h : HalfArc) (p : Point) (vs ws : List Point) → refine h p vs ≡ Some ws
     → Each (IsInner h) vs → Last (λ v. v ≡ h.to) vs → AreRefined h (length vs + length vs) ws
 unfolding refine
-refined h p [] ws e s l = subst (AreRefined h 0) (some_same _ _ e) (record { size = refl; sides = tt; end = tt })
+refined h p [] ws e s l =
+    subst (AreRefined h 0) (some_same _ _ e) (record { size = refl; sides = tt; end = tt })
 refined h p (q ∷ vs) ws e s l =
     let (k, ek, f) = taken (count h p q) _ ws e in
     let (rest, er, g) = taken (refine h q vs) _ ws f in
@@ -132,7 +139,12 @@ refined h p (q ∷ vs) ws e s l =
 pub inner_are : (h : HalfArc) (n : ℕ) (vs : List Point) → inner_points h n ≡ Some vs
     → AreRefined h (2 ^ n) vs
 unfolding inner_points
-inner_are h zero vs e = subst (AreRefined h 1) (some_same _ _ e) (record { size = refl; sides = (inr refl, tt); end = refl })
+inner_are h zero vs e =
+    subst (AreRefined h 1) (some_same _ _ e) (record {
+      size = refl;
+      sides = (inr refl, tt);
+      end = refl;
+    })
 inner_are h (suc n) vs e =
     let (us, eu, f) = taken (inner_points h n) _ vs e in
     let r = inner_are h n us eu in
@@ -149,7 +161,8 @@ inner_in_disk h n vs e = each vs (inner_are h n vs e).sides
   where
     one : (v : Point) → IsInner h v → IsInDisk h v
     one v (inl k) = omega (arith, ints, k)
-    one v (inr e) = let z = ap (λ v. power h (point v)) e in let t = power-to h in omega (arith, ints, z, t)
+    one v (inr e) =
+        let z = ap (λ v. power h (point v)) e in let t = power-to h in omega (arith, ints, z, t)
 
     each : (us : List Point) → Each (IsInner h) us → Each (IsInDisk h) us
     each [] k = tt
@@ -211,7 +224,9 @@ power_positive (suc k) = let h = power_positive k in omega (arith, h)
 -- ---- the tube
 pub tube_count : (h : HalfArc) (level : ℕ) (inner outer : List Point) → IsTubeOf h level inner outer
     → length (bays inner outer) ≡ 2 ^ (level + 1)
-tube_count h level inner outer t = bays_size inner outer (outer_size h h.from inner outer t.outer_made) ∙ (inner_are h (level + 1) inner t.inner_made).size
+tube_count h level inner outer t =
+    bays_size inner outer (outer_size h h.from inner outer t.outer_made)
+    ∙ (inner_are h (level + 1) inner t.inner_made).size
 
 pub tube_is : (h : HalfArc) (level : ℕ) (inner outer : List Point) → IsTubeOf h level inner outer
     → IsTube h (bays inner outer)
@@ -228,12 +243,15 @@ tube_is h level inner outer t =
       inside = bays_each (IsInner h) inner outer r.sides;
       first_clear = t.first_clear;
       last_clear = t.last_clear;
-      some = some_bay (bays inner outer) (subst (λ (k : ℕ). 0 < k) (sym m) (power_positive (level + 1)));
+      some = some_bay (bays inner outer)
+          (subst (λ (k : ℕ). 0 < k) (sym m) (power_positive (level + 1)));
     }
 
 pub tube_near : (h : HalfArc) (level : ℕ) (inner outer : List Point) → IsTubeOf h level inner outer
-    → Each (λ b. AreNear (2 ^ 28) h.from b.outer × AreNear (2 ^ 28) h.from b.inner) (bays inner outer)
-tube_near h level inner outer t = bays_both (AreNear (2 ^ 28) h.from) inner outer t.inner_near t.outer_near
+    → Each (λ b. AreNear (2 ^ 28) h.from b.outer × AreNear (2 ^ 28) h.from b.inner)
+    (bays inner outer)
+tube_near h level inner outer t =
+    bays_both (AreNear (2 ^ 28) h.from) inner outer t.inner_near t.outer_near
 
 pub one_tube : (h : HalfArc) (level : ℕ) (inner outer inner_too outer_too : List Point)
     → IsTubeOf h level inner outer → IsTubeOf h level inner_too outer_too

@@ -34,19 +34,28 @@ pub record IsAbout (low high p : Point) : Type 0 where
 pub about_close : (low high p q : Point) → IsNarrow low high → IsAbout low high p
     → IsAbout low high q → AreClose p q
 about_close low high p q n a b = record {
-  x = close low.x high.x a.inside.x b.inside.x p.x q.x n.x a.there.left a.there.right b.there.left b.there.right a.near.x b.near.x;
-  y = close low.y high.y a.inside.y b.inside.y p.y q.y n.y a.there.bottom a.there.top b.there.bottom b.there.top a.near.y b.near.y;
+  x = close low.x high.x a.inside.x b.inside.x p.x q.x n.x a.there.left a.there.right b.there.left
+      b.there.right a.near.x b.near.x;
+  y = close low.y high.y a.inside.y b.inside.y p.y q.y n.y a.there.bottom a.there.top b.there.bottom
+      b.there.top a.near.y b.near.y;
 }
   where
     close : (l h v w p q : ℤ) → (h -ℤ l) <ℤ pos (2 ^ 40) → l ≤ℤ v → v ≤ℤ h → l ≤ℤ w → w ≤ℤ h
         → IsNear (2 ^ 28) v p → IsNear (2 ^ 28) w q → IsNear (2 ^ 41) p q
-    close l h v w p q n a b c d e f = record { above = omega (arith, ints, n, a, b, c, d, e.above, e.below, f.above, f.below); below = omega (arith, ints, n, a, b, c, d, e.above, e.below, f.above, f.below) }
+    close l h v w p q n a b c d e f =
+        record {
+          above = omega (arith, ints, n, a, b, c, d, e.above, e.below, f.above, f.below);
+          below = omega (arith, ints, n, a, b, c, d, e.above, e.below, f.above, f.below);
+        }
 
 pub inside_about : (low high p : Point) → IsInside low high p → IsAbout low high p
 inside_about low high p h = record {
   inside = p;
   there = h;
-  near = record { x = record { above = omega (arith, ints); below = omega (arith, ints) }; y = record { above = omega (arith, ints); below = omega (arith, ints) } };
+  near = record {
+    x = record { above = omega (arith, ints); below = omega (arith, ints) };
+    y = record { above = omega (arith, ints); below = omega (arith, ints) };
+  };
 }
 
 -- ---- edges
@@ -61,8 +70,16 @@ good_edge low high p q n a b = let r = edge_ends p q n in by_ends r.0 r.1
   where
     by_ends : Before (edge_from p q).low (edge_from p q).high → HasEnds (edge_from p q) p q
         → IsGood low high (edge_from p q)
-    by_ends s (inl h) = record { sorted = s; first = subst (IsAbout low high) (sym h.0) a; second = subst (IsAbout low high) (sym h.1) b }
-    by_ends s (inr h) = record { sorted = s; first = subst (IsAbout low high) (sym h.0) b; second = subst (IsAbout low high) (sym h.1) a }
+    by_ends s (inl h) = record {
+      sorted = s;
+      first = subst (IsAbout low high) (sym h.0) a;
+      second = subst (IsAbout low high) (sym h.1) b;
+    }
+    by_ends s (inr h) = record {
+      sorted = s;
+      first = subst (IsAbout low high) (sym h.0) b;
+      second = subst (IsAbout low high) (sym h.1) a;
+    }
 
 pub each_app : {X : Type 0} (P : X → Type 0) (xs ys : List X) → Each P xs → Each P ys
     → Each P (xs ++ ys)
@@ -76,12 +93,16 @@ each_map P f (x ∷ xs) h = (h.0, each_map P f xs h.1)
 
 -- by the curves from number i on
 pub each_owned : (P : runs.Owned → Type 0) (B : ℕ → List Bay) (z : Curve) (cs : List Curve) (i : ℕ)
-    → ((k : ℕ) → k < length cs → Each P (runs.edges_of (i + k) (get_or cs k z).kind (get_or cs k z) (B (i + k))))
+    → ((k : ℕ) → k < length cs
+    → Each P (runs.edges_of (i + k) (get_or cs k z).kind (get_or cs k z) (B (i + k))))
     → Each P (runs.edge_list B i cs)
 each_owned P B z [] i h = tt
 each_owned P B z (c ∷ cs) i h =
-    each_app P (runs.edges_of i c.kind c (B i)) (runs.edge_list B (suc i) cs) (subst (λ n. Each P (runs.edges_of n c.kind c (B n))) (none i) (h 0 (omega arith)))
-    (each_owned P B z cs (suc i) (λ k l. subst (λ n. Each P (runs.edges_of n (get_or cs k z).kind (get_or cs k z) (B n))) (later i k) (h (suc k) (omega (arith, l)))))
+    each_app P (runs.edges_of i c.kind c (B i)) (runs.edge_list B (suc i) cs)
+    (subst (λ n. Each P (runs.edges_of n c.kind c (B n))) (none i) (h 0 (omega arith)))
+    (each_owned P B z cs (suc i)
+    (λ k l. subst (λ n. Each P (runs.edges_of n (get_or cs k z).kind (get_or cs k z) (B n)))
+    (later i k) (h (suc k) (omega (arith, l)))))
   where
     none : (i : ℕ) → i + 0 ≡ i
     none i = omega arith
@@ -96,7 +117,8 @@ module _ (low high : Point) where
   good_chain : (i : ℕ) (part : runs.Part) (p : Point) (qs : List Point) → AreDistinct p qs
       → IsAbout low high p → Each (IsAbout low high) qs → Each IsGoodOwned (runs.chain i part p qs)
   good_chain i part p [] d a h = tt
-  good_chain i part p (q ∷ qs) d a h = (good_edge low high p q d.0 a h.0, good_chain i part q qs d.1 h.0 h.1)
+  good_chain i part p (q ∷ qs) d a h =
+      (good_edge low high p q d.0 a h.0, good_chain i part q qs d.1 h.0 h.1)
 
   pub about_each : (p : Point) (vs : List Point) → IsInside low high p
       → Each (AreNear (2 ^ 28) p) vs → Each (IsAbout low high) vs
@@ -110,7 +132,9 @@ module _ (low high : Point) where
     where
       by_kind : (k : CurveKind) → c.kind ≡ k
           → Each IsGoodOwned (runs.edges_of i k c (bays_at (arc c) level))
-      by_kind kind.Straight e = good_chain i runs.whole c.from (c.to ∷ []) (d.distinct, tt) (inside_about low high c.from d.from) (inside_about low high c.to d.to, tt)
+      by_kind kind.Straight e =
+          good_chain i runs.whole c.from (c.to ∷ []) (d.distinct, tt)
+          (inside_about low high c.from d.from) (inside_about low high c.to d.to, tt)
       by_kind kind.HalfArc e = by_tube (t e)
         where
           by_tube : HasTube (arc c) level
@@ -118,9 +142,14 @@ module _ (low high : Point) where
           by_tube (vs, os, m) =
               let s = chains_distinct (arc c) level vs os m in
               let a = inside_about low high c.from d.from in
-              subst (Each IsGoodOwned) (sym (owned_are i c level vs os m)) (each_app IsGoodOwned (runs.chain i runs.inner c.from vs) (runs.chain i runs.outer c.from (os ++ c.to ∷ []))
+              subst (Each IsGoodOwned) (sym (owned_are i c level vs os m))
+              (each_app IsGoodOwned (runs.chain i runs.inner c.from vs)
+              (runs.chain i runs.outer c.from (os ++ c.to ∷ []))
               (good_chain i runs.inner c.from vs s.0 a (about_each c.from vs d.from m.inner_near))
-              (good_chain i runs.outer c.from (os ++ c.to ∷ []) s.1 a (each_app (IsAbout low high) os (c.to ∷ []) (about_each c.from os d.from m.outer_near) (inside_about low high c.to d.to, tt))))
+              (good_chain i runs.outer c.from (os ++ c.to ∷ []) s.1 a
+              (each_app (IsAbout low high) os (c.to ∷ [])
+              (about_each c.from os d.from m.outer_near)
+              (inside_about low high c.to d.to, tt))))
 
   pub edge_at : (es : List Edge) (e : ℕ) → e < length es → Each (IsGood low high) es
       → IsGood low high (edge_of es e)
@@ -131,13 +160,19 @@ module _ (low high : Point) where
 pub usable : (d : Plan) (level : ℕ) (edges : List Edge)
     → All (λ (c : Curve). IsDrawn d.window.low d.window.high c) d.curves
     → All (λ (p : Placed). IsInside d.window.low d.window.high p.at) d.points
-    → ((i : ℕ) → IsHalfArc d i → HasTube (arc (curve d i)) level) → edges ≡ map edge_as (runs.edge_list (drawn_bays d level) 0 d.curves) → AreUsable d edges
+    → ((i : ℕ) → IsHalfArc d i → HasTube (arc (curve d i)) level)
+    → edges ≡ map edge_as (runs.edge_list (drawn_bays d level) 0 d.curves) → AreUsable d edges
 usable d level edges drawn points tubes e =
     let low = d.window.low in
     let high = d.window.high in
-    let g = each_owned (IsGoodOwned low high) (drawn_bays d level) _ d.curves 0 (λ k l. subst (λ n. Each (IsGoodOwned low high) (runs.edges_of n (curve d k).kind (curve d k) (drawn_bays d level n))) (first k)
-    (good_curve low high k (curve d k) level (drawn k _ l) (λ h. tubes k (record { there = l; kind = h })))) in
-    let all : Each (IsGood low high) edges = subst (Each (IsGood low high)) (sym e) (each_map (IsGood low high) edge_as (runs.edge_list (drawn_bays d level) 0 d.curves) g) in
+    let g = each_owned (IsGoodOwned low high) (drawn_bays d level) _ d.curves 0
+    (λ k l. subst
+    (λ n. Each (IsGoodOwned low high)
+    (runs.edges_of n (curve d k).kind (curve d k) (drawn_bays d level n))) (first k)
+    (good_curve low high k (curve d k) level (drawn k _ l)
+    (λ h. tubes k (record { there = l; kind = h })))) in
+    let all : Each (IsGood low high) edges = subst (Each (IsGood low high)) (sym e)
+    (each_map (IsGood low high) edge_as (runs.edge_list (drawn_bays d level) 0 d.curves) g) in
     let close = about_close low high in
     let n = d.window.narrow in record {
       sorted = λ i l. (edge_at low high edges i l all).sorted;
@@ -153,7 +188,8 @@ usable d level edges drawn points tubes e =
           };
       points = λ j l. record {
         ends = λ i m. let a = edge_at low high edges i m all in close _ _ n a.first a.second;
-        point = λ i m. let a = edge_at low high edges i m all in close _ _ n a.first (inside_about low high (object d j) (points j _ l));
+        point = λ i m. let a = edge_at low high edges i m all in
+            close _ _ n a.first (inside_about low high (object d j) (points j _ l));
       };
     }
   where

@@ -38,15 +38,19 @@ nth_cell (c ∷ cells) (suc k) x l = inr (nth_cell cells k x (omega (arith, l)))
 
 module _ (facings : List Facing) (owners : List Owner) where
   pub all_cells : (cells : List Cell)
-      → ((k : ℕ) (x : Cell) → k < length cells → IsPaired facings owners (gap_of (get_or cells k x)))
+      → ((k : ℕ) (x : Cell) → k < length cells
+      → IsPaired facings owners (gap_of (get_or cells k x)))
       → ArePaired facings owners (gaps_of cells)
   all_cells [] h g m = absurd m
   all_cells (c ∷ cells) h g (inl e) = subst (IsPaired facings owners) (sym e) (h 0 c (omega arith))
   all_cells (c ∷ cells) h g (inr m) = all_cells cells (λ k x l. h (suc k) x (omega (arith, l))) g m
 
 -- ---- the run of a level's edges
-module _ (d : Plan) (level : ℕ) (facings : List Facing) (told : AreFacings d level facings) (owners : List Owner) (are : owners ≡ map owner_as (runs.edge_list (drawn_bays d level) 0 d.curves))
-    (vs : List Move) (fit : Fit [] vs) (run : Run (length (edges_at d level)) (edge_at d level) (steps_from [] vs)) where
+module _ (d : Plan) (level : ℕ) (facings : List Facing) (told : AreFacings d level facings)
+    (owners : List Owner) (are : owners
+    ≡ map owner_as (runs.edge_list (drawn_bays d level) 0 d.curves))
+    (vs : List Move) (fit : Fit [] vs)
+    (run : Run (length (edges_at d level)) (edge_at d level) (steps_from [] vs)) where
   abbrev m : ℕ
   m = length (edges_at d level)
 
@@ -75,14 +79,18 @@ module _ (d : Plan) (level : ℕ) (facings : List Facing) (told : AreFacings d l
 
     at_border : (h : Half) → AtBorder vs h → face h ≡ 0
     at_border (under e) (c, has, low, up) =
-        sym (tagged (under e) (within c e has (inr up))) ∙ sym (ap (tag_under facings owners) up) ∙ sym (paired c has) ∙ ap (tag_over facings owners) low
+        sym (tagged (under e) (within c e has (inr up))) ∙ sym (ap (tag_under facings owners) up)
+        ∙ sym (paired c has) ∙ ap (tag_over facings owners) low
     at_border (over e) (c, has, low, up) =
-        sym (tagged (over e) (within c e has (inl low))) ∙ sym (ap (tag_over facings owners) low) ∙ paired c has ∙ ap (tag_under facings owners) up
+        sym (tagged (over e) (within c e has (inl low))) ∙ sym (ap (tag_over facings owners) low)
+        ∙ paired c has ∙ ap (tag_under facings owners) up
 
     pub cells_paired : AreCellsPaired d (drawn_bays d level) (replay (pos 0) m E (steps_from [] vs))
     cells_paired = record {
-      across = λ g h x. by_gap g h (across_gap vs fit (run_leaves_none m E vs run) (pos 0) m E g h x);
-      border = λ h x. at_border h (touches_border vs fit (run_leaves_none m E vs run) (pos 0) m E h x);
+      across = λ g h x. by_gap g h
+          (across_gap vs fit (run_leaves_none m E vs run) (pos 0) m E g h x);
+      border = λ h x. at_border h
+          (touches_border vs fit (run_leaves_none m E vs run) (pos 0) m E h x);
     }
       where
         by_gap : (g h : Half) → (g ≡ h) ⊎ (GapBetween vs g h ⊎ GapBetween vs h g) → face g ≡ face h
@@ -91,36 +99,54 @@ module _ (d : Plan) (level : ℕ) (facings : List Facing) (told : AreFacings d l
         by_gap g h (inr (inr b)) = sym (between h g b)
 
   -- and they do, where the cells of the replay pair
-  module _ (pairs : AreCellsPaired d (drawn_bays d level) (replay (pos 0) m E (steps_from [] vs))) where
+  module _ (pairs : AreCellsPaired d (drawn_bays d level)
+      (replay (pos 0) m E (steps_from [] vs))) where
     no_tube : (h : Half) → AtBorder vs h → face h ≡ 0
-    no_tube h c = pairs.border h (border_touches vs fit (run_leaves_none m E vs run) (pos 0) m E h c)
+    no_tube h c =
+        pairs.border h (border_touches vs fit (run_leaves_none m E vs run) (pos 0) m E h c)
 
     one_tube : (g h : Half) → GapBetween vs g h → face g ≡ face h
-    one_tube g h c = pairs.across g h (gap_across vs fit (run_leaves_none m E vs run) (pos 0) m E g h c)
+    one_tube g h c =
+        pairs.across g h (gap_across vs fit (run_leaves_none m E vs run) (pos 0) m E g h c)
 
     by_sides : (g : Gap) (l u : Option ℕ) → Has g (closed_gaps vs) → g.lower ≡ l → g.upper ≡ u
         → tag_over facings owners l ≡ tag_under facings owners u
     by_sides g None None has low up = refl
-    by_sides g None (Some e) has low up = sym (tagged (under e) (within g e has (inr up)) ∙ no_tube (under e) (g, has, low, up))
-    by_sides g (Some e) None has low up = tagged (over e) (within g e has (inl low)) ∙ no_tube (over e) (g, has, low, up)
-    by_sides g (Some a) (Some b) has low up = tagged (over a) (within g a has (inl low)) ∙ one_tube (over a) (under b) (g, has, low, up) ∙ sym (tagged (under b) (within g b has (inr up)))
+    by_sides g None (Some e) has low up =
+        sym (tagged (under e) (within g e has (inr up)) ∙ no_tube (under e) (g, has, low, up))
+    by_sides g (Some e) None has low up =
+        tagged (over e) (within g e has (inl low)) ∙ no_tube (over e) (g, has, low, up)
+    by_sides g (Some a) (Some b) has low up =
+        tagged (over a) (within g a has (inl low)) ∙ one_tube (over a) (under b) (g, has, low, up)
+        ∙ sym (tagged (under b) (within g b has (inr up)))
 
     pub gaps_paired : ArePaired facings owners (closed_gaps vs)
     gaps_paired g has = by_sides g g.lower g.upper has refl refl
 
 -- ---- one level
--- The tubes are wide, the run is one with tubes, and a settled run settles the level: as the law of settled levels says.
-module _ (d : Plan) (level : ℕ) (list : EdgeList) (t : IsTubedList d level list) (facings : List Facing) (told : AreFacings d level facings) (vs : List Move) (fit : Fit [] vs)
-    (wide : AreWide d (drawn_bays d level)) (tubed : runs.IsTubedRun d (drawn_bays d level) (length list.edges.items) (edge_of list.edges.items) (steps_from [] vs))
-    (level_settled : IsSettledDrawing d (drawn_bays d level) (length (edges_at d level)) (edge_at d level) (steps_from [] vs) → IsSettledAt d level) (paired : ArePaired facings list.owners.items (closed_gaps vs)) (low : level ≤ 5) where
-  own_tubes : runs.IsTubedRun d (drawn_bays d level) (length (edges_at d level)) (edge_at d level) (steps_from [] vs)
-  own_tubes = subst (λ (es : List Edge). runs.IsTubedRun d (drawn_bays d level) (length es) (edge_of es) (steps_from [] vs)) t.edges tubed
+-- The tubes are wide, the run is one with tubes, and a settled run settles the level: as the law of
+-- settled levels says.
+module _ (d : Plan) (level : ℕ) (list : EdgeList) (t : IsTubedList d level list)
+    (facings : List Facing) (told : AreFacings d level facings) (vs : List Move) (fit : Fit [] vs)
+    (wide : AreWide d (drawn_bays d level))
+    (tubed : runs.IsTubedRun d (drawn_bays d level) (length list.edges.items)
+    (edge_of list.edges.items) (steps_from [] vs))
+    (level_settled : IsSettledDrawing d (drawn_bays d level) (length (edges_at d level))
+    (edge_at d level) (steps_from [] vs) → IsSettledAt d level)
+    (paired : ArePaired facings list.owners.items (closed_gaps vs)) (low : level ≤ 5) where
+  own_tubes : runs.IsTubedRun d (drawn_bays d level) (length (edges_at d level)) (edge_at d level)
+      (steps_from [] vs)
+  own_tubes = subst
+      (λ (es : List Edge). runs.IsTubedRun d (drawn_bays d level) (length es) (edge_of es)
+      (steps_from [] vs)) t.edges tubed
 
-  settled : IsSettledDrawing d (drawn_bays d level) (length (edges_at d level)) (edge_at d level) (steps_from [] vs)
+  settled : IsSettledDrawing d (drawn_bays d level) (length (edges_at d level)) (edge_at d level)
+      (steps_from [] vs)
   settled = record {
     run = own_tubes;
     wide = wide;
-    settled = paired_settle d (drawn_bays d level) (length (edges_at d level)) (edge_at d level) (steps_from [] vs) own_tubes wide (pos 0)
+    settled = paired_settle d (drawn_bays d level) (length (edges_at d level)) (edge_at d level)
+        (steps_from [] vs) own_tubes wide (pos 0)
         (cells_paired d level facings told list.owners.items t.owners vs fit own_tubes.run paired);
   }
 
@@ -141,19 +167,30 @@ module _ (d : Plan) (level : ℕ) (list : EdgeList) (t : IsTubedList d level lis
 -- A level that settles the drawing pairs the cells of its run.
 pub settled_pairs : (d : Plan) (level : ℕ) (list : EdgeList) → IsTubedList d level list
     → (facings : List Facing) → AreFacings d level facings → (vs : List Move) → Fit [] vs
-    → IsSettledDrawing d (drawn_bays d level) (length list.edges.items) (edge_of list.edges.items) (steps_from [] vs)
-    → ((m : ℕ) (E : ℕ → Edge) → IsSettledDrawing d (drawn_bays d level) m E (steps_from [] vs) → AreCellsPaired d (drawn_bays d level) (replay (pos 0) m E (steps_from [] vs))) → ArePaired facings list.owners.items (closed_gaps vs)
+    → IsSettledDrawing d (drawn_bays d level) (length list.edges.items) (edge_of list.edges.items)
+    (steps_from [] vs)
+    → ((m : ℕ) (E : ℕ → Edge) → IsSettledDrawing d (drawn_bays d level) m E (steps_from [] vs)
+    → AreCellsPaired d (drawn_bays d level) (replay (pos 0) m E (steps_from [] vs)))
+    → ArePaired facings list.owners.items (closed_gaps vs)
 settled_pairs d level list t facings told vs fit settled law =
-    let s : IsSettledDrawing d (drawn_bays d level) (length (edges_at d level)) (edge_at d level) (steps_from [] vs) = subst (λ (es : List Edge). IsSettledDrawing d (drawn_bays d level) (length es) (edge_of es) (steps_from [] vs)) t.edges settled in
-    gaps_paired d level facings told list.owners.items t.owners vs fit s.run.run (law (length (edges_at d level)) (edge_at d level) s)
+    let s : IsSettledDrawing d (drawn_bays d level) (length (edges_at d level)) (edge_at d level)
+    (steps_from [] vs) =
+    subst (λ (es : List Edge). IsSettledDrawing d (drawn_bays d level) (length es) (edge_of es)
+    (steps_from [] vs)) t.edges settled in
+    gaps_paired d level facings told list.owners.items t.owners vs fit s.run.run
+    (law (length (edges_at d level)) (edge_at d level) s)
 
 -- ---- the owners of edges have curves of the drawing
 pub curves_below : (d : Plan) (level : ℕ) (list : EdgeList) (facings : List Facing)
     → AreFacings d level facings → IsTubedList d level list → length d.curves < 2 ^ 30
-    → ((e : ℕ) → e < length (edges_at d level) → (owned_at d level e).curve < length d.curves) → (e : ℕ) → e < length list.owners.items → (owner_at list.owners.items e).curve < 2 ^ 30
+    → ((e : ℕ) → e < length (edges_at d level) → (owned_at d level e).curve < length d.curves)
+    → (e : ℕ) → e < length list.owners.items → (owner_at list.owners.items e).curve < 2 ^ 30
 curves_below d level list facings told t few within e l =
-    let k : e < length (edges_at d level) = (let q = owner_count d level facings told list.owners.items t.owners in omega (arith, l, q)) in
-    let o = ap (λ (x : Owner). x.curve) (owner_is d level facings told list.owners.items t.owners e k) in
+    let k : e < length (edges_at d level) =
+    (let q = owner_count d level facings told list.owners.items t.owners in
+    omega (arith, l, q)) in
+    let o = ap (λ (x : Owner). x.curve)
+    (owner_is d level facings told list.owners.items t.owners e k) in
     let c = within e k in
     omega (arith, o, c, few)
 
@@ -179,15 +216,19 @@ unfit b f e p = clash b (f.1 p) e
     clash b t e = cc
 
 -- ---- the same pairs by other names of the lists
-pub paired_level : (facings other : List Facing) (owners named : List Owner) (cells told : List Cell) (vs : List Move)
-    → facings ≡ other → owners ≡ named → cells ≡ told → gaps_of told ≡ closed_gaps vs → ArePaired facings owners (gaps_of cells) → ArePaired other named (closed_gaps vs)
+pub paired_level : (facings other : List Facing) (owners named : List Owner)
+    (cells told : List Cell) (vs : List Move)
+    → facings ≡ other → owners ≡ named → cells ≡ told → gaps_of told ≡ closed_gaps vs
+    → ArePaired facings owners (gaps_of cells) → ArePaired other named (closed_gaps vs)
 paired_level facings other owners named cells told vs f o c g h =
     subst (λ (fs : List Facing). ArePaired fs named (closed_gaps vs)) f
     (subst (λ (os : List Owner). ArePaired facings os (closed_gaps vs)) o
     (subst (ArePaired facings owners) (ap gaps_of c ∙ g) h))
 
-pub paired_lent : (facings other : List Facing) (owners named : List Owner) (cells told : List Cell) (vs : List Move)
-    → facings ≡ other → owners ≡ named → cells ≡ told → gaps_of told ≡ closed_gaps vs → ArePaired other named (closed_gaps vs) → ArePaired facings owners (gaps_of cells)
+pub paired_lent : (facings other : List Facing) (owners named : List Owner) (cells told : List Cell)
+    (vs : List Move)
+    → facings ≡ other → owners ≡ named → cells ≡ told → gaps_of told ≡ closed_gaps vs
+    → ArePaired other named (closed_gaps vs) → ArePaired facings owners (gaps_of cells)
 paired_lent facings other owners named cells told vs f o c g h =
     subst (λ (fs : List Facing). ArePaired fs owners (gaps_of cells)) (sym f)
     (subst (λ (os : List Owner). ArePaired other os (gaps_of cells)) (sym o)

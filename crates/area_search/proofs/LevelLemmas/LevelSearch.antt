@@ -41,14 +41,19 @@ none_of_both d f g i j p =
 pub straights_clear : (d : Plan)
     → ((i j : ℕ) → AreBothStraight (curve d i) (curve d j) → IsBadPair d i j → ⊥)
     → HasNoBadStraights d
-straights_clear d f i j si sj l b = f i j (si.kind, sj.kind) (record { order = l; there = sj.there; bad = b })
+straights_clear d f i j si sj l b =
+    f i j (si.kind, sj.kind) (record { order = l; there = sj.there; bad = b })
 
 pub none_of_all : (d : Plan) → HasNoBadStraights d → ((i j : ℕ) → IsArcPair d i j → ⊥) → (i j : ℕ)
     → IsBadPair d i j → ⊥
 none_of_all d f g = none_of_both d both g
   where
     both : (i j : ℕ) → AreBothStraight (curve d i) (curve d j) → IsBadPair d i j → ⊥
-    both i j s p = f i j (record { there = (let o = p.order in let t = p.there in omega (arith, o, t)); kind = s.0 }) (record { there = p.there; kind = s.1 }) p.order p.bad
+    both i j s p =
+        f i j (record {
+          there = (let o = p.order in let t = p.there in omega (arith, o, t));
+          kind = s.0;
+        }) (record { there = p.there; kind = s.1 }) p.order p.bad
 
 -- ---- levels
 -- six levels that do not settle
@@ -56,7 +61,8 @@ pub six_unsettled : (d : Plan) (k : ℕ) → 6 ≤ k → SettlesNoneBelow d k �
 six_unsettled d k m none l low s = none l (omega (arith, low, m)) s
 
 -- ---- the edges at a level that settles
-module _ (d : Plan) (level : ℕ) (list : EdgeList) (edges_are : list.edges.items ≡ edges_at d level) where
+module _ (d : Plan) (level : ℕ) (list : EdgeList)
+    (edges_are : list.edges.items ≡ edges_at d level) where
   pub never_bad : IsSettledAt d level → ((a b : Edge) → Bad a b → Disjoint a b → ⊥)
       → ((a b : Edge) → Bad a b → Touch a b → ⊥) → (edges : List Edge) → edges ≡ list.edges.items
       → (e f : ℕ) → AreBad edges e f → ⊥
@@ -74,7 +80,10 @@ module _ (d : Plan) (level : ℕ) (list : EdgeList) (edges_are : list.edges.item
 pub owners_there : (d : Plan) (level : ℕ) (list : EdgeList) (owners : List Owner)
     → owners ≡ list.owners.items → length list.owners.items ≡ length list.edges.items
     → list.edges.items ≡ edges_at d level
-    → ((e : ℕ) → e < length list.edges.items → owner_at list.owners.items e ≡ owner_as (owned_at d level e)) → ((e : ℕ) → e < length (edges_at d level) → (owned_at d level e).curve < length d.curves) → AreOfCurves d owners
+    → ((e : ℕ) → e < length list.edges.items
+    → owner_at list.owners.items e ≡ owner_as (owned_at d level e))
+    → ((e : ℕ) → e < length (edges_at d level) → (owned_at d level e).curve < length d.curves)
+    → AreOfCurves d owners
 owners_there d level list owners same size edges_are each there e l =
     let m : e < length list.owners.items = subst (λ (os : List Owner). e < length os) same l in
     let n : e < length list.edges.items = omega (arith, m, size) in

@@ -46,7 +46,8 @@ nth_move (v ∷ vs) (suc k) l = inr (nth_move vs k (omega (arith, l)))
 
 pub one_own : (d : Plan) (list : EdgeList) (vs : List Move) (n : ℕ) → AreOwn d list vs n
     → HasOwnCorners d list vs n → AreOwn d list vs (n + 1)
-one_own d list vs n h k e l = less_or e n (HasOwnCorners d list vs e) l (h e) (λ q. subst (HasOwnCorners d list vs) (sym q) k)
+one_own d list vs n h k e l =
+    less_or e n (HasOwnCorners d list vs e) l (h e) (λ q. subst (HasOwnCorners d list vs) (sym q) k)
 
 two_of : (xs : List ℕ) (a b c : ℕ) → length xs ≡ 2 → Has a xs → Has b xs → Has c xs → (a ≡ b → ⊥)
     → (c ≡ a) ⊎ (c ≡ b)
@@ -80,7 +81,15 @@ timed_move : (table : List Timed) (ps : List ℕ) (v : Move) → Has v (moves_at
     → (t : Timed) × Has t table × IsMoveOf t v
 timed_move [] ps v h = absurd h
 timed_move (t ∷ table) [] v h = absurd h
-timed_move (t ∷ table) (p ∷ ps) v (inl e) = (t, inl refl, record { at = ap (λ (w : Move). w.at) e; ending = ap (λ (w : Move). w.ending) e; starting = ap (λ (w : Move). w.starting) e })
+timed_move (t ∷ table) (p ∷ ps) v (inl e) = (
+  t,
+  inl refl,
+  record {
+    at = ap (λ (w : Move). w.at) e;
+    ending = ap (λ (w : Move). w.ending) e;
+    starting = ap (λ (w : Move). w.starting) e;
+  },
+)
 timed_move (t ∷ table) (p ∷ ps) v (inr h) = let (u, k, a) = timed_move table ps v h in (u, inr k, a)
 
 edge_at_event : (m : ℕ) (E : ℕ → Edge) (t : Timed) (e : ℕ) → IsTimed m E t → e < m
@@ -100,7 +109,9 @@ tube_part runs.inner h = tt
 tube_part runs.outer h = tt
 
 -- ---- the list of a level, with the owner of each edge
-module _ (d : Plan) (level : ℕ) (list : EdgeList) (t : IsTubedList d level list) (own : (e : ℕ) → e < length list.edges.items → owner_at list.owners.items e ≡ owner_as (owned_at d level e)) where
+module _ (d : Plan) (level : ℕ) (list : EdgeList) (t : IsTubedList d level list) (own : (e : ℕ)
+    → e < length list.edges.items → owner_at list.owners.items e
+    ≡ owner_as (owned_at d level e)) where
   abbrev m : ℕ
   m = length list.edges.items
 
@@ -115,18 +126,24 @@ module _ (d : Plan) (level : ℕ) (list : EdgeList) (t : IsTubedList d level lis
       → o.curve < length d.curves → c ≡ get_or d.curves o.curve c → IsEndOf c p
       → IsOwnEnd d list vs e p
   end_of_curve vs e o c p n l q k r h =
-      let same : o ≡ owner_at list.owners.items e = q ∙ get_same list.owners.items e o no_owner (omega (arith, l, n)) in
-      inl (subst (λ (w : Owner). IsEndOf (curve d w.curve) p) same (subst (λ (x : Curve). IsEndOf x p) (nth_curve_is d o.curve c k r) h))
+      let same : o ≡ owner_at list.owners.items e = q
+      ∙ get_same list.owners.items e o no_owner (omega (arith, l, n)) in
+      inl (subst (λ (w : Owner). IsEndOf (curve d w.curve) p) same
+      (subst (λ (x : Curve). IsEndOf x p) (nth_curve_is d o.curve c k r) h))
 
   -- ---- an end of another edge of the curve
-  module _ (half : (e : ℕ) → e < m → (runs.IsOfTube (owned_at d level e).part → IsHalfArc d (owned_at d level e).curve) × (IsHalfArc d (owned_at d level e).curve → runs.IsOfTube (owned_at d level e).part)) where
+  module _ (half : (e : ℕ) → e < m
+      → (runs.IsOfTube (owned_at d level e).part → IsHalfArc d (owned_at d level e).curve)
+      × (IsHalfArc d (owned_at d level e).curve → runs.IsOfTube (owned_at d level e).part)) where
     same_tube : (e o : ℕ) → e < m → o < m
         → (owner_at list.owners.items o).curve ≡ (owner_at list.owners.items e).curve
         → IsOfTube (owner_at list.owners.items e).part
         → IsOfTube (owner_at list.owners.items o).part
     same_tube e o l k q h =
-        let of : runs.IsOfTube (owned_at d level e).part = tube_part _ (subst (λ (w : Owner). IsOfTube w.part) (own e l) h) in
-        let arc = subst (IsHalfArc d) (sym (curve_is e l) ∙ sym q ∙ curve_is o k) ((half e l).0 of) in
+        let of : runs.IsOfTube (owned_at d level e).part = tube_part _
+        (subst (λ (w : Owner). IsOfTube w.part) (own e l) h) in
+        let arc = subst (IsHalfArc d) (sym (curve_is e l) ∙ sym q ∙ curve_is o k)
+        ((half e l).0 of) in
         subst (λ (w : Owner). IsOfTube w.part) (sym (own o k)) (part_tube _ ((half o k).1 arc))
 
     pub earlier_end : (vs : List Move) (e o : ℕ) (p : Point) → e < m
@@ -156,10 +173,14 @@ module _ (d : Plan) (level : ℕ) (list : EdgeList) (t : IsTubedList d level lis
         let ends = is.ending in
         let count = two.two in
         two_of (u.starting ++ u.ending) e o f (omega (arith, size, starts, ends, count))
-        (edge_at_event m E u e fact l (subst (IsEnd (E e)) at a)) (edge_at_event m E u o fact j (subst (IsEnd (E o)) at b)) (edge_at_event m E u f fact k (subst (IsEnd (E f)) at c)) n
+        (edge_at_event m E u e fact l (subst (IsEnd (E e)) at a))
+        (edge_at_event m E u o fact j (subst (IsEnd (E o)) at b))
+        (edge_at_event m E u f fact k (subst (IsEnd (E f)) at c)) n
 
     abbrev Own : ℕ → ℕ → Point → Type 0
-    Own e f p = (p ≡ (curve d (owned_at d level e).curve).from) ⊎ ((p ≡ (curve d (owned_at d level e).curve).to) ⊎ ((owned_at d level f).curve ≡ (owned_at d level e).curve))
+    Own e f p = (p ≡ (curve d (owned_at d level e).curve).from)
+        ⊎ ((p ≡ (curve d (owned_at d level e).curve).to)
+        ⊎ ((owned_at d level f).curve ≡ (owned_at d level e).curve))
 
     pub all_own : AreOwn d list vs m → (p : Point) → IsOwnCorner d level p
     all_own all p e f l k h a b = by_own (by_end there_e)
@@ -189,29 +210,42 @@ module _ (d : Plan) (level : ℕ) (list : EdgeList) (t : IsTubedList d level lis
 
         one_of : (o : ℕ) → IsOtherAt list e o p → (f ≡ e) ⊎ (f ≡ o) → Own e f p
         one_of o n (inl q) = inr (inr (ap (λ (i : ℕ). (owned_at d level i).curve) q))
-        one_of o n (inr q) = inr (inr (ap (λ (i : ℕ). (owned_at d level i).curve) q ∙ sym (curve_is o n.there) ∙ n.same ∙ curve_is e le))
+        one_of o n (inr q) =
+            inr (inr (ap (λ (i : ℕ). (owned_at d level i).curve) q ∙ sym (curve_is o n.there)
+            ∙ n.same ∙ curve_is e le))
 
         by_own : IsOwnEnd d list vs e p → Own e f p
         by_own (inl q) = at_end (subst (λ (i : ℕ). IsEndOf (curve d i) p) (curve_is e le) q)
-        by_own (inr ((o, n), two)) = one_of o n (only_two p e o f two le n.there lf there_e n.ends there_f n.differ)
+        by_own (inr ((o, n), two)) =
+            one_of o n (only_two p e o f two le n.there lf there_e n.ends there_f n.differ)
 
 -- ---- the events of all ends
 -- what the search of these says, by the lists as they are lent
-pub found_is : (d : Plan) (level : ℕ) (list : EdgeList) (table : List Timed) (es fs : List Edge) (low high lows highs : List ℕ) (events : ℕ) (found : Option ℕ)
+pub found_is : (d : Plan) (level : ℕ) (list : EdgeList) (table : List Timed) (es fs : List Edge)
+    (low high lows highs : List ℕ) (events : ℕ) (found : Option ℕ)
     → IsTubedList d level list
-    → ((level : ℕ) (table : List Timed) → IsTubedList d level list → IsTimetable (length list.edges.items) (edge_of list.edges.items) table → AreEventsOf list.edges.items table lows highs → length table ≡ events → IsFirstForeign d level table found)
-    → es ≡ list.edges.items → IsTimetable (length es) (edge_of es) table → fs ≡ list.edges.items → AreEventsOf fs table low high → lows ≡ low → highs ≡ high → events ≡ length table → IsFirstForeign d level table found
+    → ((level : ℕ) (table : List Timed) → IsTubedList d level list
+    → IsTimetable (length list.edges.items) (edge_of list.edges.items) table
+    → AreEventsOf list.edges.items table lows highs → length table ≡ events
+    → IsFirstForeign d level table found)
+    → es ≡ list.edges.items → IsTimetable (length es) (edge_of es) table → fs ≡ list.edges.items
+    → AreEventsOf fs table low high → lows ≡ low → highs ≡ high → events ≡ length table
+    → IsFirstForeign d level table found
 found_is d level list table es fs low high lows highs events found l f e t g a p q n =
     f level table l (subst (λ es. IsTimetable (length es) (edge_of es) table) e t)
-    (subst (λ ls. AreEventsOf list.edges.items table ls highs) (sym p) (subst (λ hs. AreEventsOf list.edges.items table low hs) (sym q) (subst (λ es. AreEventsOf es table low high) g a))) (sym n)
+    (subst (λ ls. AreEventsOf list.edges.items table ls highs) (sym p)
+    (subst (λ hs. AreEventsOf list.edges.items table low hs) (sym q)
+    (subst (λ es. AreEventsOf es table low high) g a))) (sym n)
 
 pub table_at : (d : Plan) (level : ℕ) (list : EdgeList) (table : List Timed) (es : List Edge)
     → IsTubedList d level list → es ≡ list.edges.items → IsTimetable (length es) (edge_of es) table
     → IsTimetable (length (edges_at d level)) (edge_at d level) table
-table_at d level list table es l e t = subst (λ es. IsTimetable (length es) (edge_of es) table) (e ∙ l.edges) t
+table_at d level list table es l e t =
+    subst (λ es. IsTimetable (length es) (edge_of es) table) (e ∙ l.edges) t
 
 -- no corner is found, or one is
-pub none_found : {P : Type 0} (d : Plan) (level : ℕ) (table : List Timed) (found : Option ℕ) (b : Bool)
+pub none_found : {P : Type 0} (d : Plan) (level : ℕ) (table : List Timed) (found : Option ℕ)
+    (b : Bool)
     → IsFirstForeign d level table found → b ≡ is_some found → b ≡ false
     → (IsFirstForeign d level table None → P) → P
 none_found d level table None b h q e f = f h
@@ -220,7 +254,8 @@ none_found d level table (Some k) b h q e f = clash (sym q ∙ e)
     clash : {P : Type 0} → true ≡ false → P
     clash e = cc
 
-pub one_found : {P : Type 0} (d : Plan) (level : ℕ) (table : List Timed) (found : Option ℕ) (b : Bool)
+pub one_found : {P : Type 0} (d : Plan) (level : ℕ) (table : List Timed) (found : Option ℕ)
+    (b : Bool)
     → IsFirstForeign d level table found → b ≡ is_some found → IsTrue b
     → ((k : ℕ) → IsFirstForeign d level table (Some k) → P) → P
 one_found d level table None b h q t f = clash (subst IsTrue q t)

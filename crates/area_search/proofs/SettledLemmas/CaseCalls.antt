@@ -35,26 +35,37 @@ use Rattle.area_search.proofs.SettledLemmas.TubeSides.{owner_count, owner_is}
 -- ---- lists that are the same
 pub joined_lists : (a b c w x y z : List ℕ) → w ≡ [] → x ≡ w ++ a → y ≡ x ++ b → z ≡ y ++ c
     → z ≡ a ++ (b ++ c)
-joined_lists a b c w x y z p q r t = t ∙ ap (λ (l : List ℕ). l ++ c) (r ∙ ap (λ (l : List ℕ). l ++ b) (q ∙ ap (λ (l : List ℕ). l ++ a) p)) ∙ append_assoc a b c
+joined_lists a b c w x y z p q r t =
+    t ∙ ap (λ (l : List ℕ). l ++ c) (r
+    ∙ ap (λ (l : List ℕ). l ++ b) (q ∙ ap (λ (l : List ℕ). l ++ a) p)) ∙ append_assoc a b c
 
-pub roots_as : (facings : List Facing) (os : List Owner) (n n2 : ℕ) (gs : List Gap) (spots : List Spot) (rs rs2 : List ℕ)
+pub roots_as : (facings : List Facing) (os : List Owner) (n n2 : ℕ) (gs : List Gap)
+    (spots : List Spot) (rs rs2 : List ℕ)
     → n ≡ n2 → rs2 ≡ rs → AreCaseRoots facings os n gs spots rs
     → AreCaseRoots facings os n2 gs spots rs2
-roots_as facings os n n2 gs spots rs rs2 e f h = subst (AreCaseRoots facings os n2 gs spots) (sym f) (subst (λ (x : ℕ). AreCaseRoots facings os x gs spots rs) e h)
+roots_as facings os n n2 gs spots rs rs2 e f h =
+    subst (AreCaseRoots facings os n2 gs spots) (sym f)
+    (subst (λ (x : ℕ). AreCaseRoots facings os x gs spots rs) e h)
 
-module _ (d : Plan) (level : ℕ) (edges : List Edge) (edge_owners : List Owner) (facings : List Facing) (vs : List Move) (case : IsCase d level edges edge_owners facings vs) where
+module _ (d : Plan) (level : ℕ) (edges : List Edge) (edge_owners : List Owner)
+    (facings : List Facing) (vs : List Move)
+    (case : IsCase d level edges edge_owners facings vs) where
   abbrev m : ℕ
   m = length (edges_at d level)
 
   pub owner_size : length edge_owners ≡ length facings
-  owner_size = owner_count d level facings case.facings_are edge_owners case.owners_are ∙ sym case.facings_are.count
+  owner_size = owner_count d level facings case.facings_are edge_owners case.owners_are
+      ∙ sym case.facings_are.count
 
   pub owners_known : (e : ℕ) → e < length edge_owners
       → (owner_at edge_owners e).curve < length d.curves
   owners_known e l =
-      let k : e < m = (let q = owner_count d level facings case.facings_are edge_owners case.owners_are in omega (arith, l, q)) in
-      let o = ap (λ (x : Owner). x.curve) (owner_is d level facings case.facings_are edge_owners case.owners_are e k) in
-      elim (owned_is d (drawn_bays d level) m (edge_at d level) (steps_from [] vs) case.settled.run e k) [
+      let k : e < m = (let q = owner_count d level facings case.facings_are edge_owners
+      case.owners_are in omega (arith, l, q)) in
+      let o = ap (λ (x : Owner). x.curve)
+      (owner_is d level facings case.facings_are edge_owners case.owners_are e k) in
+      elim (owned_is d (drawn_bays d level) m (edge_at d level)
+      (steps_from [] vs) case.settled.run e k) [
         | inl w ↦ (let a = w.number in let b = w.fits in omega (arith, o, a, b))
         | inr w ↦ (let a = w.number in let b = w.fits in omega (arith, o, a, b))
       ]
@@ -80,8 +91,11 @@ module _ (d : Plan) (level : ℕ) (edges : List Edge) (edge_owners : List Owner)
     spot_small j (spot.InTube c side) h = tt
     spot_small j (spot.Cell i lo up) h =
         let c = h.0 in
-        let f = λ (e : ℕ) (k : Has e (live_from [] (take c.events vs))). in_run c.events e c.known k in
-        (low_small (live_from [] (take c.events vs)) i lo f c.lower_is, high_small (live_from [] (take c.events vs)) i up f c.upper_is)
+        let f = λ (e : ℕ) (k : Has e (live_from [] (take c.events vs))).
+        in_run c.events e c.known k in (
+          low_small (live_from [] (take c.events vs)) i lo f c.lower_is,
+          high_small (live_from [] (take c.events vs)) i up f c.upper_is,
+        )
 
     spot_in : (j : ℕ) (x : Spot) → IsSpot d level vs (object d j) x → IsSpotIn (length d.curves) x
     spot_in j (spot.On c) h = tt
@@ -93,11 +107,15 @@ module _ (d : Plan) (level : ℕ) (edges : List Edge) (edge_owners : List Owner)
     own_spot j l = off.spots_are.each j (let e = off.spots_are.size in omega (arith, l, e))
 
     pub small_spots : (k : ℕ) (p : Spot) → k < length spots → IsSmallSpot (slice_index_or spots k p)
-    small_spots k p l = subst IsSmallSpot (get_or_default spots k no_spot p l) (spot_small k (spot_at spots k) (own_spot k l))
+    small_spots k p l =
+        subst IsSmallSpot (get_or_default spots k no_spot p l)
+        (spot_small k (spot_at spots k) (own_spot k l))
 
     pub spots_in : (k : ℕ) (p : Spot) → k < length spots
         → IsSpotIn (length d.curves) (slice_index_or spots k p)
-    spots_in k p l = subst (IsSpotIn (length d.curves)) (get_or_default spots k no_spot p l) (spot_in k (spot_at spots k) (own_spot k l))
+    spots_in k p l =
+        subst (IsSpotIn (length d.curves)) (get_or_default spots k no_spot p l)
+        (spot_in k (spot_at spots k) (own_spot k l))
 
   -- ---- of the mesh and its notes
   module _ (mesh : HalfEdges) (on : IsRunMesh d level vs mesh) where
@@ -107,10 +125,14 @@ module _ (d : Plan) (level : ℕ) (edges : List Edge) (edge_owners : List Owner)
     pub few_facings : length facings < 2 ^ 31
     few_facings = let a = few_edges in let b = case.facings_are.count in omega (arith, a, b)
 
-    module _ (spots : List Spot) (count : ℕ) (faces : HasRunFaces d level vs mesh count) (owners : List ℕ) (own : HaveOwners d level mesh.face spots count owners) (roots : List ℕ) (notes : List HalfNote)
+    module _ (spots : List Spot) (count : ℕ) (faces : HasRunFaces d level vs mesh count)
+        (owners : List ℕ) (own : HaveOwners d level mesh.face spots count owners) (roots : List ℕ)
+        (notes : List HalfNote)
         (told : AreNotes mesh (closed_gaps vs) roots notes) where
       pub notes_size : length notes ≡ 2 * length facings
-      notes_size = let a = told.size_is in let b = on.turned.count in let c = case.facings_are.count in omega (arith, a, b, c)
+      notes_size =
+          let a = told.size_is in
+          let b = on.turned.count in let c = case.facings_are.count in omega (arith, a, b, c)
 
       pub faces_known : (h : ℕ) → h < length notes
           → (slice_index_or notes h no_note).label < length owners
@@ -122,8 +144,12 @@ module _ (d : Plan) (level : ℕ) (edges : List Edge) (edge_owners : List Owner)
           omega (arith, a, b, c)
 
     -- ---- roots, before there are notes
-    module _ (spots : List Spot) (off : ArePlacedOff d level vs spots) (count : ℕ) (faces : HasRunFaces d level vs mesh count) (owners : List ℕ) (own : HaveOwners d level mesh.face spots count owners)
-        (rs : List ℕ) (listed : AreCaseRoots facings edge_owners (length d.curves) (closed_gaps vs) spots rs) where
+    module _ (spots : List Spot) (off : ArePlacedOff d level vs spots) (count : ℕ)
+        (faces : HasRunFaces d level vs mesh count) (owners : List ℕ)
+        (own : HaveOwners d level mesh.face spots count owners)
+        (rs : List ℕ)
+        (listed : AreCaseRoots facings edge_owners (length d.curves)
+        (closed_gaps vs) spots rs) where
       abbrev s : Labelling
       s = record {
         d = d;
@@ -133,7 +159,8 @@ module _ (d : Plan) (level : ℕ) (edges : List Edge) (edge_owners : List Owner)
         mesh = mesh;
         count = count;
         owners = owners;
-        name = λ h. label_by (length d.points) (faced d (drawn_bays d level) (edge_at d level) h) (slice_index owners (slice_index mesh.face (number h)));
+        name = λ h. label_by (length d.points) (faced d (drawn_bays d level) (edge_at d level) h)
+            (slice_index owners (slice_index mesh.face (number h)));
         settled = case.settled;
         fit = case.fit;
         placed = off;
@@ -161,4 +188,6 @@ module _ (d : Plan) (level : ℕ) (edges : List Edge) (edge_owners : List Owner)
       list_within h k = roots_within s g h (subst (Has h) listed.roots_are k)
 
       pub list_rooted : AreRooted mesh (closed_gaps vs) rs
-      list_rooted = subst (λ (x : List ℕ). AreRooted mesh (closed_gaps vs) x) (sym listed.roots_are) (rooted s g)
+      list_rooted =
+          subst (λ (x : List ℕ). AreRooted mesh (closed_gaps vs) x) (sym listed.roots_are)
+          (rooted s g)

@@ -71,10 +71,17 @@ root_link mesh h link.Next e = absurd (cc)
 root_link mesh h link.Prev e = absurd (cc)
 root_link mesh h (link.Across g) e = absurd (cc)
 
-module _ (d : Plan) (level : ℕ) (edges : List Edge) (edge_owners : List Owner) (facings : List Facing) (vs : List Move) (case : IsCase d level edges edge_owners facings vs) (spots : List Spot) (off : ArePlacedOff d level vs spots)
-    (mesh : HalfEdges) (count : ℕ) (faces : HasRunFaces d level vs mesh count) (owners : List ℕ) (own : HaveOwners d level mesh.face spots count owners) (on : IsRunMesh d level vs mesh)
-    (rs : List ℕ) (listed : AreCaseRoots facings edge_owners (length d.curves) (closed_gaps vs) spots rs) (places : List PointPlace) (written : places ≡ map spot_place spots)
-    (notes : List HalfNote) (told : AreNotes mesh (closed_gaps vs) rs notes) (ns : List HalfNote) (named : AreNamed (length d.points) (length facings) facings edge_owners owners notes ns) (uncut : HasNoCut d) where
+module _ (d : Plan) (level : ℕ) (edges : List Edge) (edge_owners : List Owner)
+    (facings : List Facing) (vs : List Move) (case : IsCase d level edges edge_owners facings vs)
+    (spots : List Spot) (off : ArePlacedOff d level vs spots)
+    (mesh : HalfEdges) (count : ℕ) (faces : HasRunFaces d level vs mesh count) (owners : List ℕ)
+    (own : HaveOwners d level mesh.face spots count owners) (on : IsRunMesh d level vs mesh)
+    (rs : List ℕ)
+    (listed : AreCaseRoots facings edge_owners (length d.curves) (closed_gaps vs) spots rs)
+    (places : List PointPlace) (written : places ≡ map spot_place spots)
+    (notes : List HalfNote) (told : AreNotes mesh (closed_gaps vs) rs notes) (ns : List HalfNote)
+    (named : AreNamed (length d.points) (length facings) facings edge_owners owners notes ns)
+    (uncut : HasNoCut d) where
   abbrev m : ℕ
   m = length (edges_at d level)
 
@@ -82,14 +89,17 @@ module _ (d : Plan) (level : ℕ) (edges : List Edge) (edge_owners : List Owner)
   E = edge_at d level
 
   in_mesh : (h : Half) → edge_of h < m → number h < size mesh
-  in_mesh h l = number_within (pos 0) m E vs mesh case.settled.run.run case.fit on.turned on.known h l
+  in_mesh h l =
+      number_within (pos 0) m E vs mesh case.settled.run.run case.fit on.turned on.known h l
 
   in_drawing : (k : ℕ) → k < size mesh → edge_of (half_of k) < m
-  in_drawing k l = half_within_mesh (pos 0) m E vs mesh case.settled.run.run case.fit on.turned on.known k l
+  in_drawing k l =
+      half_within_mesh (pos 0) m E vs mesh case.settled.run.run case.fit on.turned on.known k l
 
   -- ---- the notes
   note_is : (h : Half) → edge_of h < m
-      → note_in ns h ≡ named_by (length d.points) (tag_at facings edge_owners h) owners (note_of notes h)
+      → note_in ns h ≡ named_by (length d.points) (tag_at facings edge_owners h) owners
+      (note_of notes h)
   note_is h l = named.named h (let k = case.facings_are.count in omega (arith, l, k))
 
   abbrev name : Half → ℕ
@@ -100,11 +110,14 @@ module _ (d : Plan) (level : ℕ) (edges : List Edge) (edge_owners : List Owner)
   face_label h l = told.label (number h) (in_mesh h l)
 
   pub name_is : (h : Half) → edge_of h < m
-      → name h ≡ label_by (length d.points) (faced d (drawn_bays d level) E h) (slice_index owners (slice_index mesh.face (number h)))
+      → name h ≡ label_by (length d.points) (faced d (drawn_bays d level) E h)
+      (slice_index owners (slice_index mesh.face (number h)))
   name_is h l =
       ap (λ (n : HalfNote). n.label) (note_is h l)
-      ∙ ap (λ (t : ℕ). label_by (length d.points) t (slice_index owners (note_of notes h).label)) (tag_is d level facings case.facings_are edge_owners case.owners_are h l)
-      ∙ ap (λ (f : ℕ). label_by (length d.points) (faced d (drawn_bays d level) E h) (slice_index owners f)) (face_label h l)
+      ∙ ap (λ (t : ℕ). label_by (length d.points) t (slice_index owners (note_of notes h).label))
+      (tag_is d level facings case.facings_are edge_owners case.owners_are h l)
+      ∙ ap (λ (f : ℕ). label_by (length d.points) (faced d (drawn_bays d level) E h)
+      (slice_index owners f)) (face_label h l)
 
   abbrev pub s : Labelling
   s = record {
@@ -153,21 +166,29 @@ module _ (d : Plan) (level : ℕ) (edges : List Edge) (edge_owners : List Owner)
   rank_at k l = rank_is (half_of k) (in_drawing k l) ∙ ap (slice_index told.ranks) (number_half k)
 
   across_known : (x h : ℕ) → IsAcross (closed_gaps vs) x h → h < size mesh
-  across_known x h (inl b) = let k = on.known b.cell.0 b.upper b.cell.1 (inr b.cell.3) in let q = b.high_side in omega (arith, k, q)
-  across_known x h (inr b) = let k = on.known b.cell.0 b.lower b.cell.1 (inl b.cell.2) in let q = b.low_side in omega (arith, k, q)
+  across_known x h (inl b) =
+      let k = on.known b.cell.0 b.upper b.cell.1 (inr b.cell.3) in
+      let q = b.high_side in omega (arith, k, q)
+  across_known x h (inr b) =
+      let k = on.known b.cell.0 b.lower b.cell.1 (inl b.cell.2) in
+      let q = b.low_side in omega (arith, k, q)
 
   root_at : (h : Half) → edge_of h < m → slice_index told.ranks (number h) ≡ 0 → Root s g h
-  root_at h l z = listed_root s g h (subst (Has (number h)) listed.roots_are ((told.are_ranks.root (number h) (in_mesh h l)).0 z))
+  root_at h l z =
+      listed_root s g h
+      (subst (Has (number h)) listed.roots_are ((told.are_ranks.root (number h) (in_mesh h l)).0 z))
 
   found_by : (h : Half) → edge_of h < m → (k : Link)
       → IsLink mesh (closed_gaps vs) told.ranks (number h) k
-      → FoundLead (r s) (rank_in ns) (IsFaceRoot d (drawn_bays d level) (r s) name) h (lead_of mesh (number h) k)
+      → FoundLead (r s) (rank_in ns) (IsFaceRoot d (drawn_bays d level) (r s) name) h
+      (lead_of mesh (number h) k)
   found_by h l link.Root i = (root_at h l i).2
   found_by h l link.Next i =
       let e = rank_at (next_of mesh (number h)) (on.mesh_is.next_within (number h) (in_mesh h l)) in
       let q = rank_is h l in (
         subst (λ (x : Half). Next (r s) x (half_of (next_of mesh (number h)))) (half_number h)
-            (to_next (pos 0) m E vs mesh case.settled.run.run case.fit on.turned on.known (number h) (next_of mesh (number h)) (in_mesh h l) refl),
+            (to_next (pos 0) m E vs mesh case.settled.run.run case.fit on.turned on.known (number h)
+            (next_of mesh (number h)) (in_mesh h l) refl),
         omega (arith, e, q, i),
       )
   found_by h l link.Prev (i, never) =
@@ -176,13 +197,16 @@ module _ (d : Plan) (level : ℕ) (edges : List Edge) (edge_owners : List Owner)
       let e = rank_at p k in
       let q = rank_is h l in (
         subst (λ (x : Half). Next (r s) (half_of p) x) (half_number h)
-            (to_next (pos 0) m E vs mesh case.settled.run.run case.fit on.turned on.known p (number h) k (on.mesh_is.next_prev (number h) (in_mesh h l))),
+            (to_next (pos 0) m E vs mesh case.settled.run.run case.fit on.turned on.known p
+            (number h) k (on.mesh_is.next_prev (number h) (in_mesh h l))),
         omega (arith, e, q, i),
       )
   found_by h l (link.Across x) (a, i, never, no_other, least) =
       let e = rank_at x (across_known (number h) x a) in
       let q = rank_is h l in (
-        subst (λ (y : Half). Across (r s) y (half_of x)) (half_number h) (either_across (pos 0) m E vs mesh case.settled.run.run case.fit on.turned on.known (number h) x a),
+        subst (λ (y : Half). Across (r s) y (half_of x)) (half_number h)
+            (either_across (pos 0) m E vs mesh case.settled.run.run case.fit on.turned on.known
+            (number h) x a),
         omega (arith, e, q, i),
       )
 
@@ -190,23 +214,37 @@ module _ (d : Plan) (level : ℕ) (edges : List Edge) (edge_owners : List Owner)
       → FoundLead (r s) (rank_in ns) (IsFaceRoot d (drawn_bays d level) (r s) name) h (lead h)
   found h l = found_by h l (note_of notes h).link (told.link_is (number h) (in_mesh h l))
 
-  links_certify : CertifiedCurves d (drawn_bays d level) (r s) (numbers name) (runs.half_within d (drawn_bays d level) E) (inside s) (outside s) (rank_in ns) lead
-  links_certify = certified (pos 0) d (drawn_bays d level) m E (steps_from [] vs) name case.settled.run case.settled.wide case.settled.settled (named_faces s) (numbers_are s) (placed s places written) (rank_in ns) lead found
+  links_certify : CertifiedCurves d (drawn_bays d level) (r s) (numbers name)
+      (runs.half_within d (drawn_bays d level) E) (inside s) (outside s) (rank_in ns) lead
+  links_certify =
+      certified (pos 0) d (drawn_bays d level) m E
+      (steps_from [] vs) name case.settled.run case.settled.wide case.settled.settled
+      (named_faces s) (numbers_are s) (placed s places written) (rank_in ns) lead found
 
   says_by : (h : Half) → edge_of h < m → (k : Link) → (note_of notes h).link ≡ k
       → Says (note_in ns h) (lead_of mesh (number h) k)
   says_by h l link.Root e =
-      let i : slice_index told.ranks (number h) ≡ 0 = subst (IsLink mesh (closed_gaps vs) told.ranks (number h)) e (told.link_is (number h) (in_mesh h l)) in
+      let i : slice_index told.ranks (number h)
+      ≡ 0 = subst (IsLink mesh (closed_gaps vs) told.ranks (number h)) e
+      (told.link_is (number h) (in_mesh h l)) in
       says_root (ap (λ (n : HalfNote). n.link) (note_is h l) ∙ e) (rank_is h l ∙ i)
-  says_by h l link.Next e = says_next (half_of (next_of mesh (number h))) (ap (λ (n : HalfNote). n.link) (note_is h l) ∙ e)
-  says_by h l link.Prev e = says_previous (half_of (prev_of mesh (number h))) (ap (λ (n : HalfNote). n.link) (note_is h l) ∙ e)
-  says_by h l (link.Across x) e = says_across (half_of x) (ap (λ (n : HalfNote). n.link) (note_is h l) ∙ e ∙ ap link.Across (sym (number_half x)))
+  says_by h l link.Next e =
+      says_next (half_of (next_of mesh (number h))) (ap (λ (n : HalfNote). n.link) (note_is h l)
+      ∙ e)
+  says_by h l link.Prev e =
+      says_previous (half_of (prev_of mesh (number h))) (ap (λ (n : HalfNote). n.link) (note_is h l)
+      ∙ e)
+  says_by h l (link.Across x) e =
+      says_across (half_of x) (ap (λ (n : HalfNote). n.link) (note_is h l) ∙ e
+      ∙ ap link.Across (sym (number_half x)))
 
   told_root : (h : Half) → edge_of h < m → lead h ≡ root
       → RootAt d level (r s) (numbers name) places h
   told_root h l e =
       let q = root_link mesh (number h) (note_of notes h).link e in
-      let i : slice_index told.ranks (number h) ≡ 0 = subst (IsLink mesh (closed_gaps vs) told.ranks (number h)) q (told.link_is (number h) (in_mesh h l)) in
+      let i : slice_index told.ranks (number h)
+      ≡ 0 = subst (IsLink mesh (closed_gaps vs) told.ranks (number h)) q
+      (told.link_is (number h) (in_mesh h l)) in
       (root_at h l i).1
 
   -- ---- the two sides of curves
@@ -217,11 +255,18 @@ module _ (d : Plan) (level : ℕ) (edges : List Edge) (edge_owners : List Owner)
   sides_differ : (i : ℕ) → i < length d.curves → (t : CurveKind) → (curve d i).kind ≡ t
       → HasTwoSidesAt d level ns i t
   sides_differ i l kind.Straight e = λ q.
-      let a = straight_first d level edges edge_owners facings vs case i (record { there = l; kind = e }) in
-      let c = straight_cut_by_faces d (drawn_bays d level) m E (steps_from [] vs) case.settled.run case.settled.wide case.settled.settled (pos 0) name (named_faces s) (first_at d level i) a.there a.part in
+      let a = straight_first d level edges edge_owners facings vs case i (record {
+        there = l;
+        kind = e;
+      }) in
+      let c = straight_cut_by_faces d (drawn_bays d level) m E
+      (steps_from [] vs) case.settled.run case.settled.wide case.settled.settled (pos 0) name
+      (named_faces s) (first_at d level i) a.there a.part in
       uncut i l (subst (IsCut d) a.curve_is (c.1 (sym q)))
   sides_differ i l kind.HalfArc e = λ q.
-      let c = arc_cut_by_faces d (drawn_bays d level) m E (steps_from [] vs) case.settled.run case.settled.wide case.settled.settled (pos 0) name (named_faces s) i l e in
+      let c = arc_cut_by_faces d (drawn_bays d level) m E
+      (steps_from [] vs) case.settled.run case.settled.wide case.settled.settled (pos 0) name
+      (named_faces s) i l e in
       uncut i l (c.1 (sym (mark_is _) ∙ q ∙ mark_is _))
 
   pub certifies_by : CertifiesRun d level vs ns places (inside s) (outside s) lead
@@ -243,13 +288,17 @@ module _ (d : Plan) (level : ℕ) (edges : List Edge) (edge_owners : List Owner)
     counted : HasCounts (subject_of d claimed t.table)
     counted = record {
       edges = record { low = case.low; tubes = case.tubes };
-      notes = (let a = named.size in let b = told.size_is in let c = faces.size_is in omega (arith, a, b, c));
+      notes = (let a = named.size in let b = told.size_is in let c = faces.size_is in
+          omega (arith, a, b, c));
       positions = length-map vs (λ (v : Move). v.position) ∙ sym t.size;
       places = ap length written ∙ length-map spots spot_place ∙ off.spots_are.size;
     }
 
     table_is : IsTableOf d level t.table
-    table_is = subst (λ (es : List Edge). IsTimetable (length es) (edge_in es) t.table) case.edges_are t.is_table
+    table_is = subst (λ (es : List Edge). IsTimetable (length es) (edge_in es) t.table)
+        case.edges_are t.is_table
 
     pub certifies : Certifies d claimed
-    certifies = certifies_claims d claimed t.table table_is counted (inside s) (outside s) lead (subst (λ (ws : List Move). CertifiesRun d level ws ns places (inside s) (outside s) lead) t.is certifies_by)
+    certifies = certifies_claims d claimed t.table table_is counted (inside s) (outside s) lead
+        (subst (λ (ws : List Move). CertifiesRun d level ws ns places (inside s) (outside s) lead)
+        t.is certifies_by)

@@ -1,4 +1,5 @@
--- The edges of each curve of a settled drawing: where they begin, how many they are, and what the first of each chain is.
+-- The edges of each curve of a settled drawing: where they begin, how many they are, and what the
+-- first of each chain is.
 use Rattle.std.proofs.Common.{◌≡◌, ℕ, zero, suc, ◌+◌, ◌*◌, ◌%◌, ◌<◌, ◌≤◌, ◌^◌, Bool, true, false}
 use Rattle.std.proofs.Common.{List, [], ◌∷◌, length, get_or, slice_index, refl, sym, ap, subst, ◌∙◌}
 use Rattle.std.proofs.Common.{arith}
@@ -41,7 +42,8 @@ no_first bays j [] = refl
 no_first bays j (c ∷ cs) = refl
 
 first_next : (bays : ℕ → List Bay) (j : ℕ) (cs : List Curve) (i n : ℕ) → i < length cs → n ≡ j + i
-    → first_edge bays j cs (suc i) ≡ first_edge bays j cs i + length (edges_of n (get_or cs i no_curve).kind (get_or cs i no_curve) (bays n))
+    → first_edge bays j cs (suc i) ≡ first_edge bays j cs i
+    + length (edges_of n (get_or cs i no_curve).kind (get_or cs i no_curve) (bays n))
 first_next bays j [] i n l e = absurd (omega (arith, l))
 first_next bays j (c ∷ cs) zero n l e =
     let q : n ≡ j = omega (arith, e) in
@@ -52,24 +54,39 @@ first_next bays j (c ∷ cs) (suc i) n l e =
     let r = first_next bays (suc j) cs i n (omega (arith, l)) (omega (arith, e)) in
     omega (arith, r)
 
--- The first edges of the two chains of half arc i's tube are there, of the curve, and of their chains.
+-- The first edges of the two chains of half arc i's tube are there, of the curve, and of their
+-- chains.
 pub record AreFirstOfArc (d : Plan) (level i : ℕ) : Type 0 where
   pub inner_there : first_at d level i < length (edges_at d level)
   pub inner_curve : (owned_at d level (first_at d level i)).curve ≡ i
   pub inner_part : (owned_at d level (first_at d level i)).part ≡ inner
   pub outer_there : (first_at d level i + length (drawn_bays d level i)) < length (edges_at d level)
-  pub outer_curve : (owned_at d level (first_at d level i + length (drawn_bays d level i))).curve ≡ i
-  pub outer_part : (owned_at d level (first_at d level i + length (drawn_bays d level i))).part ≡ outer
+  pub outer_curve : (owned_at d level (first_at d level i + length (drawn_bays d level i))).curve
+      ≡ i
+  pub outer_part : (owned_at d level (first_at d level i + length (drawn_bays d level i))).part
+      ≡ outer
 
 -- from what the law of the tubes' chains says
 pub arc_first : (d : Plan) (level i : ℕ)
-    → (first_at d level i < length (edges_at d level)) × ((owned_at d level (first_at d level i)).curve ≡ i) × ((owned_at d level (first_at d level i)).part ≡ inner)
-    → ((first_at d level i + length (drawn_bays d level i)) < length (edges_at d level)) × ((owned_at d level (first_at d level i + length (drawn_bays d level i))).curve ≡ i)
+    → (first_at d level i < length (edges_at d level))
+    × ((owned_at d level (first_at d level i)).curve ≡ i)
+    × ((owned_at d level (first_at d level i)).part ≡ inner)
+    → ((first_at d level i + length (drawn_bays d level i)) < length (edges_at d level))
+    × ((owned_at d level (first_at d level i + length (drawn_bays d level i))).curve ≡ i)
     × ((owned_at d level (first_at d level i + length (drawn_bays d level i))).part ≡ outer)
     → AreFirstOfArc d level i
-arc_first d level i (l, c, p) (m, e, q) = record { inner_there = l; inner_curve = c; inner_part = p; outer_there = m; outer_curve = e; outer_part = q }
+arc_first d level i (l, c, p) (m, e, q) =
+    record {
+      inner_there = l;
+      inner_curve = c;
+      inner_part = p;
+      outer_there = m;
+      outer_curve = e;
+      outer_part = q;
+    }
 
-module _ (d : Plan) (level : ℕ) (edges : List Edge) (owners : List Owner) (facings : List Facing) (vs : List Move) (is : IsCase d level edges owners facings vs) where
+module _ (d : Plan) (level : ℕ) (edges : List Edge) (owners : List Owner) (facings : List Facing)
+    (vs : List Move) (is : IsCase d level edges owners facings vs) where
   abbrev bays : ℕ → List Bay
   bays = drawn_bays d level
 
@@ -83,19 +100,23 @@ module _ (d : Plan) (level : ℕ) (edges : List Edge) (owners : List Owner) (fac
   bay_size i h = tube_bays d level i (is.tubes i h)
 
   group_size : (i : ℕ) → i < length d.curves
-      → length (edges_of i (curve d i).kind (curve d i) (bays i)) ≡ edges_of_kind (curve d i).kind level
+      → length (edges_of i (curve d i).kind (curve d i) (bays i))
+      ≡ edges_of_kind (curve d i).kind level
   group_size i l = by_kind (curve d i).kind refl
     where
       by_kind : (k : CurveKind) → (curve d i).kind ≡ k
           → length (edges_of i k (curve d i) (bays i)) ≡ edges_of_kind k level
       by_kind kind.Straight e = refl
-      by_kind kind.HalfArc e = (let a = arc_length i (curve d i) (bays i) in let b = bay_size i (record { there = l; kind = e }) in omega (arith, a, b))
+      by_kind kind.HalfArc e =
+          (let a = arc_length i (curve d i) (bays i) in
+          let b = bay_size i (record { there = l; kind = e }) in omega (arith, a, b))
 
   pub next_first : (i : ℕ) → i < length d.curves
       → first_at d level (i + 1) ≡ first_at d level i + edges_of_kind (curve d i).kind level
   next_first i l =
       let n : i + 1 ≡ suc i = omega arith in
-      ap (first_at d level) n ∙ first_next bays 0 d.curves i i l (omega arith) ∙ ap (λ (k : ℕ). first_at d level i + k) (group_size i l)
+      ap (first_at d level) n ∙ first_next bays 0 d.curves i i l (omega arith)
+      ∙ ap (λ (k : ℕ). first_at d level i + k) (group_size i l)
 
   pub edges_fit : (i : ℕ) → i < length d.curves
       → (first_at d level i + edges_of_kind (curve d i).kind level) ≤ m
@@ -114,12 +135,14 @@ module _ (d : Plan) (level : ℕ) (edges : List Edge) (owners : List Owner) (fac
 
   pub straight_only : (e : ℕ) → e < m → IsStraight d (owned_at d level e).curve
       → e ≡ first_at d level (owned_at d level e).curve
-  straight_only e l s = (run_edges d bays m E (steps_from [] vs) is.settled.run is.settled.wide).straight_only e l s
+  straight_only e l s =
+      (run_edges d bays m E (steps_from [] vs) is.settled.run is.settled.wide).straight_only e l s
 
   pub straight_first : (i : ℕ) → IsStraight d i → IsFirstOfStraight i
   straight_first i s =
       let x = straight_edge d bays m E (steps_from [] vs) is.settled.run i s.there s.kind in
-      let q : x.0 ≡ first_at d level i = straight_only x.0 x.1 (subst (λ (j : ℕ). IsStraight d j) (sym x.2) s) ∙ ap (first_at d level) x.2 in
+      let q : x.0 ≡ first_at d level i = straight_only x.0 x.1
+      (subst (λ (j : ℕ). IsStraight d j) (sym x.2) s) ∙ ap (first_at d level) x.2 in
       record {
         there = subst (λ (e : ℕ). e < m) q x.1;
         edge = subst (λ (e : ℕ). IsEdgeOf (E e) (curve d i)) q x.3;
@@ -128,7 +151,8 @@ module _ (d : Plan) (level : ℕ) (edges : List Edge) (owners : List Owner) (fac
       }
 
   -- ---- a curve of the list, and the number of its first edge
-  module _ (c : Curve) (i first : ℕ) (l : i < length d.curves) (q : c ≡ curve d i) (f : first ≡ first_at d level i) where
+  module _ (c : Curve) (i first : ℕ) (l : i < length d.curves) (q : c ≡ curve d i)
+      (f : first ≡ first_at d level i) where
     straight_is : c.kind ≡ kind.Straight → IsStraight d i
     straight_is e = record { there = l; kind = subst (λ (x : Curve). x.kind ≡ kind.Straight) q e }
 
@@ -136,21 +160,32 @@ module _ (d : Plan) (level : ℕ) (edges : List Edge) (owners : List Owner) (fac
     arc_is e = record { there = l; kind = subst (λ (x : Curve). x.kind ≡ kind.HalfArc) q e }
 
     pub straight_there : c.kind ≡ kind.Straight → first < length edges
-    straight_there e = let a = (straight_first i (straight_is e)).there in let b = edges_size d level edges owners facings vs is in omega (arith, a, b, f)
+    straight_there e =
+        let a = (straight_first i (straight_is e)).there in
+        let b = edges_size d level edges owners facings vs is in omega (arith, a, b, f)
 
     straight_ends : c.kind ≡ kind.Straight → IsEdgeOf (E first) c
-    straight_ends e = subst (λ (n : ℕ). IsEdgeOf (E n) c) (sym f) (subst (λ (x : Curve). IsEdgeOf (E (first_at d level i)) x) (sym q) (straight_first i (straight_is e)).edge)
+    straight_ends e =
+        subst (λ (n : ℕ). IsEdgeOf (E n) c) (sym f)
+        (subst (λ (x : Curve). IsEdgeOf (E (first_at d level i)) x) (sym q)
+        (straight_first i (straight_is e)).edge)
 
     straight_rises : c.kind ≡ kind.Straight → Before (E first).low (E first).high
-    straight_rises e = is.settled.run.run.edges first (let a = (straight_first i (straight_is e)).there in omega (arith, a, f))
+    straight_rises e =
+        is.settled.run.run.edges first (let a = (straight_first i (straight_is e)).there in
+        omega (arith, a, f))
 
     pub inner_there : (IsHalfArc d i → AreFirstOfArc d level i) → c.kind ≡ kind.HalfArc
         → first < length edges
-    inner_there t e = let a = (t (arc_is e)).inner_there in let b = edges_size d level edges owners facings vs is in omega (arith, a, b, f)
+    inner_there t e =
+        let a = (t (arc_is e)).inner_there in
+        let b = edges_size d level edges owners facings vs is in omega (arith, a, b, f)
 
     pub inner_is : (IsHalfArc d i → AreFirstOfArc d level i) → c.kind ≡ kind.HalfArc
         → IsOfTube (owned_at d level first).part
-    inner_is t e = subst (λ (n : ℕ). IsOfTube (owned_at d level n).part) (sym f) (subst IsOfTube (sym (t (arc_is e)).inner_part) tt)
+    inner_is t e =
+        subst (λ (n : ℕ). IsOfTube (owned_at d level n).part) (sym f)
+        (subst IsOfTube (sym (t (arc_is e)).inner_part) tt)
 
     pub outer_at : (k : ℕ) → k ≡ 2 ^ (level + 1) → c.kind ≡ kind.HalfArc
         → first + k ≡ first_at d level i + length (bays i)
@@ -158,40 +193,55 @@ module _ (d : Plan) (level : ℕ) (edges : List Edge) (owners : List Owner) (fac
 
     pub outer_there : (IsHalfArc d i → AreFirstOfArc d level i) → (k : ℕ) → k ≡ 2 ^ (level + 1)
         → c.kind ≡ kind.HalfArc → (first + k) < length edges
-    outer_there t k h e = let a = (t (arc_is e)).outer_there in let b = edges_size d level edges owners facings vs is in let n = outer_at k h e in omega (arith, a, b, n)
+    outer_there t k h e =
+        let a = (t (arc_is e)).outer_there in
+        let b = edges_size d level edges owners facings vs is in
+        let n = outer_at k h e in omega (arith, a, b, n)
 
     pub outer_is : (IsHalfArc d i → AreFirstOfArc d level i) → (k : ℕ) → k ≡ 2 ^ (level + 1)
         → c.kind ≡ kind.HalfArc → IsOfTube (owned_at d level (first + k)).part
-    outer_is t k h e = subst (λ (n : ℕ). IsOfTube (owned_at d level n).part) (sym (outer_at k h e)) (subst IsOfTube (sym (t (arc_is e)).outer_part) tt)
+    outer_is t k h e =
+        subst (λ (n : ℕ). IsOfTube (owned_at d level n).part) (sym (outer_at k h e))
+        (subst IsOfTube (sym (t (arc_is e)).outer_part) tt)
 
     pub next_is : (n : ℕ) → n ≡ edges_of_kind c.kind level → first + n ≡ first_at d level (i + 1)
     next_is n h =
         let a = next_first i l in
-        let b : edges_of_kind c.kind level ≡ edges_of_kind (curve d i).kind level = ap (λ (x : Curve). edges_of_kind x.kind level) q in
+        let b : edges_of_kind c.kind level
+        ≡ edges_of_kind (curve d i).kind level =
+        ap (λ (x : Curve). edges_of_kind x.kind level) q in
         omega (arith, a, b, h, f)
 
     pub next_fits : (n : ℕ) → n ≡ edges_of_kind c.kind level → (first + n) ≤ length edges
     next_fits n h =
         let a = edges_fit i l in
         let s = edges_size d level edges owners facings vs is in
-        let b : edges_of_kind c.kind level ≡ edges_of_kind (curve d i).kind level = ap (λ (x : Curve). edges_of_kind x.kind level) q in
+        let b : edges_of_kind c.kind level
+        ≡ edges_of_kind (curve d i).kind level =
+        ap (λ (x : Curve). edges_of_kind x.kind level) q in
         omega (arith, a, b, h, f, s)
 
     -- ---- faces beside it
     pub straight_beside : (faces : List ℕ) (b : Beside) → c.kind ≡ kind.Straight
-        → ((e : Edge) → Before e.low e.high → IsEdgeOf e c → (h : ℕ) × IsOnSide e c first true h × (b.first ≡ slice_index faces h))
-        → ((e : Edge) → Before e.low e.high → IsEdgeOf e c → (h : ℕ) × IsOnSide e c first false h × (b.second ≡ slice_index faces h))
+        → ((e : Edge) → Before e.low e.high → IsEdgeOf e c
+        → (h : ℕ) × IsOnSide e c first true h × (b.first ≡ slice_index faces h))
+        → ((e : Edge) → Before e.low e.high → IsEdgeOf e c
+        → (h : ℕ) × IsOnSide e c first false h × (b.second ≡ slice_index faces h))
         → IsBeside d level faces i b
     straight_beside faces b e x y =
-        subst (λ (k : CurveKind). IsBesideKind k d level faces i b) (sym (straight_is e).kind)
-        (moved true b.first (x (E first) (straight_rises e) (straight_ends e)), moved false b.second (y (E first) (straight_rises e) (straight_ends e)))
+        subst (λ (k : CurveKind). IsBesideKind k d level faces i b) (sym (straight_is e).kind) (
+          moved true b.first (x (E first) (straight_rises e) (straight_ends e)),
+          moved false b.second (y (E first) (straight_rises e) (straight_ends e)),
+        )
       where
         moved : (left : Bool) (n : ℕ)
             → ((h : ℕ) × IsOnSide (E first) c first left h × (n ≡ slice_index faces h))
             → IsFaceOn d level faces i left n
         moved left n z =
-            subst (λ (k : ℕ). (h : ℕ) × IsOnSide (E k) (curve d i) k left h × (n ≡ slice_index faces h)) f
-            (subst (λ (x : Curve). (h : ℕ) × IsOnSide (E first) x first left h × (n ≡ slice_index faces h)) q z)
+            subst (λ (k : ℕ). (h : ℕ) × IsOnSide (E k) (curve d i) k left h
+            × (n ≡ slice_index faces h)) f
+            (subst (λ (x : Curve). (h : ℕ) × IsOnSide (E first) x first left h
+            × (n ≡ slice_index faces h)) q z)
 
     abbrev outside_at : List ℕ → ℕ → ℕ
     outside_at faces e = slice_index faces (number (twin (half_within d bays E e)))

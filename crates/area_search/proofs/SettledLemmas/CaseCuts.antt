@@ -1,4 +1,5 @@
--- A curve of a settled drawing has one face on both sides exactly where the two faces beside it are one.
+-- A curve of a settled drawing has one face on both sides exactly where the two faces beside it are
+-- one.
 use Rattle.std.proofs.Common.{◌≡◌, ◌↔◌, inl, inr, ℕ, ◌+◌, ◌*◌, ◌<◌, true, false, Some, None, List}
 use Rattle.std.proofs.Common.{[], length, slice_index, refl, sym, ap, subst, ◌∙◌, arith, pos}
 use Rattle.half_edges.specs.HalfEdges.{HalfEdges}
@@ -28,7 +29,8 @@ use Rattle.area_search.proofs.SettledLemmas.CaseCurves.{straight_first}
 use Rattle.area_search.proofs.PlaneLaws.{arc_cut_by_faces, never, straight_cut_by_faces}
 use Rattle.area_search.proofs.SettledLemmas.RunFaces.{face_in}
 
-module _ (d : Plan) (level : ℕ) (edges : List Edge) (owners : List Owner) (facings : List Facing) (vs : List Move) (is : IsCase d level edges owners facings vs)
+module _ (d : Plan) (level : ℕ) (edges : List Edge) (owners : List Owner) (facings : List Facing)
+    (vs : List Move) (is : IsCase d level edges owners facings vs)
     (mesh : HalfEdges) (n : ℕ) (f : HasRunFaces d level vs mesh n) where
   abbrev m : ℕ
   m = length (edges_at d level)
@@ -48,17 +50,24 @@ module _ (d : Plan) (level : ℕ) (edges : List Edge) (owners : List Owner) (fac
     by_edge =
         let q = straight_first d level edges owners facings vs is i s in
         subst (λ (j : ℕ). IsCut d j ↔ (face (over x) ≡ face (under x))) q.curve_is
-        (straight_cut_by_faces d (drawn_bays d level) m E (steps_from [] vs) is.settled.run is.settled.wide is.settled.settled (pos 0) face f.faces x q.there q.part)
+        (straight_cut_by_faces d (drawn_bays d level) m E
+        (steps_from [] vs) is.settled.run is.settled.wide is.settled.settled
+        (pos 0) face f.faces x q.there q.part)
 
     one_end : {A : Type 0} → (E x).low ≡ (curve d i).from → (E x).low ≡ (curve d i).to → A
     one_end {A = A} a b = by_ends (straight_first d level edges owners facings vs is i s).edge
       where
         rises : Before (E x).low (E x).high
-        rises = is.settled.run.run.edges x (straight_first d level edges owners facings vs is i s).there
+        rises = is.settled.run.run.edges x
+            (straight_first d level edges owners facings vs is i s).there
 
         by_ends : IsEdgeOf (E x) (curve d i) → A
-        by_ends (inl (low, high)) = absurd (never (E x).low (subst (λ (p : Point). Before (E x).low p) (high ∙ sym b) rises))
-        by_ends (inr (low, high)) = absurd (never (E x).low (subst (λ (p : Point). Before (E x).low p) (high ∙ sym a) rises))
+        by_ends (inl (low, high)) =
+            absurd (never (E x).low
+            (subst (λ (p : Point). Before (E x).low p) (high ∙ sym b) rises))
+        by_ends (inr (low, high)) =
+            absurd (never (E x).low
+            (subst (λ (p : Point). Before (E x).low p) (high ∙ sym a) rises))
 
     at_over : (h : ℕ) → h ≡ 2 * x + 1 → slice_index mesh.face h ≡ face (over x)
     at_over h e = let q : h ≡ number (over x) = omega (arith, e) in ap (slice_index mesh.face) q
@@ -69,8 +78,12 @@ module _ (d : Plan) (level : ℕ) (edges : List Edge) (owners : List Owner) (fac
     by_sides : (g h : ℕ) → IsOnSide (E x) (curve d i) x true g
         → IsOnSide (E x) (curve d i) x false h
         → (face (over x) ≡ face (under x)) ↔ (slice_index mesh.face g ≡ slice_index mesh.face h)
-    by_sides g h (forth a p) (forth b q) = ((λ e. at_over g p ∙ e ∙ sym (at_under h q)), (λ e. sym (at_over g p) ∙ e ∙ at_under h q))
-    by_sides g h (back a p) (back b q) = ((λ e. at_under g p ∙ sym e ∙ sym (at_over h q)), (λ e. sym (sym (at_under g p) ∙ e ∙ at_over h q)))
+    by_sides g h (forth a p) (forth b q) =
+        ((λ e. at_over g p ∙ e ∙ sym (at_under h q)), (λ e. sym (at_over g p) ∙ e ∙ at_under h q))
+    by_sides g h (back a p) (back b q) = (
+      (λ e. at_under g p ∙ sym e ∙ sym (at_over h q)),
+      (λ e. sym (sym (at_under g p) ∙ e ∙ at_over h q)),
+    )
     by_sides g h (forth a p) (back b q) = one_end a b
     by_sides g h (back a p) (forth b q) = one_end b a
 
@@ -86,7 +99,9 @@ module _ (d : Plan) (level : ℕ) (edges : List Edge) (owners : List Owner) (fac
   arc_cut : (i : ℕ) → IsHalfArc d i → (b : Beside) → IsBesideKind kind.HalfArc d level mesh.face i b
       → IsCut d i ↔ (b.first ≡ b.second)
   arc_cut i h b (p, q) =
-      let t = arc_cut_by_faces d (drawn_bays d level) m E (steps_from [] vs) is.settled.run is.settled.wide is.settled.settled (pos 0) face f.faces i h.there h.kind in (
+      let t = arc_cut_by_faces d (drawn_bays d level) m E
+      (steps_from [] vs) is.settled.run is.settled.wide is.settled.settled
+      (pos 0) face f.faces i h.there h.kind in (
         (λ c. p ∙ t.0 c ∙ sym q),
         (λ e. t.1 (sym p ∙ e ∙ q)),
       )
@@ -101,7 +116,8 @@ module _ (d : Plan) (level : ℕ) (edges : List Edge) (owners : List Owner) (fac
       by_kind kind.Straight e k = straight_cut i (record { there = l; kind = e }) b k
       by_kind kind.HalfArc e k = arc_cut i (record { there = l; kind = e }) b k
 
-  module _ (besides : List Beside) (are : AreBeside d level mesh.face (length d.curves) besides) where
+  module _ (besides : List Beside)
+      (are : AreBeside d level mesh.face (length d.curves) besides) where
     one_faced : (i : ℕ) → i < length d.curves → IsCut d i ↔ IsOneFaced besides i
     one_faced i l = cut_is i l (beside_at besides i) (are.each i l)
 

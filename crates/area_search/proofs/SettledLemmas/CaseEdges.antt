@@ -1,4 +1,5 @@
--- The edges of a settled drawing by number: their owners, their facings, and how they lie to points.
+-- The edges of a settled drawing by number: their owners, their facings, and how they lie to
+-- points.
 use Rattle.std.proofs.Common.{◌≡◌, ℕ, zero, suc, ◌+◌, ◌<◌, ◌^◌, List, [], ◌∷◌, map, length, get_or}
 use Rattle.std.proofs.Common.{refl, sym, ap, subst, ◌∙◌, arith, All}
 use Rattle.std.proofs.lemmas.List.{length-map}
@@ -65,14 +66,18 @@ pub tube_circle : (d : Plan) (level i : ℕ) → HasTube (arc (curve d i)) level
 tube_circle d level i (vs, os, t) = t.circle
 
 pub corners_near : (d : Plan) (level i : ℕ) → HasTube (arc (curve d i)) level
-    → Each (λ (b : Bay). AreNear (2 ^ 28) (arc (curve d i)).from b.outer × AreNear (2 ^ 28) (arc (curve d i)).from b.inner) (drawn_bays d level i)
+    → Each (λ (b : Bay). AreNear (2 ^ 28) (arc (curve d i)).from b.outer
+    × AreNear (2 ^ 28) (arc (curve d i)).from b.inner) (drawn_bays d level i)
 corners_near d level i (vs, os, t) =
-    subst (Each (λ (b : Bay). AreNear (2 ^ 28) (arc (curve d i)).from b.outer × AreNear (2 ^ 28) (arc (curve d i)).from b.inner)) (sym (bays_are (arc (curve d i)) level vs os t))
+    subst (Each (λ (b : Bay). AreNear (2 ^ 28) (arc (curve d i)).from b.outer
+    × AreNear (2 ^ 28) (arc (curve d i)).from b.inner))
+    (sym (bays_are (arc (curve d i)) level vs os t))
     (tube_near (arc (curve d i)) level vs os t)
 
 pub bay_count : (d : Plan) (level i : ℕ) → HasTube (arc (curve d i)) level
     → length (drawn_bays d level i) ≡ 2 ^ (level + 1)
-bay_count d level i (vs, os, t) = ap length (bays_are (arc (curve d i)) level vs os t) ∙ tube_count (arc (curve d i)) level vs os t
+bay_count d level i (vs, os, t) = ap length (bays_are (arc (curve d i)) level vs os t)
+    ∙ tube_count (arc (curve d i)) level vs os t
 
 -- ---- turns at the points of curves
 pub curves_turn : (d : Plan) (w : Window2) → d.window ≡ w
@@ -80,13 +85,15 @@ pub curves_turn : (d : Plan) (w : Window2) → d.window ≡ w
     → (i : ℕ) → i < length cs → IsTurnable (nth_curve cs i)
 curves_turn d w e drawn cs q i l =
     let k : i < length d.curves = subst (λ (xs : List Curve). i < length xs) q l in
-    subst (λ (xs : List Curve). IsTurnable (nth_curve xs i)) (sym q) (turned (fit w (curve d i) (drawn i _ k)))
+    subst (λ (xs : List Curve). IsTurnable (nth_curve xs i)) (sym q)
+    (turned (fit w (curve d i) (drawn i _ k)))
   where
     turned : IsFit (curve d i) → IsTurnable (curve d i)
     turned f = record { to = f.ends; third = f.first }
 
 -- ---- the edges of a settled drawing
-module _ (d : Plan) (level : ℕ) (edges : List Edge) (owners : List Owner) (facings : List Facing) (vs : List Move) (is : IsCase d level edges owners facings vs) where
+module _ (d : Plan) (level : ℕ) (edges : List Edge) (owners : List Owner) (facings : List Facing)
+    (vs : List Move) (is : IsCase d level edges owners facings vs) where
   abbrev pub bays : ℕ → List Bay
   bays = drawn_bays d level
 
@@ -106,13 +113,17 @@ module _ (d : Plan) (level : ℕ) (edges : List Edge) (owners : List Owner) (fac
   list_size = is.settled.run.count
 
   pub owners_size : length owners ≡ m
-  owners_size = ap length is.owners_are ∙ length-map (runs.edge_list bays 0 d.curves) owner_as ∙ sym list_size
+  owners_size = ap length is.owners_are ∙ length-map (runs.edge_list bays 0 d.curves) owner_as
+      ∙ sym list_size
 
   pub nth_owner : (e : ℕ) (x : Owner) → e < m → get_or owners e x ≡ owner_as (owned_at d level e)
-  nth_owner e x l = ap (λ (os : List Owner). get_or os e x) is.owners_are ∙ nth_map owner_as (runs.edge_list bays 0 d.curves) e runs.no_edge x (omega (arith, l, list_size))
+  nth_owner e x l = ap (λ (os : List Owner). get_or os e x) is.owners_are
+      ∙ nth_map owner_as (runs.edge_list bays 0 d.curves) e runs.no_edge x
+      (omega (arith, l, list_size))
 
   pub run_is : Run (length edges) (edge_of edges) steps
-  run_is = subst (λ (es : List Edge). Run (length es) (edge_of es) steps) (sym is.edges_are) is.settled.run.run
+  run_is = subst (λ (es : List Edge). Run (length es) (edge_of es) steps)
+      (sym is.edges_are) is.settled.run.run
 
   pub are_usable : All (λ (c : Curve). IsDrawn d.window.low d.window.high c) d.curves
       → All (λ (p : Placed). IsInside d.window.low d.window.high p.at) d.points → AreUsable d edges
@@ -120,4 +131,6 @@ module _ (d : Plan) (level : ℕ) (edges : List Edge) (owners : List Owner) (fac
 
   pub no_bad_pair : HasNoBadPair d
   no_bad_pair i j b =
-      bad_not_apart _ _ b.bad (settled_apart d bays m E steps is.settled.run is.settled.wide is.settled.settled i j (omega (arith, b.order, b.there)) b.there (λ e. absurd (omega (arith, e, b.order))))
+      bad_not_apart _ _ b.bad
+      (settled_apart d bays m E steps is.settled.run is.settled.wide is.settled.settled i j
+      (omega (arith, b.order, b.there)) b.there (λ e. absurd (omega (arith, e, b.order))))

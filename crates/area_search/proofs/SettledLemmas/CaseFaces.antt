@@ -1,4 +1,5 @@
--- The faces of the points of a settled drawing, and what they say of points outside and of points in one face.
+-- The faces of the points of a settled drawing, and what they say of points outside and of points
+-- in one face.
 use Rattle.std.proofs.Common.{◌≡◌, ◌↔◌, ℕ, zero, suc, ◌<◌, Some, None, List, [], ◌∷◌, map, length}
 use Rattle.std.proofs.Common.{slice_index, refl, sym, ap, subst, ◌∙◌, arith, pos}
 use Rattle.std.proofs.lemmas.List.{length-map}
@@ -37,8 +38,10 @@ nth_spot_face f [] j l = absurd (omega (arith, l))
 nth_spot_face f (s ∷ ss) zero l = refl
 nth_spot_face f (s ∷ ss) (suc j) l = nth_spot_face f ss j (omega (arith, l))
 
-module _ (d : Plan) (level : ℕ) (edges : List Edge) (owners : List Owner) (facings : List Facing) (vs : List Move) (is : IsCase d level edges owners facings vs)
-    (spots : List Spot) (placed : ArePlacedOff d level vs spots) (mesh : HalfEdges) (n : ℕ) (f : HasRunFaces d level vs mesh n) where
+module _ (d : Plan) (level : ℕ) (edges : List Edge) (owners : List Owner) (facings : List Facing)
+    (vs : List Move) (is : IsCase d level edges owners facings vs)
+    (spots : List Spot) (placed : ArePlacedOff d level vs spots) (mesh : HalfEdges) (n : ℕ)
+    (f : HasRunFaces d level vs mesh n) where
   abbrev pub m : ℕ
   m = length (edges_at d level)
 
@@ -68,15 +71,21 @@ module _ (d : Plan) (level : ℕ) (edges : List Edge) (owners : List Owner) (fac
   pub own_face : (j : ℕ) → j < length d.points → HasFace (object d j) (slice_index fs j)
   own_face j l =
       let k : j < length spots = omega (arith, l, spots_size) in
-      subst (HasFace (object d j)) (sym (nth_spot_face (spot_face d level mesh.face) spots j k)) (by_spot (object d j) (spot_at spots j) (placed.spots_are.each j l) (placed.off j k))
+      subst (HasFace (object d j)) (sym (nth_spot_face (spot_face d level mesh.face) spots j k))
+      (by_spot (object d j) (spot_at spots j) (placed.spots_are.each j l) (placed.off j k))
 
   outer : (j : ℕ) → j < length d.points → IsOuter d (point (object d j)) ↔ (slice_index fs j ≡ 0)
-  outer j l = outer_point d (drawn_bays d level) m E (steps_from [] vs) is.settled.run is.settled.wide is.settled.settled (pos 0) (face_in mesh.face) f.faces (object d j) (slice_index fs j) (own_face j l)
+  outer j l = outer_point d (drawn_bays d level) m E
+      (steps_from [] vs) is.settled.run is.settled.wide is.settled.settled (pos 0)
+      (face_in mesh.face) f.faces (object d j) (slice_index fs j) (own_face j l)
 
   joined : (i j : ℕ) → i < length d.points → j < length d.points
       → Joined d (point (object d i)) (point (object d j)) ↔ (slice_index fs i ≡ slice_index fs j)
   joined i j k l =
-      joined_points d (drawn_bays d level) m E (steps_from [] vs) is.settled.run is.settled.wide is.settled.settled (pos 0) (face_in mesh.face) f.faces (object d i) (object d j) (slice_index fs i) (slice_index fs j) (own_face i k) (own_face j l)
+      joined_points d (drawn_bays d level) m E
+      (steps_from [] vs) is.settled.run is.settled.wide is.settled.settled (pos 0)
+      (face_in mesh.face) f.faces (object d i) (object d j) (slice_index fs i)
+      (slice_index fs j) (own_face i k) (own_face j l)
 
   clear : AreClear d
   clear = clear_spots d level edges owners facings vs is spots placed.spots_are placed.off
@@ -86,16 +95,27 @@ module _ (d : Plan) (level : ℕ) (edges : List Edge) (owners : List Owner) (fac
       → IsAnswer d (Fault (Outside p))
   outside_answer p s (l, z, first) =
       let k : p < length d.points = omega (arith, l, fs_size) in
-      outside p clear s (record { outside = record { there = k; outer = (outer p k).1 z }; none = λ j m o. first j m ((outer j o.there).0 o.outer) })
+      outside p clear s (record {
+        outside = record { there = k; outer = (outer p k).1 z };
+        none = λ j m o. first j m ((outer j o.there).0 o.outer);
+      })
 
   pub inside : IsFirstOutside fs None → AreInside d
-  inside none = record { clear = clear; none = λ j o. none j (let a = o.there in omega (arith, a, fs_size)) ((outer j o.there).0 o.outer) }
+  inside none = record {
+    clear = clear;
+    none = λ j o. none j (let a = o.there in
+        omega (arith, a, fs_size)) ((outer j o.there).0 o.outer);
+  }
 
   to_share : (i j : ℕ) → AreTwo d i j → Share fs (length fs) i j
   to_share i j t =
       let a = t.order in
       let b = t.there in
-      record { order = a; there = omega (arith, b, fs_size); one = (joined i j (omega (arith, a, b)) b).0 t.joined }
+      record {
+        order = a;
+        there = omega (arith, b, fs_size);
+        one = (joined i j (omega (arith, a, b)) b).0 t.joined;
+      }
 
   pub two_answer : (s : Shared) → IsSettled d → IsFirstOutside fs None
       → IsLeastShare fs (length fs) s.first s.second → IsAnswer d (Fault (Two s.first s.second))

@@ -62,8 +62,11 @@ inward_other : (b : Bool) → is_inward b (not b) ≡ false
 inward_other true = refl
 inward_other false = refl
 
-module _ (d : Plan) (level : ℕ) (edges : List Edge) (owners : List Owner) (facings : List Facing) (vs : List Move) (is : IsCase d level edges owners facings vs)
-    (spots : List Spot) (placed : ArePlacedOff d level vs spots) (mesh : HalfEdges) (n : ℕ) (f : HasRunFaces d level vs mesh n) (chains : (i : ℕ) → IsHalfArc d i → AreFirstOfArc d level i) where
+module _ (d : Plan) (level : ℕ) (edges : List Edge) (owners : List Owner) (facings : List Facing)
+    (vs : List Move) (is : IsCase d level edges owners facings vs)
+    (spots : List Spot) (placed : ArePlacedOff d level vs spots) (mesh : HalfEdges) (n : ℕ)
+    (f : HasRunFaces d level vs mesh n) (chains : (i : ℕ) → IsHalfArc d i
+    → AreFirstOfArc d level i) where
   abbrev m : ℕ
   m = length (edges_at d level)
 
@@ -101,8 +104,11 @@ module _ (d : Plan) (level : ℕ) (edges : List Edge) (owners : List Owner) (fac
     two_ends e = by_edge ends
       where
         by_edge : IsEdgeOf (E x) (curve d i) → ⊥
-        by_edge (inl (low, high)) = never (E x).low (subst (λ (p : Point). Before (E x).low p) (high ∙ sym e ∙ sym low) rises)
-        by_edge (inr (low, high)) = never (E x).low (subst (λ (p : Point). Before (E x).low p) (high ∙ e ∙ sym low) rises)
+        by_edge (inl (low, high)) =
+            never (E x).low
+            (subst (λ (p : Point). Before (E x).low p) (high ∙ sym e ∙ sym low) rises)
+        by_edge (inr (low, high)) =
+            never (E x).low (subst (λ (p : Point). Before (E x).low p) (high ∙ e ∙ sym low) rises)
 
     forth_ends : (E x).low ≡ (curve d i).from → (E x).high ≡ (curve d i).to
     forth_ends e = elim ends [ inl p ↦ p.1 | inr p ↦ absurd (two_ends (sym e ∙ p.0)) ]
@@ -120,13 +126,19 @@ module _ (d : Plan) (level : ℕ) (edges : List Edge) (owners : List Owner) (fac
     above_is =
         let q = straight_first d level edges owners facings vs is i s in
         subst (λ (j : ℕ). IsEmptyAbove d (E x) j ↔ IsUnnamed d k (face (over x))) q.curve_is
-        (above_empty d (drawn_bays d level) m E (steps_from [] vs) is.settled.run is.settled.wide is.settled.settled (pos 0) face f.faces k (own_face d level edges owners facings vs is spots placed mesh n f) x there q.part)
+        (above_empty d (drawn_bays d level) m E
+        (steps_from [] vs) is.settled.run is.settled.wide is.settled.settled
+        (pos 0) face f.faces k
+        (own_face d level edges owners facings vs is spots placed mesh n f) x there q.part)
 
     below_is : IsEmptyBelow d (E x) i ↔ IsUnnamed d k (face (under x))
     below_is =
         let q = straight_first d level edges owners facings vs is i s in
         subst (λ (j : ℕ). IsEmptyBelow d (E x) j ↔ IsUnnamed d k (face (under x))) q.curve_is
-        (below_empty d (drawn_bays d level) m E (steps_from [] vs) is.settled.run is.settled.wide is.settled.settled (pos 0) face f.faces k (own_face d level edges owners facings vs is spots placed mesh n f) x there q.part)
+        (below_empty d (drawn_bays d level) m E
+        (steps_from [] vs) is.settled.run is.settled.wide is.settled.settled
+        (pos 0) face f.faces k
+        (own_face d level edges owners facings vs is spots placed mesh n f) x there q.part)
 
     abbrev Sided : Bool → Type 0
     Sided left = (p : Vector) × (q : Vector) × Crosses d i p q × IsLost d (end_on left p q)
@@ -142,20 +154,32 @@ module _ (d : Plan) (level : ℕ) (edges : List Edge) (owners : List Owner) (fac
     side_is : (left : Bool) (h : ℕ) → IsOnSide (E x) (curve d i) x left h
         → Sided left ↔ IsUnnamed d k (slice_index mesh.face h)
     side_is true h (forth e q) = (
-      (λ y. subst (λ (z : ℕ). IsUnnamed d k (slice_index mesh.face z)) (over_number ∙ sym q) (above_is.0 (y.0, y.1, (crosses_forth d (E x) i y.0 y.1 e (forth_ends e)).0 y.2, y.3))),
-      (λ u. let w = above_is.1 (subst (λ (z : ℕ). IsUnnamed d k (slice_index mesh.face z)) (q ∙ sym over_number) u) in (w.0, w.1, (crosses_forth d (E x) i w.0 w.1 e (forth_ends e)).1 w.2, w.3)),
+      (λ y. subst (λ (z : ℕ). IsUnnamed d k (slice_index mesh.face z)) (over_number ∙ sym q)
+          (above_is.0 (y.0, y.1, (crosses_forth d (E x) i y.0 y.1 e (forth_ends e)).0 y.2, y.3))),
+      (λ u. let w = above_is.1
+          (subst (λ (z : ℕ). IsUnnamed d k (slice_index mesh.face z)) (q ∙ sym over_number) u) in
+          (w.0, w.1, (crosses_forth d (E x) i w.0 w.1 e (forth_ends e)).1 w.2, w.3)),
     )
     side_is false h (forth e q) = (
-      (λ y. subst (λ (z : ℕ). IsUnnamed d k (slice_index mesh.face z)) (under_number ∙ sym q) (below_is.0 (y.0, y.1, (crosses_forth d (E x) i y.0 y.1 e (forth_ends e)).0 y.2, y.3))),
-      (λ u. let w = below_is.1 (subst (λ (z : ℕ). IsUnnamed d k (slice_index mesh.face z)) (q ∙ sym under_number) u) in (w.0, w.1, (crosses_forth d (E x) i w.0 w.1 e (forth_ends e)).1 w.2, w.3)),
+      (λ y. subst (λ (z : ℕ). IsUnnamed d k (slice_index mesh.face z)) (under_number ∙ sym q)
+          (below_is.0 (y.0, y.1, (crosses_forth d (E x) i y.0 y.1 e (forth_ends e)).0 y.2, y.3))),
+      (λ u. let w = below_is.1
+          (subst (λ (z : ℕ). IsUnnamed d k (slice_index mesh.face z)) (q ∙ sym under_number) u) in
+          (w.0, w.1, (crosses_forth d (E x) i w.0 w.1 e (forth_ends e)).1 w.2, w.3)),
     )
     side_is true h (back e q) = (
-      (λ y. subst (λ (z : ℕ). IsUnnamed d k (slice_index mesh.face z)) (under_number ∙ sym q) (below_is.0 (y.1, y.0, (crosses_turned d (E x) i y.0 y.1 e (back_ends e)).0 y.2, y.3))),
-      (λ u. let w = below_is.1 (subst (λ (z : ℕ). IsUnnamed d k (slice_index mesh.face z)) (q ∙ sym under_number) u) in (w.1, w.0, (crosses_turned d (E x) i w.1 w.0 e (back_ends e)).1 w.2, w.3)),
+      (λ y. subst (λ (z : ℕ). IsUnnamed d k (slice_index mesh.face z)) (under_number ∙ sym q)
+          (below_is.0 (y.1, y.0, (crosses_turned d (E x) i y.0 y.1 e (back_ends e)).0 y.2, y.3))),
+      (λ u. let w = below_is.1
+          (subst (λ (z : ℕ). IsUnnamed d k (slice_index mesh.face z)) (q ∙ sym under_number) u) in
+          (w.1, w.0, (crosses_turned d (E x) i w.1 w.0 e (back_ends e)).1 w.2, w.3)),
     )
     side_is false h (back e q) = (
-      (λ y. subst (λ (z : ℕ). IsUnnamed d k (slice_index mesh.face z)) (over_number ∙ sym q) (above_is.0 (y.1, y.0, (crosses_turned d (E x) i y.0 y.1 e (back_ends e)).0 y.2, y.3))),
-      (λ u. let w = above_is.1 (subst (λ (z : ℕ). IsUnnamed d k (slice_index mesh.face z)) (q ∙ sym over_number) u) in (w.1, w.0, (crosses_turned d (E x) i w.1 w.0 e (back_ends e)).1 w.2, w.3)),
+      (λ y. subst (λ (z : ℕ). IsUnnamed d k (slice_index mesh.face z)) (over_number ∙ sym q)
+          (above_is.0 (y.1, y.0, (crosses_turned d (E x) i y.0 y.1 e (back_ends e)).0 y.2, y.3))),
+      (λ u. let w = above_is.1
+          (subst (λ (z : ℕ). IsUnnamed d k (slice_index mesh.face z)) (q ∙ sym over_number) u) in
+          (w.1, w.0, (crosses_turned d (E x) i w.1 w.0 e (back_ends e)).1 w.2, w.3)),
     )
 
     pub straight_side : (left : Bool) (v : ℕ) → IsFaceOn d level mesh.face i left v
@@ -203,22 +227,35 @@ module _ (d : Plan) (level : ℕ) (edges : List Edge) (owners : List Owner) (fac
   tube_faces : AreFacesOfTubes d (drawn_bays d level) m E face
   tube_faces =
       let u = run_weight m E (steps_from [] vs) [] is.settled.run.run in
-      run_faces d (drawn_bays d level) m E (steps_from [] vs) is.settled.run is.settled.wide is.settled.settled u.weight u.swept face (faces_to (pos 0) u.weight m E (steps_from [] vs) face f.faces)
+      run_faces d (drawn_bays d level) m E
+      (steps_from [] vs) is.settled.run is.settled.wide is.settled.settled u.weight u.swept face
+      (faces_to (pos 0) u.weight m E (steps_from [] vs) face f.faces)
 
   module _ (i : ℕ) (h : IsHalfArc d i) where
     inside_is : IsEmptyInside d i ↔ IsUnnamed d k (inner_face i)
-    inside_is = inside_empty d (drawn_bays d level) m E (steps_from [] vs) is.settled.run is.settled.wide is.settled.settled (pos 0) face f.faces k (own_face d level edges owners facings vs is spots placed mesh n f) i h.there h.kind
+    inside_is = inside_empty d (drawn_bays d level) m E
+        (steps_from [] vs) is.settled.run is.settled.wide is.settled.settled (pos 0) face f.faces k
+        (own_face d level edges owners facings vs is spots placed mesh n f) i h.there h.kind
 
     outside_is : IsEmptyOutside d i ↔ IsUnnamed d k (outer_face i)
-    outside_is = outside_empty d (drawn_bays d level) m E (steps_from [] vs) is.settled.run is.settled.wide is.settled.settled (pos 0) face f.faces k (own_face d level edges owners facings vs is spots placed mesh n f) i h.there h.kind
+    outside_is =
+        outside_empty d (drawn_bays d level) m E
+        (steps_from [] vs) is.settled.run is.settled.wide is.settled.settled (pos 0) face f.faces k
+        (own_face d level edges owners facings vs is spots placed mesh n f) i h.there h.kind
 
     abbrev Ended : Bool → Type 0
     Ended w = (p : Vector) × (q : Vector) × CrossesHalfArc d i p q × IsLost d (end_on w p q)
 
     ended_is : (w : Bool) (b : Beside) → b.first ≡ inner_face i → b.second ≡ outer_face i
         → Ended w ↔ IsUnnamed d k (face_on w b)
-    ended_is true b e g = ((λ y. subst (IsUnnamed d k) (sym e) (inside_is.0 y)), (λ u. inside_is.1 (subst (IsUnnamed d k) e u)))
-    ended_is false b e g = ((λ y. subst (IsUnnamed d k) (sym g) (outside_is.0 y)), (λ u. outside_is.1 (subst (IsUnnamed d k) g u)))
+    ended_is true b e g = (
+      (λ y. subst (IsUnnamed d k) (sym e) (inside_is.0 y)),
+      (λ u. inside_is.1 (subst (IsUnnamed d k) e u)),
+    )
+    ended_is false b e g = (
+      (λ y. subst (IsUnnamed d k) (sym g) (outside_is.0 y)),
+      (λ u. outside_is.1 (subst (IsUnnamed d k) g u)),
+    )
 
     arc_ended : (left : Bool) → IsEmptySide d i left
         → Ended (is_inward (third_is_left (curve d i)) left)
@@ -226,31 +263,45 @@ module _ (d : Plan) (level : ℕ) (edges : List Edge) (owners : List Owner) (fac
     arc_ended left (half_arc p q t c l) = (p, q, c, l)
 
     pub arc_side : (left : Bool) (b : Beside) → b.first ≡ inner_face i → b.second ≡ outer_face i
-        → IsEmptySide d i left ↔ IsUnnamed d k (face_on (is_inward (third_is_left (curve d i)) left) b)
+        → IsEmptySide d i left ↔ IsUnnamed d k
+        (face_on (is_inward (third_is_left (curve d i)) left) b)
     arc_side left b e g =
         let w = ended_is (is_inward (third_is_left (curve d i)) left) b e g in
         ((λ y. w.0 (arc_ended left y)), (λ u. let y = w.1 u in half_arc y.0 y.1 h y.2 y.3))
 
     twin_there : (x : ℕ) → x < m → edge_of (twin (half_within d (drawn_bays d level) E x)) < m
-    twin_there x l = subst (λ (e : ℕ). e < m) (sym (edge_twin (half_within d (drawn_bays d level) E x) ∙ edge_within d (drawn_bays d level) E x)) l
+    twin_there x l =
+        subst (λ (e : ℕ). e < m)
+        (sym (edge_twin (half_within d (drawn_bays d level) E x)
+        ∙ edge_within d (drawn_bays d level) E x)) l
 
     pub inner_known : inner_face i < n
-    inner_known = known (twin (half_within d (drawn_bays d level) E (first_at d level i))) (twin_there (first_at d level i) (chains i h).inner_there)
+    inner_known =
+        known (twin (half_within d (drawn_bays d level) E (first_at d level i)))
+        (twin_there (first_at d level i) (chains i h).inner_there)
 
     pub outer_known : outer_face i < n
     outer_known =
-        known (twin (half_within d (drawn_bays d level) E (first_at d level i + length (drawn_bays d level i)))) (twin_there (first_at d level i + length (drawn_bays d level i)) (chains i h).outer_there)
+        known (twin (half_within d (drawn_bays d level) E
+        (first_at d level i + length (drawn_bays d level i))))
+        (twin_there (first_at d level i + length (drawn_bays d level i))
+        (chains i h).outer_there)
 
     pub inner_same : (e : ℕ) → e < m → (owned_at d level e).curve ≡ i
         → (owned_at d level e).part ≡ inner
         → face (twin (half_within d (drawn_bays d level) E e)) ≡ inner_face i
-    inner_same e l o p = (let a = chains i h in tube_faces.inner_chain e (first_at d level i) l a.inner_there p a.inner_part (o ∙ sym a.inner_curve))
+    inner_same e l o p =
+        (let a = chains i h in
+        tube_faces.inner_chain e (first_at d level i) l a.inner_there p a.inner_part (o
+        ∙ sym a.inner_curve))
 
     pub outer_same : (e : ℕ) → e < m → (owned_at d level e).curve ≡ i
         → (owned_at d level e).part ≡ outer
         → face (twin (half_within d (drawn_bays d level) E e)) ≡ outer_face i
     outer_same e l o p =
-        (let a = chains i h in tube_faces.outer_chain e (first_at d level i + length (drawn_bays d level i)) l a.outer_there p a.outer_part (o ∙ sym a.outer_curve))
+        (let a = chains i h in
+        tube_faces.outer_chain e (first_at d level i + length (drawn_bays d level i)) l
+        a.outer_there p a.outer_part (o ∙ sym a.outer_curve))
 
   -- ---- the faces of the points
   over_known : (o : Option ℕ) → IsOver m o → face_over mesh.face o < n
@@ -260,24 +311,34 @@ module _ (d : Plan) (level : ℕ) (edges : List Edge) (owners : List Owner) (fac
   pub spot_known : (v : Point) (s : Spot) → IsSpot d level vs v s
       → spot_face d level mesh.face s < n
   spot_known v (spot.On c) h = f.some
-  spot_known v (spot.InTube c true) h = inner_known c (record { there = h.0.there; kind = h.0.bent })
-  spot_known v (spot.InTube c false) h = outer_known c (record { there = h.0.there; kind = h.0.bent })
-  spot_known v (spot.Cell i l u) h = over_known l (cell_in d level edges owners facings vs is v i l u h.0)
+  spot_known v (spot.InTube c true) h =
+      inner_known c (record { there = h.0.there; kind = h.0.bent })
+  spot_known v (spot.InTube c false) h =
+      outer_known c (record { there = h.0.there; kind = h.0.bent })
+  spot_known v (spot.Cell i l u) h =
+      over_known l (cell_in d level edges owners facings vs is v i l u h.0)
 
   pub point_known : (j : ℕ) → j < length faces_here → slice_index faces_here j < n
   point_known j l =
-      let a : j < length d.points = (let q = fs_size d level edges owners facings vs is spots placed mesh n f in omega (arith, l, q)) in
+      let a : j < length
+      d.points = (let q = fs_size d level edges owners facings vs is spots placed mesh n f in
+      omega (arith, l, q)) in
       let b : j < length spots = (let q = placed.spots_are.size in omega (arith, a, q)) in
-      subst (λ (x : ℕ). x < n) (sym (nth_spot_face (spot_face d level mesh.face) spots j b)) (spot_known (object d j) (spot_at spots j) (placed.spots_are.each j a))
+      subst (λ (x : ℕ). x < n) (sym (nth_spot_face (spot_face d level mesh.face) spots j b))
+      (spot_known (object d j) (spot_at spots j) (placed.spots_are.each j a))
 
   -- ---- all curves
-  module _ (besides : List Beside) (are : AreBeside d level mesh.face (length d.curves) besides) where
+  module _ (besides : List Beside)
+      (are : AreBeside d level mesh.face (length d.curves) besides) where
     beside_here : (i : ℕ) → i < length d.curves → IsBeside d level mesh.face i (beside_at besides i)
     beside_here i l = are.each i l
 
     straight_faces : (i : ℕ) → IsStraight d i → (left : Bool)
         → IsFaceOn d level mesh.face i left (face_on left (beside_at besides i))
-    straight_faces i s left = by_side left (subst (λ (t : CurveKind). IsBesideKind t d level mesh.face i (beside_at besides i)) s.kind (beside_here i s.there))
+    straight_faces i s left =
+        by_side left
+        (subst (λ (t : CurveKind). IsBesideKind t d level mesh.face i (beside_at besides i)) s.kind
+        (beside_here i s.there))
       where
         by_side : (b : Bool) → IsBesideKind kind.Straight d level mesh.face i (beside_at besides i)
             → IsFaceOn d level mesh.face i b (face_on b (beside_at besides i))
@@ -285,8 +346,11 @@ module _ (d : Plan) (level : ℕ) (edges : List Edge) (owners : List Owner) (fac
         by_side false t = t.1
 
     arc_faces : (i : ℕ) → IsHalfArc d i
-        → ((beside_at besides i).first ≡ inner_face i) × ((beside_at besides i).second ≡ outer_face i)
-    arc_faces i h = subst (λ (t : CurveKind). IsBesideKind t d level mesh.face i (beside_at besides i)) h.kind (beside_here i h.there)
+        → ((beside_at besides i).first ≡ inner_face i)
+        × ((beside_at besides i).second ≡ outer_face i)
+    arc_faces i h =
+        subst (λ (t : CurveKind). IsBesideKind t d level mesh.face i (beside_at besides i)) h.kind
+        (beside_here i h.there)
 
     decide : (i : ℕ) → i < length d.curves → IsStraight d i ⊎ IsHalfArc d i
     decide i l = by_kind (curve d i).kind refl
@@ -308,16 +372,27 @@ module _ (d : Plan) (level : ℕ) (edges : List Edge) (owners : List Owner) (fac
     pub side_empty : (i : ℕ) (left : Bool) → i < length d.curves
         → IsEmptySide d i left ↔ IsUnnamed d k (face_at i left)
     side_empty i left l = elim (decide i l) [
-      | inl s ↦ subst (λ (b : Bool). IsEmptySide d i left ↔ IsUnnamed d k (face_on b (beside_at besides i))) (sym (straight_first_is i left s)) (straight_side i s left (face_on left (beside_at besides i)) (straight_faces i s left))
+      | inl s ↦ subst (λ (b : Bool). IsEmptySide d i left
+          ↔ IsUnnamed d k (face_on b (beside_at besides i))) (sym (straight_first_is i left s))
+          (straight_side i s left (face_on left (beside_at besides i)) (straight_faces i s left))
       | inr h ↦ (let b = arc_faces i h in
-          subst (λ (b : Bool). IsEmptySide d i left ↔ IsUnnamed d k (face_on b (beside_at besides i))) (sym (arc_first_is i left h)) (arc_side i h left (beside_at besides i) b.0 b.1))
+          subst (λ (b : Bool). IsEmptySide d i left
+          ↔ IsUnnamed d k (face_on b (beside_at besides i))) (sym (arc_first_is i left h))
+          (arc_side i h left (beside_at besides i) b.0 b.1))
     ]
 
     pub besides_known : (i : ℕ) → i < length d.curves → IsBesideIn n (beside_at besides i)
     besides_known i l = elim (decide i l) [
-      | inl s ↦ record { first = face_known i s true (beside_at besides i).first (straight_faces i s true); second = face_known i s false (beside_at besides i).second (straight_faces i s false) }
+      | inl s ↦ record {
+        first = face_known i s true (beside_at besides i).first
+            (straight_faces i s true);
+        second = face_known i s false (beside_at besides i).second (straight_faces i s false);
+      }
       | inr h ↦ (let b = arc_faces i h in
-          record { first = subst (λ (v : ℕ). v < n) (sym b.0) (inner_known i h); second = subst (λ (v : ℕ). v < n) (sym b.1) (outer_known i h) })
+          record {
+            first = subst (λ (v : ℕ). v < n) (sym b.0) (inner_known i h);
+            second = subst (λ (v : ℕ). v < n) (sym b.1) (outer_known i h);
+          })
     ]
 
     face_at_known : (i : ℕ) (left : Bool) → i < length d.curves → face_at i left < n
@@ -329,12 +404,15 @@ module _ (d : Plan) (level : ℕ) (edges : List Edge) (owners : List Owner) (fac
         by_bool false t = t.second
 
     -- ---- owners
-    module _ (names : List ℕ) (o : AreOwners faces_here (length faces_here) names) (wide : length names ≡ n) where
+    module _ (names : List ℕ) (o : AreOwners faces_here (length faces_here) names)
+        (wide : length names ≡ n) where
       to_unnamed : (v : ℕ) → v < n → IsFreeFace names v → IsUnnamed d k v
       to_unnamed v l u = (
         u.inner,
         λ j w e. elim (o v (omega (arith, l, wide))) [
-          | inl z ↦ z.1 j (let q = fs_size d level edges owners facings vs is spots placed mesh n f in omega (arith, w, q)) (sym e)
+          | inl z ↦ z.1 j
+              (let q = fs_size d level edges owners facings vs is spots placed mesh n f in
+              omega (arith, w, q)) (sym e)
           | inr z ↦ absurd (let q = sym z.1 ∙ u.none in omega (arith, q))
         ],
       )
@@ -344,7 +422,9 @@ module _ (d : Plan) (level : ℕ) (edges : List Edge) (owners : List Owner) (fac
         inner = u.0;
         none = elim (o v (omega (arith, l, wide))) [
           | inl z ↦ z.0
-          | inr z ↦ (let w : z.0 < length d.points = (let q = z.2.there in let r = fs_size d level edges owners facings vs is spots placed mesh n f in omega (arith, q, r)) in absurd (u.1 z.0 w (sym z.2.face)))
+          | inr z ↦ (let w : z.0 < length d.points = (let q = z.2.there in
+              let r = fs_size d level edges owners facings vs is spots placed mesh n f in
+              omega (arith, q, r)) in absurd (u.1 z.0 w (sym z.2.face)))
         ];
       }
 
@@ -364,9 +444,12 @@ module _ (d : Plan) (level : ℕ) (edges : List Edge) (owners : List Owner) (fac
           → IsLeastFree d.curves besides names s.curve s.left
           → IsAnswer d (Fault (Empty s.curve s.left))
       empty_answer s settled none single h =
-          empty s.curve s.left (alone d level edges owners facings vs is spots placed mesh n f none single) settled (record {
+          empty s.curve s.left
+          (alone d level edges owners facings vs is spots placed mesh n f none single) settled
+          (record {
             empty = (free_is s.curve s.left h.there).1 h.free;
-            no_curve = λ i left l y. h.no_curve i left l ((free_is i left (empty_there i left y)).0 y);
+            no_curve = λ i left l y. h.no_curve i left l
+                ((free_is i left (empty_there i left y)).0 y);
             no_left = λ e y. h.no_left e ((free_is s.curve true h.there).0 y);
           })
 
@@ -374,25 +457,39 @@ module _ (d : Plan) (level : ℕ) (edges : List Edge) (owners : List Owner) (fac
           → HasNoFree d.curves besides names (length d.curves) → AreFilled d
       filled none single free = record {
         alone = alone d level edges owners facings vs is spots placed mesh n f none single;
-        none = λ i left y. free i left (empty_there i left y) ((free_is i left (empty_there i left y)).0 y);
+        none = λ i left y. free i left (empty_there i left y)
+            ((free_is i left (empty_there i left y)).0 y);
       }
 
       -- ---- no free side: all half-edges that face no tube bound owned faces
       free_face : (v w : ℕ) → v ≡ w → (w ≡ 0 → ⊥) → slice_index names w ≡ 0 → IsFreeFace names v
-      free_face v w e a b = record { inner = λ z. a (sym e ∙ z); none = ap (slice_index names) e ∙ b }
+      free_face v w e a b = record {
+        inner = λ z. a (sym e ∙ z);
+        none = ap (slice_index names) e ∙ b;
+      }
 
       pub all_owned : HasNoFree d.curves besides names (length d.curves) → (h : Half)
           → IsClearHalf d level h → IsUnowned mesh.face names (number h) → ⊥
-      all_owned none h clear u = elim (owner_is d (drawn_bays d level) m E (steps_from [] vs) is.settled.run (edge_of h) clear.there) [
-        | inl s ↦
-            let t : IsStraight d s.index = record { there = s.fits; kind = s.straight } in
-            let q : edge_of h ≡ first_at d level s.index = straight_only d level edges owners facings vs is (edge_of h) clear.there (subst (λ (j : ℕ). IsStraight d j) (sym s.number) t) ∙ ap (first_at d level) s.number in
-            let g = side_of s.index t h q in
-            let b = straight_faces s.index t g.0 in
-            let same : b.0 ≡ number h = one_side s.index t g.0 b.0 (number h) b.1 g.1 in
-            none s.index g.0 s.fits (free_face (face_at s.index g.0) (face h) (ap (λ (w : Bool). face_on w (beside_at besides s.index)) (straight_first_is s.index g.0 t) ∙ b.2 ∙ ap (slice_index mesh.face) same) u.inner u.none)
-        | inr a ↦ by_part a.index a.fits a.bent a.number (owned_at d level (edge_of h)).part refl a.part
-      ]
+      all_owned none h clear u =
+          elim (owner_is d (drawn_bays d level) m E (steps_from [] vs) is.settled.run
+          (edge_of h) clear.there) [
+            | inl s ↦
+                let t : IsStraight d s.index = record { there = s.fits; kind = s.straight } in
+                let q : edge_of h ≡ first_at d level s.index = straight_only d level edges owners
+                facings vs is (edge_of h) clear.there
+                (subst (λ (j : ℕ). IsStraight d j) (sym s.number) t)
+                ∙ ap (first_at d level) s.number in
+                let g = side_of s.index t h q in
+                let b = straight_faces s.index t g.0 in
+                let same : b.0 ≡ number h = one_side s.index t g.0 b.0 (number h) b.1 g.1 in
+                none s.index g.0 s.fits
+                (free_face (face_at s.index g.0) (face h)
+                (ap (λ (w : Bool). face_on w (beside_at besides s.index))
+                (straight_first_is s.index g.0 t) ∙ b.2
+                ∙ ap (slice_index mesh.face) same) u.inner u.none)
+            | inr a ↦ by_part a.index a.fits a.bent a.number
+                (owned_at d level (edge_of h)).part refl a.part
+          ]
         where
           by_part : (i : ℕ) → i < length d.curves → (curve d i).kind ≡ kind.HalfArc
               → (owned_at d level (edge_of h)).curve ≡ i → (p : Part)
@@ -401,14 +498,24 @@ module _ (d : Plan) (level : ℕ) (edges : List Edge) (owners : List Owner) (fac
           by_part i l b c inner e t =
               let r : IsHalfArc d i = record { there = l; kind = b } in
               let w = arc_faces i r in
-              let z : h ≡ twin (half_within d (drawn_bays d level) E (edge_of h)) = not_faced d (drawn_bays d level) E h (subst IsOfTube (sym e) tt) clear.clear in
-              let q : face h ≡ inner_face i = ap face z ∙ inner_same i r (edge_of h) clear.there c e in
+              let z : h ≡ twin (half_within d (drawn_bays d level) E (edge_of h)) = not_faced d
+              (drawn_bays d level) E h (subst IsOfTube (sym e) tt) clear.clear in
+              let q : face h ≡ inner_face i = ap face z
+              ∙ inner_same i r (edge_of h) clear.there c e in
               let left = third_is_left (curve d i) in
-              none i left l (free_face (face_at i left) (face h) (ap (λ (x : Bool). face_on x (beside_at besides i)) (arc_first_is i left r ∙ inward_same left) ∙ w.0 ∙ sym q) u.inner u.none)
+              none i left l
+              (free_face (face_at i left) (face h)
+              (ap (λ (x : Bool). face_on x (beside_at besides i)) (arc_first_is i left r
+              ∙ inward_same left) ∙ w.0 ∙ sym q) u.inner u.none)
           by_part i l b c outer e t =
               let r : IsHalfArc d i = record { there = l; kind = b } in
               let w = arc_faces i r in
-              let z : h ≡ twin (half_within d (drawn_bays d level) E (edge_of h)) = not_faced d (drawn_bays d level) E h (subst IsOfTube (sym e) tt) clear.clear in
-              let q : face h ≡ outer_face i = ap face z ∙ outer_same i r (edge_of h) clear.there c e in
+              let z : h ≡ twin (half_within d (drawn_bays d level) E (edge_of h)) = not_faced d
+              (drawn_bays d level) E h (subst IsOfTube (sym e) tt) clear.clear in
+              let q : face h ≡ outer_face i = ap face z
+              ∙ outer_same i r (edge_of h) clear.there c e in
               let left = not (third_is_left (curve d i)) in
-              none i left l (free_face (face_at i left) (face h) (ap (λ (x : Bool). face_on x (beside_at besides i)) (arc_first_is i left r ∙ inward_other (third_is_left (curve d i))) ∙ w.1 ∙ sym q) u.inner u.none)
+              none i left l
+              (free_face (face_at i left) (face h)
+              (ap (λ (x : Bool). face_on x (beside_at besides i)) (arc_first_is i left r
+              ∙ inward_other (third_is_left (curve d i))) ∙ w.1 ∙ sym q) u.inner u.none)

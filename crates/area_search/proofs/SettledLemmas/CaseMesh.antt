@@ -1,4 +1,5 @@
--- The labelled mesh of a settled drawing: its faces are those of the run, and faces do not matter to what is turned.
+-- The labelled mesh of a settled drawing: its faces are those of the run, and faces do not matter
+-- to what is turned.
 use Rattle.std.proofs.Common.{◌≡◌, ℕ, zero, suc, ◌*◌, ◌^◌, ◌<◌, List, [], ◌∷◌, length, slice_index}
 use Rattle.std.proofs.Common.{refl, sym, subst, ◌∙◌, arith, pos}
 use Rattle.event_mesh.specs.Turned.{IsTurned}
@@ -27,7 +28,8 @@ greatest_at [] h l = absurd (omega (arith, l))
 greatest_at (n ∷ ns) zero l = omega arith
 greatest_at (n ∷ ns) (suc h) l = (let k = greatest_at ns h (omega (arith, l)) in omega (arith, k))
 
-module _ (d : Plan) (level : ℕ) (edges : List Edge) (owners : List Owner) (facings : List Facing) (vs : List Move) (is : IsCase d level edges owners facings vs) where
+module _ (d : Plan) (level : ℕ) (edges : List Edge) (owners : List Owner) (facings : List Facing)
+    (vs : List Move) (is : IsCase d level edges owners facings vs) where
   abbrev m : ℕ
   m = length (edges_at d level)
 
@@ -53,20 +55,29 @@ module _ (d : Plan) (level : ℕ) (edges : List Edge) (owners : List Owner) (fac
     owner_few few = omega (arith, few, counted)
 
     pub owner_edges : HasEdges n (steps_from [] vs)
-    owner_edges = (E, subst (λ (k : ℕ). Run k E (steps_from [] vs)) (sym counted) is.settled.run.run)
+    owner_edges =
+        (E, subst (λ (k : ℕ). Run k E (steps_from [] vs)) (sym counted) is.settled.run.run)
 
     pub owner_mesh : (mesh : HalfEdges)
-        → ((F : ℕ → Edge) → Run n F (steps_from [] vs) → IsTurned n F (steps_from [] vs) mesh (length (steps_from [] vs)))
+        → ((F : ℕ → Edge) → Run n F (steps_from [] vs)
+        → IsTurned n F (steps_from [] vs) mesh (length (steps_from [] vs)))
         → IsTurned m E (steps_from [] vs) mesh (length (steps_from [] vs))
     unfolding owner_edges
-    owner_mesh mesh f = subst (λ (k : ℕ). IsTurned k E (steps_from [] vs) mesh (length (steps_from [] vs))) counted (f E owner_edges.1)
+    owner_mesh mesh f =
+        subst (λ (k : ℕ). IsTurned k E (steps_from [] vs) mesh (length (steps_from [] vs))) counted
+        (f E owner_edges.1)
 
-  module _ (mesh : HalfEdges) (turned : IsTurned (length edges) (edge_of edges) (steps_from [] vs) mesh (length (steps_from [] vs))) where
+  module _ (mesh : HalfEdges)
+      (turned : IsTurned (length edges) (edge_of edges) (steps_from [] vs) mesh
+      (length (steps_from [] vs))) where
     turned_here : IsTurned m E (steps_from [] vs) mesh (length (steps_from [] vs))
-    turned_here = subst (λ (es : List Edge). IsTurned (length es) (edge_of es) (steps_from [] vs) mesh (length (steps_from [] vs))) is.edges_are turned
+    turned_here =
+        subst (λ (es : List Edge). IsTurned (length es) (edge_of es) (steps_from [] vs) mesh
+        (length (steps_from [] vs))) is.edges_are turned
 
     module _ (faces : List ℕ) where
-      turned_faces : IsTurned m E (steps_from [] vs) (with_faces mesh faces) (length (steps_from [] vs))
+      turned_faces : IsTurned m E (steps_from [] vs) (with_faces mesh faces)
+          (length (steps_from [] vs))
       turned_faces =
           let t = turned_here in
           record {
@@ -75,7 +86,13 @@ module _ (d : Plan) (level : ℕ) (edges : List Edge) (owners : List Owner) (fac
             stars = λ j l.
                 let a = t.stars j l in
                 record {
-                  star = record { filled = a.star.filled; within = a.star.within; start = a.star.start; once = a.star.once; whole = a.star.whole };
+                  star = record {
+                    filled = a.star.filled;
+                    within = a.star.within;
+                    start = a.star.start;
+                    once = a.star.once;
+                    whole = a.star.whole;
+                  };
                   event = a.event;
                   turns = record { turns = a.turns.turns };
                 };
@@ -86,19 +103,24 @@ module _ (d : Plan) (level : ℕ) (edges : List Edge) (owners : List Owner) (fac
       run_mesh ok = record {
         turned = turned_faces;
         mesh_is = ok;
-        known = known_cells (closed_gaps vs) (with_faces mesh faces) refl (let k = turned_here.count in omega (arith, k, same_size));
+        known = known_cells (closed_gaps vs) (with_faces mesh faces) refl
+            (let k = turned_here.count in omega (arith, k, same_size));
       }
 
       pub has_run_faces : (cells : List Gap) (n : ℕ) → cells ≡ closed_gaps vs
           → AreFaces mesh cells faces → n ≡ suc (greatest faces)
           → HasRunFaces d level vs (with_faces mesh faces) n
       has_run_faces cells n e a c =
-          let own : AreFaces mesh (closed_gaps vs) faces = subst (λ (gs : List Gap). AreFaces mesh gs faces) e a in
-          let known = known_cells (closed_gaps vs) mesh refl (let k = turned_here.count in omega (arith, k, same_size)) in
+          let own : AreFaces mesh (closed_gaps vs) faces = subst
+          (λ (gs : List Gap). AreFaces mesh gs faces) e a in
+          let known = known_cells (closed_gaps vs) mesh refl (let k = turned_here.count in
+          omega (arith, k, same_size)) in
           record {
             size_is = turned_here.count;
             entries = own.size_is;
-            faces = are_faces (pos 0) m E vs mesh is.settled.run.run is.fit turned_here known faces own;
-            below = λ h l. (let k = greatest_at faces h (omega (arith, l, own.size_is)) in omega (arith, k, c));
+            faces = are_faces (pos 0) m E vs mesh is.settled.run.run is.fit turned_here known faces
+                own;
+            below = λ h l. (let k = greatest_at faces h (omega (arith, l, own.size_is)) in
+                omega (arith, k, c));
             some = omega (arith, c);
           }

@@ -31,7 +31,8 @@ use Rattle.area_search.proofs.SettledLemmas.TubedLaws.{faced_within, faces_to, l
 use Rattle.area_search.proofs.SettledLemmas.TubedLaws.{run_labels, run_weight, swept_whole}
 use Rattle.area_search.proofs.SettledLemmas.TubedLaws.{touches_to}
 
--- Half-edges of a settled run with faces, points and their owners, and a label for each half-edge: that of the tube that it faces, or
+-- Half-edges of a settled run with faces, points and their owners, and a label for each half-edge:
+-- that of the tube that it faces, or
 -- the owner of its face.
 pub record Labelling : Type 0 where
   pub d : Plan
@@ -42,13 +43,15 @@ pub record Labelling : Type 0 where
   pub count : ℕ
   pub owners : List ℕ
   pub name : Half → ℕ
-  pub settled : IsSettledDrawing d (drawn_bays d level) (length (edges_at d level)) (edge_at d level) (steps_from [] vs)
+  pub settled : IsSettledDrawing d (drawn_bays d level) (length (edges_at d level))
+      (edge_at d level) (steps_from [] vs)
   pub fit : Fit [] vs
   pub placed : ArePlacedOff d level vs spots
   pub faces : HasRunFaces d level vs mesh count
   pub own : HaveOwners d level mesh.face spots count owners
   pub name_is : (h : Half) → edge_of h < length (edges_at d level)
-      → name h ≡ label_by (length d.points) (faced d (drawn_bays d level) (edge_at d level) h) (slice_index owners (face_in mesh.face h))
+      → name h ≡ label_by (length d.points) (faced d (drawn_bays d level) (edge_at d level) h)
+      (slice_index owners (face_in mesh.face h))
 
 pub nth_face : (d : Plan) (level : ℕ) (faces : List ℕ) (spots : List Spot) (j : ℕ)
     → j < length spots
@@ -121,7 +124,12 @@ module _ (s : Labelling) where
   own_name j l k = elim (s.own.owners_are (slice_index fs j) k) [
     | inl z ↦ absurd (z.1 j (omega (arith, l, points)) refl)
     | inr (i, e, first) ↦ less_equal_or i j (slice_index s.owners (slice_index fs j) ≡ suc j)
-        (λ p. absurd (s.own.shared i j (record { order = p; there = omega (arith, l, points); one = first.face })))
+        (λ p. absurd
+        (s.own.shared i j (record {
+          order = p;
+          there = omega (arith, l, points);
+          one = first.face;
+        })))
         (λ p. e ∙ ap suc p)
         (λ p. absurd (first.first j p refl))
   ]
@@ -132,7 +140,8 @@ module _ (s : Labelling) where
   pub zero_name : slice_index s.owners 0 ≡ 0
   zero_name = elim (s.own.owners_are 0 some_face) [
     | inl z ↦ z.0
-    | inr (i, e, first) ↦ absurd (s.own.outside i (let a = fs_size in let b = first.there in omega (arith, a, b, points)) first.face)
+    | inr (i, e, first) ↦ absurd (s.own.outside i (let a = fs_size in let b = first.there in
+        omega (arith, a, b, points)) first.face)
   ]
 
   pub known : (h : Half) → edge_of h < m → F h < length s.owners
@@ -154,7 +163,9 @@ module _ (s : Labelling) where
     where
       by_value : (v : ℕ) → F h ≡ v → F h ≡ 0
       by_value zero q = q
-      by_value (suc v) q = absurd (s.own.owned h (record { there = l; clear = c }) (record { inner = λ z. absurd (omega (arith, q, z)); none = e }))
+      by_value (suc v) q =
+          absurd (s.own.owned h (record { there = l; clear = c })
+          (record { inner = λ z. absurd (omega (arith, q, z)); none = e }))
 
   same_face : (g h : Half) → edge_of g < m → edge_of h < m → faced d bays E g ≡ 0
       → faced d bays E h ≡ 0 → owner g ≡ owner h → F g ≡ F h
@@ -162,7 +173,8 @@ module _ (s : Labelling) where
     | inl z ↦ free_zero g k c z.0 ∙ sym (free_zero h l b (sym e ∙ z.0))
     | inr (i, p, first) ↦ elim (s.own.owners_are (F h) (known h l)) [
       | inl z ↦ absurd (let q = z.0 in omega (arith, p, e, q))
-      | inr (j, q, other) ↦ (let t : i ≡ j = omega (arith, p, e, q) in sym first.face ∙ ap (slice_index fs) t ∙ other.face)
+      | inr (j, q, other) ↦ (let t : i ≡ j = omega (arith, p, e, q) in
+          sym first.face ∙ ap (slice_index fs) t ∙ other.face)
     ]
   ]
 
@@ -170,7 +182,8 @@ module _ (s : Labelling) where
   pub tubes : AreFacesOfTubes d bays m E F
   tubes =
       let u = run_weight m E steps [] s.settled.run.run in
-      run_faces d bays m E steps s.settled.run s.settled.wide s.settled.settled u.weight u.swept F (faces_to (pos 0) u.weight m E steps F s.faces.faces)
+      run_faces d bays m E steps s.settled.run s.settled.wide s.settled.settled u.weight u.swept F
+      (faces_to (pos 0) u.weight m E steps F s.faces.faces)
 
   pub pairs : AreCellsPaired d bays r
   pairs = cells_paired d bays m E steps s.settled.run s.settled.wide s.settled.settled (pos 0)
@@ -190,20 +203,28 @@ module _ (s : Labelling) where
     where
       by_tags : (a b : ℕ) → faced d bays E g ≡ a → faced d bays E h ≡ b → F g ≡ F h
       by_tags zero zero p q = same_face g h k l p q (sym (clear_name g k p) ∙ e ∙ clear_name h l q)
-      by_tags zero (suc i) p q = absurd (let a = owner_least g k in let b = clear_name g k p in let t = tube_name h i l q in omega (arith, a, b, e, t))
-      by_tags (suc i) zero p q = absurd (let a = owner_least h l in let b = clear_name h l q in let t = tube_name g i k p in omega (arith, a, b, e, t))
+      by_tags zero (suc i) p q =
+          absurd (let a = owner_least g k in let b = clear_name g k p in
+          let t = tube_name h i l q in omega (arith, a, b, e, t))
+      by_tags (suc i) zero p q =
+          absurd (let a = owner_least h l in let b = clear_name h l q in
+          let t = tube_name g i k p in omega (arith, a, b, e, t))
       by_tags (suc i) (suc j) p q =
           let a = faced_is d bays E g i p in
           let b = faced_is d bays E h j q in
-          let t : i ≡ j = (let x = tube_name g i k p in let y = tube_name h j l q in omega (arith, x, y, e)) in
-          ap F a.is ∙ tubes.one (edge_of g) (edge_of h) k l a.part b.part (a.curve ∙ t ∙ sym b.curve) ∙ sym (ap F b.is)
+          let t : i ≡ j = (let x = tube_name g i k p in let y = tube_name h j l q in
+          omega (arith, x, y, e)) in
+          ap F a.is ∙ tubes.one (edge_of g) (edge_of h) k l a.part b.part (a.curve ∙ t
+          ∙ sym b.curve) ∙ sym (ap F b.is)
 
   pub across_fits : (g h : Half) → Across r g h → (edge_of g < m) × (edge_of h < m)
   across_fits g h a =
       let u = run_weight m E steps [] s.settled.run.run in
       let v = swept_whole u.weight m E steps u.swept in
-      let b = across_to (pos 0) u.weight m E steps g h a in
-      (beside_fits (replay u.weight m E steps) v.run v.law g b.0 b.1 b.2, beside_fits (replay u.weight m E steps) v.run v.law h b.0 b.1 b.3)
+      let b = across_to (pos 0) u.weight m E steps g h a in (
+        beside_fits (replay u.weight m E steps) v.run v.law g b.0 b.1 b.2,
+        beside_fits (replay u.weight m E steps) v.run v.law h b.0 b.1 b.3,
+      )
 
   pub touches_fits : (h : Half) → Touches r h → edge_of h < m
   touches_fits h t =
@@ -215,8 +236,12 @@ module _ (s : Labelling) where
   pub named_faces : IsFaces r name
   named_faces = record {
     across = λ g h a. (let k = across_fits g h a in
-        s.name_is g k.0 ∙ ap (λ (t : ℕ). label_by (length d.points) t (owner g)) (pairs.across g h a) ∙ ap (λ (v : ℕ). label_by (length d.points) (faced d bays E h) (slice_index s.owners v)) (s.faces.faces.across g h a) ∙ sym (s.name_is h k.1));
-    border = λ h t. clear_name h (touches_fits h t) (pairs.border h t) ∙ ap (slice_index s.owners) (s.faces.faces.border h t) ∙ zero_name;
+        s.name_is g k.0
+        ∙ ap (λ (t : ℕ). label_by (length d.points) t (owner g)) (pairs.across g h a)
+        ∙ ap (λ (v : ℕ). label_by (length d.points) (faced d bays E h) (slice_index s.owners v))
+        (s.faces.faces.across g h a) ∙ sym (s.name_is h k.1));
+    border = λ h t. clear_name h (touches_fits h t) (pairs.border h t)
+        ∙ ap (slice_index s.owners) (s.faces.faces.border h t) ∙ zero_name;
     one = λ g h k l e. s.faces.faces.one g h k l (one_face g h k l e);
     outside = λ h k e. s.faces.faces.outside h k (zero_face h k e);
   }
@@ -240,17 +265,22 @@ module _ (s : Labelling) where
 
   pub numbers_are : AreCertificateNumbers d bays m E name
   numbers_are = record {
-    tubes = λ e l o. tube_name (within e) (owned d bays e).curve (within_fits e l) (faced_within d bays E e o);
+    tubes = λ e l o. tube_name (within e) (owned d bays e).curve (within_fits e l)
+        (faced_within d bays E e o);
     rest = λ h l. by_tag h l (faced d bays E h) refl;
   }
     where
       by_tag : (h : Half) → edge_of h < m → (a : ℕ) → faced d bays E h ≡ a
-          → (name h ≤ length d.points) ⊎ ((e : ℕ) × (e < m) × IsOfTube (owned d bays e).part × (name h ≡ name (within e)))
-      by_tag h l zero p = inl (let a = owner_least h l in let b = clear_name h l p in omega (arith, a, b))
-      by_tag h l (suc i) p = (let q = faced_is d bays E h i p in inr (edge_of h, l, q.part, ap name q.is))
+          → (name h ≤ length d.points)
+          ⊎ ((e : ℕ) × (e < m) × IsOfTube (owned d bays e).part × (name h ≡ name (within e)))
+      by_tag h l zero p =
+          inl (let a = owner_least h l in let b = clear_name h l p in omega (arith, a, b))
+      by_tag h l (suc i) p =
+          (let q = faced_is d bays E h i p in inr (edge_of h, l, q.part, ap name q.is))
 
   pub labels_are : AreTubeLabels d bays r (numbers name) within inside outside
   labels_are =
       let u = run_weight m E steps [] s.settled.run.run in
       labels_to u.weight (pos 0) d bays m E steps (numbers name) within inside outside
-      (run_labels d bays m E steps s.settled.run s.settled.wide s.settled.settled u.weight u.swept name (faces_to (pos 0) u.weight m E steps name named_faces) numbers_are)
+      (run_labels d bays m E steps s.settled.run s.settled.wide s.settled.settled u.weight u.swept
+      name (faces_to (pos 0) u.weight m E steps name named_faces) numbers_are)

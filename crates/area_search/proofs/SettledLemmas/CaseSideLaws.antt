@@ -26,7 +26,8 @@ by_sign (pos zero) turn.Left b h y n = absurd (omega (arith, ints, h))
 by_sign (pos (suc k)) turn.Left true h y n = refl
 by_sign (pos (suc k)) turn.Left false h y n = absurd (n refl refl)
 by_sign (negsuc k) turn.Left b h y n = absurd (omega (arith, ints, h))
-by_sign (pos zero) turn.Straight true h y n = absurd (let q : turn.Straight ≡ turn.Left = y refl in cc)
+by_sign (pos zero) turn.Straight true h y n =
+    absurd (let q : turn.Straight ≡ turn.Left = y refl in cc)
 by_sign (pos zero) turn.Straight false h y n = refl
 by_sign (pos (suc k)) turn.Straight b h y n = absurd (omega (arith, ints, h))
 by_sign (negsuc k) turn.Straight b h y n = absurd (omega (arith, ints, h))

@@ -56,7 +56,8 @@ use Rattle.area_search.proofs.SettledLemmas.CaseEdges.{tube_part, whole_part}
 a_place : (p : Point) → IsPlace (point p)
 a_place p = omega (arith, ints)
 
-module _ (d : Plan) (level : ℕ) (edges : List Edge) (owners : List Owner) (facings : List Facing) (vs : List Move) (is : IsCase d level edges owners facings vs) where
+module _ (d : Plan) (level : ℕ) (edges : List Edge) (owners : List Owner) (facings : List Facing)
+    (vs : List Move) (is : IsCase d level edges owners facings vs) where
   abbrev m : ℕ
   m = length (edges_at d level)
 
@@ -72,53 +73,78 @@ module _ (d : Plan) (level : ℕ) (edges : List Edge) (owners : List Owner) (fac
 
   pub straight_spot : (v : Point) (e : ℕ) → IsLeastEdge edges v e
       → (owned_at d level e).part ≡ whole → IsFirstOn d (owned_at d level e).curve (point v)
-  straight_spot v e h p = let k = least_at v e h in on_straight d (drawn_bays d level) m E (steps_from [] vs) is.settled.run is.settled.wide is.settled.settled v e k.known k.on k.least p
+  straight_spot v e h p =
+      let k = least_at v e h in
+      on_straight d (drawn_bays d level) m E
+      (steps_from [] vs) is.settled.run is.settled.wide is.settled.settled v e k.known k.on
+      k.least p
 
   pub chain_tube : (v : Point) (e : ℕ) → IsLeastEdge edges v e → IsOfTube (owned_at d level e).part
       → LiesInTube d (drawn_bays d level) (owned_at d level e).curve v
-  chain_tube v e h p = let k = least_at v e h in on_chain d (drawn_bays d level) m E (steps_from [] vs) is.settled.run is.settled.wide is.settled.settled v e k.known k.on k.least p
+  chain_tube v e h p =
+      let k = least_at v e h in
+      on_chain d (drawn_bays d level) m E
+      (steps_from [] vs) is.settled.run is.settled.wide is.settled.settled v e k.known k.on
+      k.least p
 
-  module _ (v : Point) (e : ℕ) (h : IsLeastEdge edges v e) (o : Owner) (q : o ≡ owner_at owners e) where
+  module _ (v : Point) (e : ℕ) (h : IsLeastEdge edges v e) (o : Owner)
+      (q : o ≡ owner_at owners e) where
     owner_here : o ≡ owner_as (owned_at d level e)
     owner_here = q ∙ nth_owner d level edges owners facings vs is e no_owner (least_at v e h).known
 
     pub owner_straight : o.part ≡ part.Straight → IsFirstOn d o.curve (point v)
     owner_straight p =
         subst (λ (i : ℕ). IsFirstOn d i (point v)) (sym (ap (λ (x : Owner). x.curve) owner_here))
-        (straight_spot v e h (whole_part (owned_at d level e).part (sym (ap (λ (x : Owner). x.part) owner_here) ∙ p)))
+        (straight_spot v e h
+        (whole_part (owned_at d level e).part (sym (ap (λ (x : Owner). x.part) owner_here)
+        ∙ p)))
 
     pub owner_tube : (o.part ≡ part.Straight → ⊥) → LiesInTube d (drawn_bays d level) o.curve v
     owner_tube n =
-        subst (λ (i : ℕ). LiesInTube d (drawn_bays d level) i v) (sym (ap (λ (x : Owner). x.curve) owner_here))
-        (chain_tube v e h (tube_part (owned_at d level e).part (λ p. n (ap (λ (x : Owner). x.part) owner_here ∙ p))))
+        subst (λ (i : ℕ). LiesInTube d (drawn_bays d level) i v)
+        (sym (ap (λ (x : Owner). x.curve) owner_here))
+        (chain_tube v e h
+        (tube_part (owned_at d level e).part
+        (λ p. n (ap (λ (x : Owner). x.part) owner_here ∙ p))))
 
   -- ---- in a cell
   pub cell_here : (v : Point) (i : ℕ) (l u : Option ℕ) → IsCell edges vs v i l u
       → IsCell (edges_at d level) vs v i l u
   cell_here v i l u c = subst (λ (es : List Edge). IsCell es vs v i l u) is.edges_are c
 
-  pub before_cell : (v : Point) (i e : ℕ) (l u : Option ℕ) (c : IsCell (edges_at d level) vs v i l u)
+  pub before_cell : (v : Point) (i e : ℕ) (l u : Option ℕ)
+      (c : IsCell (edges_at d level) vs v i l u)
       → l ≡ Some e → AtBefore (r.list c.events) i e
-  before_cell v i e l u c q = subst (λ (es : List ℕ). AtBefore es i e) (sym (list_is [] vs c.events c.known)) (before_is (live_from [] (take c.events vs)) i e (sym c.lower_is ∙ q))
+  before_cell v i e l u c q =
+      subst (λ (es : List ℕ). AtBefore es i e) (sym (list_is [] vs c.events c.known))
+      (before_is (live_from [] (take c.events vs)) i e (sym c.lower_is ∙ q))
 
   pub lower_at : (v : Point) (i e : ℕ) (l u : Option ℕ) (c : IsCell (edges_at d level) vs v i l u)
       → AtBefore (r.list c.events) i e → l ≡ Some e
-  lower_at v i e l u c b = c.lower_is ∙ is_before (live_from [] (take c.events vs)) i e (subst (λ (es : List ℕ). AtBefore es i e) (list_is [] vs c.events c.known) b)
+  lower_at v i e l u c b = c.lower_is
+      ∙ is_before (live_from [] (take c.events vs)) i e
+      (subst (λ (es : List ℕ). AtBefore es i e) (list_is [] vs c.events c.known) b)
 
   pub cell_tube : (v : Point) (i c : ℕ) (l u : Option ℕ) → IsCell edges vs v i l u
       → IsTubeOver d level l (Some c) → LiesInTube d (drawn_bays d level) c v
   cell_tube v i c l u h (e, q, f) =
       let k = cell_here v i l u h in
-      cell_in_tube d (drawn_bays d level) m E (steps_from [] vs) is.settled.run is.settled.wide is.settled.settled v (pos 0) k.events i (k.located (pos 0)) e c (before_cell v i e l u k q) f
+      cell_in_tube d (drawn_bays d level) m E
+      (steps_from [] vs) is.settled.run is.settled.wide is.settled.settled v (pos 0) k.events i
+      (k.located (pos 0)) e c (before_cell v i e l u k q) f
 
   pub cell_in : (v : Point) (i : ℕ) (l u : Option ℕ) → IsCell (edges_at d level) vs v i l u
       → IsOver m l
   cell_in v i None u c = tt
-  cell_in v i (Some e) u c = run_known m E vs c.events e is.settled.run.run c.known (before_has (live_from [] (take c.events vs)) i e (sym c.lower_is))
+  cell_in v i (Some e) u c =
+      run_known m E vs c.events e is.settled.run.run c.known
+      (before_has (live_from [] (take c.events vs)) i e (sym c.lower_is))
 
   pub cell_over : (v : Point) (i : ℕ) (l u : Option ℕ) → IsCell edges vs v i l u
       → IsOver (length edges) l
-  cell_over v i l u h = subst (λ (k : ℕ). IsOver k l) (sym (edges_size d level edges owners facings vs is)) (cell_in v i l u (cell_here v i l u h))
+  cell_over v i l u h =
+      subst (λ (k : ℕ). IsOver k l) (sym (edges_size d level edges owners facings vs is))
+      (cell_in v i l u (cell_here v i l u h))
 
   pub clear_is : (l : Option ℕ) (e : ℕ) → IsClearOver d level l → l ≡ Some e
       → faced d (drawn_bays d level) E (over e) ≡ 0
@@ -127,11 +153,15 @@ module _ (d : Plan) (level : ℕ) (edges : List Edge) (owners : List Owner) (fac
   -- ---- off the curves
   pub off_spot : (v : Point) (s : Spot) → IsSpot d level vs v s → IsOffCurves s → IsOff d (point v)
   off_spot v (spot.On c) h o = absurd o
-  off_spot v (spot.InTube c true) h o = h.0.off (λ e. let l = h.1 in absurd (omega (arith, ints, e, l)))
-  off_spot v (spot.InTube c false) h o = h.0.off (λ e. let l = h.1 in absurd (omega (arith, ints, e, l)))
+  off_spot v (spot.InTube c true) h o =
+      h.0.off (λ e. let l = h.1 in absurd (omega (arith, ints, e, l)))
+  off_spot v (spot.InTube c false) h o =
+      h.0.off (λ e. let l = h.1 in absurd (omega (arith, ints, e, l)))
   off_spot v (spot.Cell i l u) h o =
       let k = h.0 in
-      cell_off_curves d (drawn_bays d level) m E (steps_from [] vs) is.settled.run is.settled.wide is.settled.settled v (pos 0) k.events i (k.located (pos 0))
+      cell_off_curves d (drawn_bays d level) m E
+      (steps_from [] vs) is.settled.run is.settled.wide is.settled.settled v (pos 0) k.events i
+      (k.located (pos 0))
       (λ e b. clear_is l e h.1 (lower_at v i e l u k b))
 
   -- ---- sides
@@ -139,11 +169,13 @@ module _ (d : Plan) (level : ℕ) (edges : List Edge) (owners : List Owner) (fac
       → HasSide (arc (curve d c)) (point v)
   tube_side v c h =
       let t = is.tubes c (record { there = h.there; kind = h.bent }) in
-      tube_has_sides (arc (curve d c)) (drawn_bays d level c) (point v) (tube_circle d level c t) (corners_near d level c t) (a_place v) h.holds
+      tube_has_sides (arc (curve d c)) (drawn_bays d level c) (point v) (tube_circle d level c t)
+      (corners_near d level c t) (a_place v) h.holds
 
   pub spot_by_side : (v : Point) (c : ℕ) (s : Side) → LiesInTube d (drawn_bays d level) c v
       → HasSign s (power (arc (curve d c)) (point v)) → (t : Spot)
-      → (s ≡ side.Inside → t ≡ spot.InTube c true) → (s ≡ side.On → t ≡ spot.On c) → (s ≡ side.Outside → t ≡ spot.InTube c false) → IsSpot d level vs v t
+      → (s ≡ side.Inside → t ≡ spot.InTube c true) → (s ≡ side.On → t ≡ spot.On c)
+      → (s ≡ side.Outside → t ≡ spot.InTube c false) → IsSpot d level vs v t
   spot_by_side v c side.Inside h k t f g j = subst (IsSpot d level vs v) (sym (f refl)) (h, k)
   spot_by_side v c side.On h k t f g j = subst (IsSpot d level vs v) (sym (g refl)) (h.on k)
   spot_by_side v c side.Outside h k t f g j = subst (IsSpot d level vs v) (sym (j refl)) (h, k)
@@ -153,31 +185,48 @@ module _ (d : Plan) (level : ℕ) (edges : List Edge) (owners : List Owner) (fac
       → HasSide (arc (curve d c)) (point v)
   on_arc_side v c h k =
       let t = is.tubes c h in
-      arc_points_have_sides (curve d c) (drawn_bays d level c) v h.kind (tube_circle d level c t) (is.settled.run.tube c h.there h.kind) (corners_near d level c t) k
+      arc_points_have_sides (curve d c) (drawn_bays d level c) v h.kind (tube_circle d level c t)
+      (is.settled.run.tube c h.there h.kind) (corners_near d level c t) k
 
   -- ---- the first point on a curve
   module _ (spots : List Spot) (are : AreSpots d level vs spots) where
     none_on : (k : ℕ) → AreOffCurves spots k → (j : ℕ) → j < k → (i : ℕ) → LiesOn d j i → ⊥
-    none_on k off j l i h = off_spot (object d j) (spot_at spots j) (are.each j h.point_there) (off j l) i h.curve_there h.on
+    none_on k off j l i h =
+        off_spot (object d j) (spot_at spots j) (are.each j h.point_there)
+        (off j l) i h.curve_there h.on
 
     pub first_on : (found : Option OnCurve) → IsFirstSpotOn spots found → IsFirstOnCurve d found
-    first_on None off = λ j i h. none_on (length spots) off j (let a = are.size in let b = h.point_there in omega (arith, a, b)) i h
+    first_on None off =
+        λ j i h. none_on (length spots) off j (let a = are.size in let b = h.point_there in
+        omega (arith, a, b)) i h
     first_on (Some p) (off, l, e) =
         let k : p.point < length d.points = (let a = are.size in omega (arith, l, a)) in
-        let s : IsFirstOn d p.curve (point (object d p.point)) = subst (IsSpot d level vs (object d p.point)) e (are.each p.point k) in record {
-          on = record { point_there = k; curve_there = s.there; on = s.on; has_side = λ b. on_arc_side (object d p.point) p.curve (record { there = s.there; kind = b }) s.on };
+        let s : IsFirstOn d p.curve (point (object d p.point)) = subst
+        (IsSpot d level vs (object d p.point)) e (are.each p.point k) in
+        record {
+          on = record {
+            point_there = k;
+            curve_there = s.there;
+            on = s.on;
+            has_side = λ b. on_arc_side (object d p.point) p.curve (record {
+              there = s.there;
+              kind = b;
+            }) s.on;
+          };
           no_point = λ j i o h. none_on p.point off j o i h;
           no_curve = λ i o h. s.least i o h.on;
         }
 
     pub on_answer : (p : OnCurve) → IsFirstSpotOn spots (Some p)
         → IsAnswer d (Fault (On p.point p.curve))
-    on_answer p f = on p.point p.curve (no_bad_pair d level edges owners facings vs is) (first_on (Some p) f)
+    on_answer p f =
+        on p.point p.curve (no_bad_pair d level edges owners facings vs is) (first_on (Some p) f)
 
     pub clear_spots : AreOffCurves spots (length spots) → AreClear d
     clear_spots off = record {
       pairs = no_bad_pair d level edges owners facings vs is;
-      points = λ j i h. none_on (length spots) off j (let a = are.size in let b = h.point_there in omega (arith, a, b)) i h;
+      points = λ j i h. none_on (length spots) off j (let a = are.size in let b = h.point_there in
+          omega (arith, a, b)) i h;
     }
 
   -- ---- the points by number
@@ -187,10 +236,13 @@ module _ (d : Plan) (level : ℕ) (edges : List Edge) (owners : List Owner) (fac
   pub points_close : AreUsable d edges → (ps : List Point) (es : List Edge) → ps ≡ points_at
       → es ≡ edges → (j : ℕ) → j < length ps → IsCloseToAll es (slice_index_or ps j no_point)
   points_close u ps es e g =
-      subst (λ (xs : List Point). (j : ℕ) → j < length xs → IsCloseToAll es (slice_index_or xs j no_point)) (sym e)
-      (subst (λ (xs : List Edge). (j : ℕ) → j < length points_at → IsCloseToAll xs (slice_index_or points_at j no_point)) (sym g)
+      subst (λ (xs : List Point). (j : ℕ) → j < length xs
+      → IsCloseToAll es (slice_index_or xs j no_point)) (sym e)
+      (subst (λ (xs : List Edge). (j : ℕ) → j < length points_at
+      → IsCloseToAll xs (slice_index_or points_at j no_point)) (sym g)
       (λ j l.
-      let k : j < length d.points = (let a = length-map d.points (λ (p : Placed). p.at) in omega (arith, l, a)) in
+      let k : j < length d.points = (let a = length-map d.points (λ (p : Placed). p.at) in
+      omega (arith, l, a)) in
       subst (IsCloseToAll edges) (sym (nth_point d.points j _ k)) (u.points j k)))
 
   pub place_is : (ps : List Point) (es : List Edge) (places : List Place) → es ≡ edges
@@ -231,4 +283,6 @@ module _ (d : Plan) (level : ℕ) (edges : List Edge) (owners : List Owner) (fac
 
   pub spots_have : (spots : List Spot) → ArePlacedOff d level vs spots → (j : ℕ) → j < length spots
       → IsSpotOf d level (spot_at spots j)
-  spots_have spots p j l = spot_has (object d j) (spot_at spots j) (p.spots_are.each j (let a = p.spots_are.size in omega (arith, l, a)))
+  spots_have spots p j l =
+      spot_has (object d j) (spot_at spots j)
+      (p.spots_are.each j (let a = p.spots_are.size in omega (arith, l, a)))

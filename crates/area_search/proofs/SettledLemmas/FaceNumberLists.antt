@@ -69,11 +69,13 @@ module _ (met names : List ℕ) (count face : ℕ) (are : AreFaceNumbers met nam
       zero = others 0 (λ e. inner (sym e)) ∙ are.zero;
       below = λ f l. elim (cases_eq f face) [
         | inl e ↦ (let q = ap (slice_index new) e ∙ its in omega (arith, q))
-        | inr apart ↦ (let q = others f apart in let b = are.below f (omega (arith, l, size)) in omega (arith, q, b))
+        | inr apart ↦ (let q = others f apart in let b = are.below f (omega (arith, l, size)) in
+            omega (arith, q, b))
       ];
       once = once;
       named = λ f h q. elim (cases_eq f face) [
-        | inl e ↦ (let s = are.some in let p = sym (ap (slice_index new) e ∙ its) ∙ q in absurd (omega (arith, s, p)))
+        | inl e ↦ (let s = are.some in let p = sym (ap (slice_index new) e ∙ its) ∙ q in
+            absurd (omega (arith, s, p)))
         | inr apart ↦ elim (has_append f met (face ∷ []) h) [
           | inl k ↦ are.named f k (sym (others f apart) ∙ q)
           | inr (inl e) ↦ absurd (apart e)

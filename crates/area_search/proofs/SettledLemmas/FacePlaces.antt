@@ -57,7 +57,8 @@ module _ (d : Plan) (level : ℕ) (edges : List Edge) (owners : List Owner) (fac
 
   -- ---- the number of a place is 0 or that of a face beside a curve
   by_owner : (k : ℕ)
-      → Owns d (drawn_bays d level) m E (steps_from [] vs) is.settled.run is.settled.wide is.settled.settled face f.faces k
+      → Owns d (drawn_bays d level) m E
+      (steps_from [] vs) is.settled.run is.settled.wide is.settled.settled face f.faces k
       → (k ≡ 0) ⊎ Met k
   by_owner k (outer e) = inl e
   by_owner k (edge h l c e) =
@@ -128,28 +129,29 @@ module _ (d : Plan) (level : ℕ) (edges : List Edge) (owners : List Owner) (fac
         is.settled.wide is.settled.settled face f.faces i x o.there o.curve_is o.part p q c
 
     ends : (u v : Vector) → Crosses d i u v → AreEnds d Face (side i) u v
-    ends u v y = elim (straight_beside d level edges owners facings vs is mesh n f chains besides are i s) [
-      | inl b ↦
-          let a = faces_of u v ((crosses_forth d (E x) i u v b.low b.high).0 y) in
-          record {
-            p_place = y.p_place;
-            q_place = y.q_place;
-            p_off = y.p_off;
-            q_off = y.q_off;
-            first = subst (λ (k : ℕ). Face u k) (sym b.first) a.0;
-            second = subst (λ (k : ℕ). Face v k) (sym b.second) a.1;
-          }
-      | inr b ↦
-          let a = faces_of v u ((crosses_turned d (E x) i u v b.low b.high).0 y) in
-          record {
-            p_place = y.p_place;
-            q_place = y.q_place;
-            p_off = y.p_off;
-            q_off = y.q_off;
-            first = subst (λ (k : ℕ). Face u k) (sym b.first) a.1;
-            second = subst (λ (k : ℕ). Face v k) (sym b.second) a.0;
-          }
-    ]
+    ends u v y =
+        elim (straight_beside d level edges owners facings vs is mesh n f chains besides are i s) [
+          | inl b ↦
+              let a = faces_of u v ((crosses_forth d (E x) i u v b.low b.high).0 y) in
+              record {
+                p_place = y.p_place;
+                q_place = y.q_place;
+                p_off = y.p_off;
+                q_off = y.q_off;
+                first = subst (λ (k : ℕ). Face u k) (sym b.first) a.0;
+                second = subst (λ (k : ℕ). Face v k) (sym b.second) a.1;
+              }
+          | inr b ↦
+              let a = faces_of v u ((crosses_turned d (E x) i u v b.low b.high).0 y) in
+              record {
+                p_place = y.p_place;
+                q_place = y.q_place;
+                p_off = y.p_off;
+                q_off = y.q_off;
+                first = subst (λ (k : ℕ). Face u k) (sym b.first) a.1;
+                second = subst (λ (k : ℕ). Face v k) (sym b.second) a.0;
+              }
+        ]
 
     found : (p : Vector) × (q : Vector) × Crosses d i p q
     found =

@@ -45,15 +45,18 @@ pub points_from : (now : List ℕ) (vs : List Move)
 points_from now [] = refl
 points_from now (v ∷ vs) = ap (λ (ps : List Point). v.at ∷ ps) (points_from _ vs)
 
-module _ (d : Plan) (level : ℕ) (edges : List Edge) (owners : List Owner) (facings : List Facing) (vs : List Move) (is : IsCase d level edges owners facings vs)
-    (straight_list : edges_at d level ≡ edges_of d) (count : length (edges_of d) ≡ length d.curves) (law : AreEdgesOf (edge d) d) (straights : AreStraights d) (partition : IsPartition d) where
+module _ (d : Plan) (level : ℕ) (edges : List Edge) (owners : List Owner) (facings : List Facing)
+    (vs : List Move) (is : IsCase d level edges owners facings vs)
+    (straight_list : edges_at d level ≡ edges_of d) (count : length (edges_of d) ≡ length d.curves)
+    (law : AreEdgesOf (edge d) d) (straights : AreStraights d) (partition : IsPartition d) where
   abbrev steps : List Step
   steps = steps_from [] vs
 
   -- what is said of the edges at the level holds of the drawing's straights
   moved : (P : ℕ → List Edge → Type 0) → P (length (edges_at d level)) (edges_at d level)
       → P (length d.curves) (edges_of d)
-  moved P h = subst (λ (n : ℕ). P n (edges_of d)) count (subst (λ (es : List Edge). P (length es) es) straight_list h)
+  moved P h = subst (λ (n : ℕ). P n (edges_of d)) count
+      (subst (λ (es : List Edge). P (length es) es) straight_list h)
 
   pub run_of : IsRunOf d (edge d) steps
   run_of = record { edges = law; run = moved (λ n es. Run n (edge_of es) steps) is.settled.run.run }
@@ -72,12 +75,16 @@ module _ (d : Plan) (level : ℕ) (edges : List Edge) (owners : List Owner) (fac
   -- ---- points
   abbrev CellFace : List ℕ → Point → ℕ → Option ℕ → Option ℕ → Type 0
   CellFace faces v i l u =
-      (c : IsCell (edges_at d level) vs v i l u) → (w : ℤ) → face_of (drawn w d (edge d) steps) (face_in faces) (position c.events i) ≡ face_over faces l
+      (c : IsCell (edges_at d level) vs v i l u) → (w : ℤ)
+      → face_of (drawn w d (edge d) steps) (face_in faces) (position c.events i)
+      ≡ face_over faces l
 
   cell_face_is : (faces : List ℕ) (v : Point) (i : ℕ) (l u : Option ℕ) → CellFace faces v i l u
   cell_face_is faces v i l u c w =
-      let list : list_after [] steps c.events ≡ live_from [] (take c.events vs) = list_is [] vs c.events c.known in
-      let within : i ≤ length (live_from [] (take c.events vs)) = subst (λ (es : List ℕ). i ≤ length es) list (c.located (pos 0)).index in
+      let list : list_after [] steps c.events
+      ≡ live_from [] (take c.events vs) = list_is [] vs c.events c.known in
+      let within : i ≤ length (live_from [] (take c.events vs)) = subst
+      (λ (es : List ℕ). i ≤ length es) list (c.located (pos 0)).index in
       ap (label_at (numbers (face_in faces)) 0 i) list
       ∙ label_before (numbers (face_in faces)) 0 i (live_from [] (take c.events vs)) within
       ∙ ap (over_or (numbers (face_in faces)) 0) (sym c.lower_is)
@@ -86,12 +93,16 @@ module _ (d : Plan) (level : ℕ) (edges : List Edge) (owners : List Owner) (fac
   by_spot : (faces : List ℕ) (j : ℕ) (s : Spot) → j < length d.points
       → IsSpot d level vs (object d j) s → IsPointFace d steps faces j (cell_face faces s)
   by_spot faces j (spot.On c) l h = absurd (partition.off j l c h.there h.on)
-  by_spot faces j (spot.InTube c true) l h = absurd (no_half_arc d straights c (record { there = h.0.there; kind = h.0.bent }))
-  by_spot faces j (spot.InTube c false) l h = absurd (no_half_arc d straights c (record { there = h.0.there; kind = h.0.bent }))
+  by_spot faces j (spot.InTube c true) l h =
+      absurd (no_half_arc d straights c (record { there = h.0.there; kind = h.0.bent }))
+  by_spot faces j (spot.InTube c false) l h =
+      absurd (no_half_arc d straights c (record { there = h.0.there; kind = h.0.bent }))
   by_spot faces j (spot.Cell i lo up) l h = record {
     events = h.0.events;
     place = i;
-    located = λ w. moved (λ n es. IsLocated (replay w n (edge_of es) steps) (object d j) h.0.events i) (h.0.located w);
+    located = λ w. moved
+        (λ n es. IsLocated (replay w n (edge_of es) steps) (object d j) h.0.events i)
+        (h.0.located w);
     face_is = λ w. cell_face_is faces (object d j) i lo up h.0 w;
   }
 
@@ -100,7 +111,8 @@ module _ (d : Plan) (level : ℕ) (edges : List Edge) (owners : List Owner) (fac
         → IsPointFace d steps faces j (slice_index (map (cell_face faces) spots) j)
     point_face faces j l =
         let size = placed.size in
-        subst (IsPointFace d steps faces j) (sym (nth_spot_face (cell_face faces) spots j (omega (arith, l, size))))
+        subst (IsPointFace d steps faces j)
+        (sym (nth_spot_face (cell_face faces) spots j (omega (arith, l, size))))
         (by_spot faces j (spot_at spots j) l (placed.each j l))
 
     pub point_faces : (faces : List ℕ) → length (map (cell_face faces) spots) ≡ length d.points
@@ -111,11 +123,16 @@ module _ (d : Plan) (level : ℕ) (edges : List Edge) (owners : List Owner) (fac
     among n e v (spot.On c) h = tt
     among n e v (spot.InTube c b) h = tt
     among n e v (spot.Cell i None up) h = tt
-    among n e v (spot.Cell i (Some k) up) h = let l : k < length (edges_at d level) = cell_in d level edges owners facings vs is v i (Some k) up h.0 in omega (arith, l, e)
+    among n e v (spot.Cell i (Some k) up) h =
+        let l : k < length (edges_at d level) = cell_in d level edges owners facings vs is v i
+        (Some k) up h.0 in
+        omega (arith, l, e)
 
     pub cell_spots : (n : ℕ) → n ≡ 2 * length (edges_at d level) → (j : ℕ) → j < length spots
         → IsCellSpot n (spot_at spots j)
-    cell_spots n e j l = let size = placed.size in among n e (object d j) (spot_at spots j) (placed.each j (omega (arith, l, size)))
+    cell_spots n e j l =
+        let size = placed.size in
+        among n e (object d j) (spot_at spots j) (placed.each j (omega (arith, l, size)))
 
     -- faces of points are known, inner ones, and no two are one
     module _ (mesh : HalfEdges) (n : ℕ) (f : HasRunFaces d level vs mesh n) where
@@ -127,21 +144,25 @@ module _ (d : Plan) (level : ℕ) (edges : List Edge) (owners : List Owner) (fac
       below v (spot.InTube c b) h = f.some
       below v (spot.Cell i None up) h = f.some
       below v (spot.Cell i (Some k) up) h =
-          let l : k < length (edges_at d level) = cell_in d level edges owners facings vs is v i (Some k) up h.0 in
+          let l : k < length (edges_at d level) = cell_in d level edges owners facings vs is v i
+          (Some k) up h.0 in
           let e = f.size_is in
           f.below (number (over k)) (omega (arith, l, e))
 
       pub known_face : (j : ℕ) → j < length d.points → number_of j < n
       known_face j l =
           let size = placed.size in
-          subst (λ (k : ℕ). k < n) (sym (nth_spot_face (cell_face mesh.face) spots j (omega (arith, l, size))))
+          subst (λ (k : ℕ). k < n)
+          (sym (nth_spot_face (cell_face mesh.face) spots j (omega (arith, l, size))))
           (below (object d j) (spot_at spots j) (placed.each j l))
 
       pub inner_face : (j : ℕ) → j < length d.points → number_of j ≡ 0 → ⊥
       inner_face j l e =
           let p = point_face mesh.face j l in
           partition.bounded j l
-          ((located_outer (pos 0) d (edge d) steps run_of (face_in mesh.face) (faces_with mesh n f (pos 0)) (object d j) p.events p.place (p.located (pos 0))).1 (p.face_is (pos 0) ∙ e))
+          ((located_outer (pos 0) d (edge d) steps run_of (face_in mesh.face)
+          (faces_with mesh n f (pos 0)) (object d j) p.events p.place (p.located (pos 0))).1
+          (p.face_is (pos 0) ∙ e))
 
       pub one_point : (i j : ℕ) → i < length d.points → j < length d.points
           → number_of i ≡ number_of j → i ≡ j
@@ -151,6 +172,9 @@ module _ (d : Plan) (level : ℕ) (edges : List Edge) (owners : List Owner) (fac
           elim (cases_eq i j) [
             | inl same ↦ same
             | inr ne ↦ absurd (partition.alone i j l k ne
-                ((located_joined (pos 0) d (edge d) steps run_of (face_in mesh.face) (faces_with mesh n f (pos 0)) (object d i) (object d j) p.events p.place q.events q.place (p.located (pos 0)) (q.located (pos 0))).1
+                ((located_joined (pos 0) d (edge d) steps run_of (face_in mesh.face)
+                (faces_with mesh n f (pos 0)) (object d i)
+                (object d j) p.events p.place q.events q.place (p.located (pos 0))
+                (q.located (pos 0))).1
                 (p.face_is (pos 0) ∙ (e ∙ sym (q.face_is (pos 0))))))
           ]

@@ -79,8 +79,10 @@ module _ (d : Plan) (level : ℕ) (edges : List Edge) (owners : List Owner) (fac
 
     two_ends : (curve d i).from ≡ (curve d i).to → ⊥
     two_ends e = elim ends [
-      | inl p ↦ never (E x).low (subst (λ (v : Point). Before (E x).low v) (p.1 ∙ sym e ∙ sym p.0) rises)
-      | inr p ↦ never (E x).low (subst (λ (v : Point). Before (E x).low v) (p.1 ∙ e ∙ sym p.0) rises)
+      | inl p ↦ never (E x).low
+          (subst (λ (v : Point). Before (E x).low v) (p.1 ∙ sym e ∙ sym p.0) rises)
+      | inr p ↦ never (E x).low
+          (subst (λ (v : Point). Before (E x).low v) (p.1 ∙ e ∙ sym p.0) rises)
     ]
 
     -- its edge is in its direction, with the first face over it; or the other way round
@@ -249,16 +251,18 @@ module _ (d : Plan) (level : ℕ) (edges : List Edge) (owners : List Owner) (fac
       ]
 
   pub clear_met : (h : Half) → IsClearHalf d level h → Met (face h)
-  clear_met h clear = elim (owner_is d (drawn_bays d level) m E (steps_from [] vs) is.settled.run (edge_of h) clear.there) [
-    | inl o ↦
-        let s : IsStraight d o.index = record { there = o.fits; kind = o.straight } in
-        edge_met o.index s h
-        (straight_only d level edges owners facings vs is (edge_of h) clear.there
-        (subst (λ (j : ℕ). IsStraight d j) (sym o.number) s) ∙ ap (first_at d level) o.number)
-    | inr a ↦
-        by_part a.index (record { there = a.fits; kind = a.bent }) a.number
-        (owned_at d level (edge_of h)).part refl a.part
-  ]
+  clear_met h clear =
+      elim (owner_is d (drawn_bays d level) m E (steps_from [] vs) is.settled.run
+      (edge_of h) clear.there) [
+        | inl o ↦
+            let s : IsStraight d o.index = record { there = o.fits; kind = o.straight } in
+            edge_met o.index s h
+            (straight_only d level edges owners facings vs is (edge_of h) clear.there
+            (subst (λ (j : ℕ). IsStraight d j) (sym o.number) s) ∙ ap (first_at d level) o.number)
+        | inr a ↦
+            by_part a.index (record { there = a.fits; kind = a.bent }) a.number
+            (owned_at d level (edge_of h)).part refl a.part
+      ]
     where
       by_part : (i : ℕ) → IsHalfArc d i → (owned_at d level (edge_of h)).curve ≡ i → (p : Part)
           → (owned_at d level (edge_of h)).part ≡ p → IsOfTube p → Met (face h)

@@ -46,7 +46,8 @@ pub less_equal_or : (i j : ℕ) (P : Type 0) → (i < j → P) → (i ≡ j → 
 less_equal_or zero zero P f g h = g refl
 less_equal_or zero (suc j) P f g h = f (omega arith)
 less_equal_or (suc i) zero P f g h = h (omega arith)
-less_equal_or (suc i) (suc j) P f g h = less_equal_or i j P (λ l. f (omega (arith, l))) (λ e. g (ap suc e)) (λ l. h (omega (arith, l)))
+less_equal_or (suc i) (suc j) P f g h =
+    less_equal_or i j P (λ l. f (omega (arith, l))) (λ e. g (ap suc e)) (λ l. h (omega (arith, l)))
 
 -- ---- the label under a place of a list
 abbrev pub over_or : Labels → ℕ → Option ℕ → ℕ
@@ -60,7 +61,8 @@ label_before a l (suc i) [] h = absurd (omega (arith, h))
 label_before a l (suc zero) (e ∷ es) h = refl
 label_before a l (suc (suc i)) (e ∷ es) h =
     let s = some_edge es i (omega (arith, h)) in
-    label_before a (a.above e) (suc i) es (omega (arith, h)) ∙ ap (over_or a (a.above e)) s.1 ∙ sym (ap (over_or a l) s.1)
+    label_before a (a.above e) (suc i) es (omega (arith, h)) ∙ ap (over_or a (a.above e)) s.1
+    ∙ sym (ap (over_or a l) s.1)
 
 -- ---- points by number
 pub nth_point : (ps : List Placed) (j : ℕ) (x : Placed) → j < length ps

@@ -113,7 +113,8 @@ module _ (d : Plan) (level : ℕ) (edges : List Edge) (owners : List Owner) (fac
       is.settled.wide is.settled.settled face f.faces)
       (places.outer_is d (drawn_bays d level) m E (steps_from [] vs) is.settled.run
       is.settled.wide is.settled.settled face f.faces)
-      (face_met d level edges owners facings vs is mesh n f chains besides are) far (a_place far_point)
+      (face_met d level edges owners facings vs is mesh n f chains besides are) far
+      (a_place far_point)
       far_off far_number (crossed d level edges owners facings vs is mesh n f chains besides are)
       names count size named
 
@@ -127,7 +128,8 @@ module _ (d : Plan) (level : ℕ) (edges : List Edge) (owners : List Owner) (fac
       is.settled.wide is.settled.settled face f.faces)
       (places.outer_is d (drawn_bays d level) m E (steps_from [] vs) is.settled.run
       is.settled.wide is.settled.settled face f.faces)
-      (face_met d level edges owners facings vs is mesh n f chains besides are) far (a_place far_point)
+      (face_met d level edges owners facings vs is mesh n f chains besides are) far
+      (a_place far_point)
       far_off far_number (crossed d level edges owners facings vs is mesh n f chains besides are)
       names count size named
 
@@ -142,7 +144,8 @@ module _ (d : Plan) (level : ℕ) (edges : List Edge) (owners : List Owner) (fac
       is.settled.wide is.settled.settled face f.faces)
       (places.outer_is d (drawn_bays d level) m E (steps_from [] vs) is.settled.run
       is.settled.wide is.settled.settled face f.faces)
-      (face_met d level edges owners facings vs is mesh n f chains besides are) far (a_place far_point)
+      (face_met d level edges owners facings vs is mesh n f chains besides are) far
+      (a_place far_point)
       far_off far_number (crossed d level edges owners facings vs is mesh n f chains besides are)
       names count size named
 
@@ -158,7 +161,8 @@ module _ (d : Plan) (level : ℕ) (edges : List Edge) (owners : List Owner) (fac
       is.settled.wide is.settled.settled face f.faces)
       (places.outer_is d (drawn_bays d level) m E (steps_from [] vs) is.settled.run
       is.settled.wide is.settled.settled face f.faces)
-      (face_met d level edges owners facings vs is mesh n f chains besides are) far (a_place far_point)
+      (face_met d level edges owners facings vs is mesh n f chains besides are) far
+      (a_place far_point)
       far_off far_number (crossed d level edges owners facings vs is mesh n f chains besides are)
       names count size named i l
 
@@ -178,7 +182,8 @@ module _ (d : Plan) (level : ℕ) (edges : List Edge) (owners : List Owner) (fac
       is.settled.wide is.settled.settled face f.faces)
       (places.outer_is d (drawn_bays d level) m E (steps_from [] vs) is.settled.run
       is.settled.wide is.settled.settled face f.faces)
-      (face_met d level edges owners facings vs is mesh n f chains besides are) far (a_place far_point)
+      (face_met d level edges owners facings vs is mesh n f chains besides are) far
+      (a_place far_point)
       far_off far_number (crossed d level edges owners facings vs is mesh n f chains besides are)
       names count size named k l inner in
       (s.index, s.fits, s.on)

@@ -1,4 +1,5 @@
--- Numbers of faces beside curves: each has a place of its own, and each place off the curves is in a
+-- Numbers of faces beside curves: each has a place of its own, and each place off the curves is in
+-- a
 -- face that has one.
 use Rattle.std.proofs.Common.{◌≡◌, ◌↔◌, ◌⊎◌, inl, inr, ℕ, ◌<◌, ◌≤◌, zero, suc, Bool, true, false}
 use Rattle.std.proofs.Common.{List, [], ◌∷◌, length, slice_index, refl, sym, ap, subst, ◌∙◌, arith}

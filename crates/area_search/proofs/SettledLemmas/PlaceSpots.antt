@@ -41,7 +41,8 @@ module _ {X Y : Type 0} (P : X → Y → Type 0) (v : X) (w : Y) where
   front (x ∷ xs) ys [] ts n h j l = absurd (omega (arith, n))
   front (x ∷ xs) ys (s ∷ ss) ts n h zero l = h 0 (omega arith)
   front (x ∷ xs) ys (s ∷ ss) ts n h (suc j) l =
-      front xs ys ss ts (omega (arith, n)) (λ k m. h (suc k) (omega (arith, m))) j (omega (arith, l))
+      front xs ys ss ts (omega (arith, n)) (λ k m. h (suc k) (omega (arith, m))) j
+      (omega (arith, l))
 
   back : (xs ys : List X) (ss ts : List Y) → length ss ≡ length xs → Paired (xs ++ ys) (ss ++ ts)
       → Paired ys ts

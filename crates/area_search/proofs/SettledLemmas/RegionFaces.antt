@@ -121,7 +121,8 @@ module _ (d : Plan) (level : ℕ) (edges : List Edge) (edge_owners : List Owner)
 
   pub face_known : (v : Point) (s : Spot) → IsSpot d level vs v s → face_of s < length owners
   face_known v s h =
-      let k = spot_known d level edges edge_owners facings vs is spots placed mesh n f chains v s h in
+      let k = spot_known d level edges edge_owners facings vs is spots placed mesh n f chains v s
+      h in
       let e = own.size in
       omega (arith, k, e)
 

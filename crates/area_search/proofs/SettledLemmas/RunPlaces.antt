@@ -1,4 +1,5 @@
--- Places off the curves of a drawing with a settled run, by their face numbers: an outer one, one on
+-- Places off the curves of a drawing with a settled run, by their face numbers: an outer one, one
+-- on
 -- each side of each curve, and what each number belongs to.
 use Rattle.std.proofs.Common.{◌≡◌, ◌↔◌, ◌⊎◌, inl, inr, ℕ, zero, suc, ◌+◌, ◌<◌, ◌≤◌, ℤ, pos, ◌-ℤ◌}
 use Rattle.std.proofs.Common.{◌<ℤ◌, List, [], ◌∷◌, length, get_or, refl, sym, ap, subst, ◌∙◌, arith}
@@ -178,7 +179,8 @@ module _ (d : Plan) (bays : ℕ → List Bay) (m : ℕ) (E : ℕ → Edge) (step
       k (a_place v)
       (region_label w full bays m E steps lab within inside outside u.swept full_run L u.points v k
       u.heavy (u.known v h) (event_known m E steps more u)
-      (as_labels.region d bays m E steps is wide settled (pos 0) face given w u.swept (pos 0) v k p))
+      (as_labels.region d bays m E steps is wide settled (pos 0) face given w u.swept
+      (pos 0) v k p))
 
   pub far_number : Face (point far) 0
   far_number = point_face far 0 (inl refl) far_face
@@ -220,7 +222,8 @@ module _ (d : Plan) (bays : ℕ → List Bay) (m : ℕ) (E : ℕ → Edge) (step
         elim (owner_is d bays m E steps is e l) [
           | inl o ↦ absurd (subst IsOfTube o.part t.part)
           | inr o ↦
-              let a = tube_of w full bays m E steps lab within inside outside u.swept full_run L o.index o.fits o.bent in
+              let a = tube_of w full bays m E steps lab within inside outside u.swept full_run L
+              o.index o.fits o.bent in
               let name : label_of lab r c ≡ T.label a.0 =
               label_before lab 0 c.index (r.list c.strip) e b ∙ ap (mark lab) t.is
               ∙ L.within_label e l t.part ∙ ap (tube_label full) (o.number ∙ sym a.2) in
@@ -253,15 +256,18 @@ module _ (d : Plan) (bays : ℕ → List Bay) (m : ℕ) (E : ℕ → Edge) (step
   -- ---- segments that cross curves
   pub arc_segment : (i : ℕ) → IsHalfArc d i → (p : Vector) × (q : Vector) × CrossesHalfArc d i p q
   arc_segment i h =
-      let c = arc_crossed w full bays m E steps lab within inside outside u.swept full_run L i h.there h.kind in
+      let c = arc_crossed w full bays m E steps lab within inside outside u.swept full_run L i
+      h.there h.kind in
       (c.0, c.1, arcs.crosses_with d extra i c.0 c.1 c.2)
 
   pub arc_ends : (i : ℕ) → IsHalfArc d i → (p q : Vector) → CrossesHalfArc d i p q
       → Face p (beside_inner d bays E face i) × Face q (beside_outer d bays E face i)
   arc_ends i h p q x = (
-    sides.inner_number d bays m E steps is wide settled (pos 0) face given w u.swept i h.there h.kind
+    sides.inner_number d bays m E steps is wide settled
+        (pos 0) face given w u.swept i h.there h.kind
         p q x,
-    sides.outer_number d bays m E steps is wide settled (pos 0) face given w u.swept i h.there h.kind
+    sides.outer_number d bays m E steps is wide settled
+        (pos 0) face given w u.swept i h.there h.kind
         p q x,
   )
 
@@ -270,7 +276,8 @@ module _ (d : Plan) (bays : ℕ → List Bay) (m : ℕ) (E : ℕ → Edge) (step
     pub straight_segment : i < length d.curves → (curve d i).kind ≡ kind.Straight
         → (p : Vector) × (q : Vector) × CrossesCurve d (E e) i p q
     straight_segment l s =
-        let c = straight_crossed w full bays m E steps lab within inside outside u.swept full_run L i l s e fits own part in
+        let c = straight_crossed w full bays m E steps lab within inside outside u.swept full_run L
+        i l s e fits own part in
         (c.0, c.1, straights.crosses_with d extra (E e) i c.0 c.1 c.2)
 
     pub straight_ends : (p q : Vector) → CrossesCurve d (E e) i p q

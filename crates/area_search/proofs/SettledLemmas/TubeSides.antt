@@ -1,4 +1,5 @@
--- Edges of tubes by what a program holds of them: which of their half-edges face a tube, and which are listed as roots.
+-- Edges of tubes by what a program holds of them: which of their half-edges face a tube, and which
+-- are listed as roots.
 use Rattle.std.proofs.Common.{◌≡◌, ◌⊎◌, inl, inr, ℕ, zero, suc, ◌<◌, Bool, true, false, List, []}
 use Rattle.std.proofs.Common.{◌∷◌, length, map, get_or, refl, sym, ap, subst, ◌∙◌, arith}
 use Rattle.std.proofs.lemmas.Bool.{cases_lt}
@@ -75,22 +76,35 @@ pub record IsSide (p : runs.Part) (g : Half) (marked : Bool) (h : Half) : Type 0
 other_side : (p : runs.Part) (g h : Half) (marked : Bool) → runs.IsOfTube p
     → Has (number h) (if_marked marked (number (twin g))) → IsSide p g marked h
 other_side p g h false o k = absurd k
-other_side p g h true o (inl e) = record { of_tube = o; which = inr (number_one h (twin g) e, refl) }
+other_side p g h true o (inl e) = record {
+  of_tube = o;
+  which = inr (number_one h (twin g) e, refl);
+}
 other_side p g h true o (inr k) = absurd k
 
 either_side : (p : runs.Part) (g h : Half) (marked : Bool) (a b : ℕ) → runs.IsOfTube p
     → a ≡ number g → b ≡ number (twin g) → Has (number h) (a ∷ if_marked marked b)
     → IsSide p g marked h
-either_side p g h marked a b o q w (inl e) = record { of_tube = o; which = inl (number_one h g (e ∙ q)) }
-either_side p g h marked a b o q w (inr k) = other_side p g h marked o (subst (λ (n : ℕ). Has (number h) (if_marked marked n)) w k)
+either_side p g h marked a b o q w (inl e) =
+    record { of_tube = o; which = inl (number_one h g (e ∙ q)) }
+either_side p g h marked a b o q w (inr k) =
+    other_side p g h marked o (subst (λ (n : ℕ). Has (number h) (if_marked marked n)) w k)
 
 pub listed_side : (p : runs.Part) (g h : Half) (marked : Bool)
     → Has (number h) (tube_sides (facing_of p g) marked (edge_of g)) → IsSide p g marked h
 listed_side runs.whole g h marked k = absurd k
-listed_side runs.inner (under e) h marked k = either_side runs.inner (under e) h marked (under_of e) (over_of e) tt (omega arith) (omega arith) k
-listed_side runs.inner (over e) h marked k = either_side runs.inner (over e) h marked (over_of e) (under_of e) tt (omega arith) (omega arith) k
-listed_side runs.outer (under e) h marked k = either_side runs.outer (under e) h marked (under_of e) (over_of e) tt (omega arith) (omega arith) k
-listed_side runs.outer (over e) h marked k = either_side runs.outer (over e) h marked (over_of e) (under_of e) tt (omega arith) (omega arith) k
+listed_side runs.inner (under e) h marked k =
+    either_side runs.inner (under e) h marked (under_of e) (over_of e) tt (omega arith)
+    (omega arith) k
+listed_side runs.inner (over e) h marked k =
+    either_side runs.inner (over e) h marked (over_of e) (under_of e) tt (omega arith)
+    (omega arith) k
+listed_side runs.outer (under e) h marked k =
+    either_side runs.outer (under e) h marked (under_of e) (over_of e) tt (omega arith)
+    (omega arith) k
+listed_side runs.outer (over e) h marked k =
+    either_side runs.outer (over e) h marked (over_of e) (under_of e) tt (omega arith)
+    (omega arith) k
 
 -- ---- facings and owners of a drawing
 nth_owner : (os : List runs.Owned) (e : ℕ) → e < length os
@@ -99,7 +113,9 @@ nth_owner [] e l = absurd (omega (arith, l))
 nth_owner (o ∷ os) zero l = refl
 nth_owner (o ∷ os) (suc e) l = nth_owner os e (omega (arith, l))
 
-module _ (d : Plan) (level : ℕ) (facings : List Facing) (told : AreFacings d level facings) (owners : List Owner) (are : owners ≡ map owner_as (runs.edge_list (drawn_bays d level) 0 d.curves)) where
+module _ (d : Plan) (level : ℕ) (facings : List Facing) (told : AreFacings d level facings)
+    (owners : List Owner) (are : owners
+    ≡ map owner_as (runs.edge_list (drawn_bays d level) 0 d.curves)) where
   abbrev within : ℕ → Half
   within = runs.half_within d (drawn_bays d level) (edge_at d level)
 
@@ -110,25 +126,33 @@ module _ (d : Plan) (level : ℕ) (facings : List Facing) (told : AreFacings d l
   edge_count = length-map (runs.edge_list (drawn_bays d level) 0 d.curves) edge_as
 
   pub owner_count : length owners ≡ length (edges_at d level)
-  owner_count = ap length are ∙ length-map (runs.edge_list (drawn_bays d level) 0 d.curves) owner_as ∙ sym edge_count
+  owner_count = ap length are ∙ length-map (runs.edge_list (drawn_bays d level) 0 d.curves) owner_as
+      ∙ sym edge_count
 
   pub facing_is : (e : ℕ) → e < length (edges_at d level)
       → facing_in facings e ≡ facing_of (own e).part (within e)
   facing_is e l = told.each e l
 
   pub owner_is : (e : ℕ) → e < length (edges_at d level) → owner_at owners e ≡ owner_as (own e)
-  owner_is e l = ap (λ (os : List Owner). owner_at os e) are ∙ nth_owner (runs.edge_list (drawn_bays d level) 0 d.curves) e (let q = edge_count in omega (arith, l, q))
+  owner_is e l = ap (λ (os : List Owner). owner_at os e) are
+      ∙ nth_owner (runs.edge_list (drawn_bays d level) 0 d.curves) e (let q = edge_count in
+      omega (arith, l, q))
 
   pub tag_is : (h : Half) → edge_of h < length (edges_at d level)
       → tag_at facings owners h ≡ faced d (drawn_bays d level) (edge_at d level) h
   tag_is h l =
       ap (λ (f : Facing). tag f (owner_at owners (edge_of h)).curve h) (facing_is (edge_of h) l)
-      ∙ ap (λ (o : Owner). tag (facing_of (own (edge_of h)).part (within (edge_of h))) o.curve h) (owner_is (edge_of h) l)
+      ∙ ap (λ (o : Owner). tag (facing_of (own (edge_of h)).part (within (edge_of h))) o.curve h)
+      (owner_is (edge_of h) l)
       ∙ tag_case (own (edge_of h)).part (within (edge_of h)) h (own (edge_of h)).curve
 
   -- the roots of an edge, by its part and the half-edge that faces its tube
   pub roots_are : (chains : Chains) (e : ℕ) → e < length (edges_at d level)
-      → tube_roots facings owners chains e ≡ tube_sides (facing_of (own e).part (within e)) (is_marked chains (own e).curve (part_of (own e).part)) e
+      → tube_roots facings owners chains e
+      ≡ tube_sides (facing_of (own e).part (within e))
+      (is_marked chains (own e).curve (part_of (own e).part)) e
   roots_are chains e l =
-      ap (λ (f : Facing). tube_sides f (is_marked chains (owner_at owners e).curve (owner_at owners e).part) e) (facing_is e l)
-      ∙ ap (λ (o : Owner). tube_sides (facing_of (own e).part (within e)) (is_marked chains o.curve o.part) e) (owner_is e l)
+      ap (λ (f : Facing). tube_sides f
+      (is_marked chains (owner_at owners e).curve (owner_at owners e).part) e) (facing_is e l)
+      ∙ ap (λ (o : Owner). tube_sides (facing_of (own e).part (within e))
+      (is_marked chains o.curve o.part) e) (owner_is e l)

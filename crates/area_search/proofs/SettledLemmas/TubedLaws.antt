@@ -1,4 +1,5 @@
--- The laws of runs with tubes that this crate stands on, under the names by which its proofs know them.
+-- The laws of runs with tubes that this crate stands on, under the names by which its proofs know
+-- them.
 pub use Rattle.plane.proofs.Runs.RunWeights.{run_weight}
 pub use Rattle.plane.proofs.Turning.AnyWeight.{across_to, faces_to, touches_to}
 pub use Rattle.plane.proofs.Turning.CellWalls.{beside_fits}

@@ -1,4 +1,5 @@
--- Curves that break the last level with no other one, from the first drawing that is looked at to the last.
+-- Curves that break the last level with no other one, from the first drawing that is looked at to
+-- the last.
 use Rattle.std.proofs.Common.{◌≡◌, ◌⊎◌, inl, inr, ℕ, zero, suc, ◌+◌, ◌<◌, ◌≤◌, Bool, true, false}
 use Rattle.std.proofs.Common.{List, [], ◌∷◌, ◌++◌, length, map, get_or, arith, refl, ap, sym, ◌∙◌}
 use Rattle.std.proofs.Common.{subst, All}
@@ -71,31 +72,54 @@ record AreUnmarked (d : Plan) (marks : List Bool) (i j : ℕ) : Type 0 where
 
 turned : (d : Plan) (marks : List Bool) (i j : ℕ) → AreUnmarked d marks i j
     → AreUnmarked d marks j i
-turned d marks i j p = record { first = p.second; second = p.first; mark_first = p.mark_second; mark_second = p.mark_first }
+turned d marks i j p = record {
+  first = p.second;
+  second = p.first;
+  mark_first = p.mark_second;
+  mark_second = p.mark_first;
+}
 
 either_order : (d : Plan) (P : ℕ → ℕ → Type 0) → ((i j : ℕ) → P i j → P j i)
     → ((i j : ℕ) → i < j → P i j → Breaks d 5 i j → ⊥) → (i j : ℕ) → (i ≡ j → ⊥) → P i j
     → Breaks d 5 i j → ⊥
 either_order d P turn f i j n p b =
-    by_lt i j (λ (l : i < j). f i j l p b) (λ (m : j ≤ i). by_lt j i (λ (k : j < i). f j i k (turn i j p) (breaks_back d 5 i j b)) (λ (k : i ≤ j). n (omega (arith, m, k))))
+    by_lt i j (λ (l : i < j). f i j l p b)
+    (λ (m : j ≤ i). by_lt j i (λ (k : j < i). f j i k (turn i j p) (breaks_back d 5 i j b))
+    (λ (k : i ≤ j). n (omega (arith, m, k))))
 
 -- ---- at first
 bare_breaks_none : (d : Plan) (i j : ℕ) → (i ≡ j → ⊥) → IsBare (curve d j) → Breaks d 5 i j → ⊥
 bare_breaks_none d i j n b (missing e h m) = n e
-bare_breaks_none d i j n b (edges m g h w) = let t = h.tube (record { there = h.there; kind = b.half_arc }) in b.no_tube t.0 t.1 t.2
-bare_breaks_none d i j n b (corners m g h w) = let t = h.tube (record { there = h.there; kind = b.half_arc }) in b.no_tube t.0 t.1 t.2
+bare_breaks_none d i j n b (edges m g h w) =
+    let t = h.tube (record { there = h.there; kind = b.half_arc }) in b.no_tube t.0 t.1 t.2
+bare_breaks_none d i j n b (corners m g h w) =
+    let t = h.tube (record { there = h.there; kind = b.half_arc }) in b.no_tube t.0 t.1 t.2
 
 pub apart_at_first : (d : Plan) (aside : List Bool) (ss : List SearchState)
     → AreFirstTo d aside (length d.curves) ss → AreBreaksMarked d 5 aside → AreApart d ss
-apart_at_first d aside ss f marked = record { size = f.size; apart = λ i j n li lj ai sj b. by i j n li lj b ((f.each i li).alone ai) ((f.each j lj).seen sj) }
+apart_at_first d aside ss f marked =
+    record {
+      size = f.size;
+      apart = λ i j n li lj ai sj b. by i j n li lj b ((f.each i li).alone ai)
+          ((f.each j lj).seen sj);
+    }
   where
     unmarked : (i j : ℕ) → i < j → AreUnmarked d aside i j → Breaks d 5 i j → ⊥
-    unmarked i j l p b = elim (marked i j l p.second b) as (λ z. ⊥) [ inl e ↦ no_mark (sym p.mark_first ∙ e) | inr e ↦ no_mark (sym p.mark_second ∙ e) ]
+    unmarked i j l p b =
+        elim (marked i j l p.second b) as (λ z. ⊥) [
+          | inl e ↦ no_mark (sym p.mark_first ∙ e)
+          | inr e ↦ no_mark (sym p.mark_second ∙ e)
+        ]
 
     by : (i j : ℕ) → (i ≡ j → ⊥) → i < length d.curves → j < length d.curves → Breaks d 5 i j
         → mark_of aside i ≡ false → (mark_of aside j ≡ false) ⊎ IsBare (curve d j) → ⊥
     by i j n li lj b u (inl v) =
-        either_order d (AreUnmarked d aside) (turned d aside) unmarked i j n (record { first = li; second = lj; mark_first = u; mark_second = v }) b
+        either_order d (AreUnmarked d aside) (turned d aside) unmarked i j n (record {
+          first = li;
+          second = lj;
+          mark_first = u;
+          mark_second = v;
+        }) b
     by i j n li lj b u (inr v) = bare_breaks_none d i j n v b
 
 -- one curve more
@@ -104,7 +128,8 @@ pub first_more : (d : Plan) (aside : List Bool) (k : ℕ) (xs ys : List SearchSt
     → AreFirstTo d aside (k + 1) ys
 first_more d aside k xs ys s f e h = record {
   size = one_more_size xs ys s k f.size e;
-  each = one_more (λ i t. IsFirst (curve d i) (mark_of aside i) t) xs ys s Alone k f.size e f.each h;
+  each = one_more (λ i t. IsFirst (curve d i) (mark_of aside i) t) xs ys s Alone k f.size e f.each
+      h;
 }
 
 pub left_more : (old : List SearchState) (k : ℕ) (xs ys : List SearchState) (s : SearchState)
@@ -112,27 +137,39 @@ pub left_more : (old : List SearchState) (k : ℕ) (xs ys : List SearchState) (s
     → (s ≡ standing_of old k) ⊎ (s ≡ after_leaving (standing_of old k)) → AreLeftTo old (k + 1) ys
 left_more old k xs ys s f e h = record {
   size = one_more_size xs ys s k f.size e;
-  each = one_more (λ i t. (t ≡ standing_of old i) ⊎ (t ≡ after_leaving (standing_of old i))) xs ys s Alone k f.size e f.each h;
+  each = one_more (λ i t. (t ≡ standing_of old i) ⊎ (t ≡ after_leaving (standing_of old i))) xs ys s
+      Alone k f.size e f.each h;
 }
 
 -- ---- after a drawing that the last level settles
-module _ (d : Plan) (ss next : List SearchState) (marks : List Bool) (points : List Placed) (r : SubDrawing) (is : IsRest d marks points r) (out : marks ≡ map is_left_out ss) (after : next ≡ map after_settling ss)
-    (law : (i j a b : ℕ) → a < length (plan r.drawing).curves → b < length (plan r.drawing).curves → curve d i ≡ curve (plan r.drawing) a → curve d j ≡ curve (plan r.drawing) b → (i ≡ j → ⊥) → (a ≡ b → ⊥) → Breaks d 5 i j → Breaks (plan r.drawing) 5 a b)
+module _ (d : Plan) (ss next : List SearchState) (marks : List Bool) (points : List Placed)
+    (r : SubDrawing) (is : IsRest d marks points r) (out : marks ≡ map is_left_out ss)
+    (after : next ≡ map after_settling ss)
+    (law : (i j a b : ℕ) → a < length (plan r.drawing).curves → b < length (plan r.drawing).curves
+    → curve d i ≡ curve (plan r.drawing) a → curve d j ≡ curve (plan r.drawing) b → (i ≡ j → ⊥)
+    → (a ≡ b → ⊥) → Breaks d 5 i j → Breaks (plan r.drawing) 5 a b)
     (none : HasNoBreak (plan r.drawing)) (a : AreApart d ss) where
   mark_at : (i : ℕ) → mark_of marks i ≡ is_left_out (standing_of ss i)
   mark_at i = ap (λ (ms : List Bool). mark_of ms i) out ∙ at_map is_left_out ss i Alone
 
   next_at : (i : ℕ) → standing_of next i ≡ after_settling (standing_of ss i)
-  next_at i = ap (λ (ts : List SearchState). standing_of ts i) after ∙ at_map after_settling ss i Alone
+  next_at i = ap (λ (ts : List SearchState). standing_of ts i) after
+      ∙ at_map after_settling ss i Alone
 
   in_drawing : (i j : ℕ) → i < j → AreUnmarked d marks i j → Breaks d 5 i j → ⊥
-  in_drawing i j l p b = no_break d marks points r is law none i j l p.second b p.mark_first p.mark_second
+  in_drawing i j l p b =
+      no_break d marks points r is law none i j l p.second b p.mark_first p.mark_second
 
   both_there : (i j : ℕ) → (i ≡ j → ⊥) → i < length d.curves → j < length d.curves
       → standing_of ss i ≡ Alone → standing_of ss j ≡ Tried → Breaks d 5 i j → ⊥
   both_there i j n li lj e t b =
       either_order d (AreUnmarked d marks) (turned d marks) in_drawing i j n
-      (record { first = li; second = lj; mark_first = mark_at i ∙ ap is_left_out e; mark_second = mark_at j ∙ ap is_left_out t }) b
+      (record {
+        first = li;
+        second = lj;
+        mark_first = mark_at i ∙ ap is_left_out e;
+        mark_second = mark_at j ∙ ap is_left_out t;
+      }) b
 
   pub apart_when_settled : AreApart d next
   apart_when_settled = record {
@@ -148,29 +185,44 @@ module _ (d : Plan) (ss next : List SearchState) (marks : List Bool) (points : L
 -- ---- after some were near others
 pub apart_when_left : (d : Plan) (ss next : List SearchState) → AreLeftTo ss (length ss) next
     → AreApart d ss → AreApart d next
-apart_when_left d ss next l a = record { size = l.size ∙ a.size; apart = λ i j n li lj ai sj b. a.apart i j n li lj (alone i li ai) (seen j lj sj) b }
+apart_when_left d ss next l a = record {
+  size = l.size ∙ a.size;
+  apart = λ i j n li lj ai sj b. a.apart i j n li lj (alone i li ai) (seen j lj sj) b;
+}
   where
     within : (i : ℕ) → i < length d.curves → i < length ss
     within i m = let s = a.size in omega (arith, s, m)
 
     alone : (i : ℕ) → i < length d.curves → standing_of next i ≡ Alone → standing_of ss i ≡ Alone
-    alone i m e = elim (l.each i (within i m)) as (λ z. standing_of ss i ≡ Alone) [ inl q ↦ sym q ∙ e | inr q ↦ left_alone (standing_of ss i) (sym q ∙ e) ]
+    alone i m e =
+        elim (l.each i (within i m)) as (λ z. standing_of ss i ≡ Alone) [
+          | inl q ↦ sym q ∙ e
+          | inr q ↦ left_alone (standing_of ss i) (sym q ∙ e)
+        ]
 
     seen : (j : ℕ) → j < length d.curves → IsSeen (standing_of next j) → IsSeen (standing_of ss j)
-    seen j m h = elim (l.each j (within j m)) as (λ z. IsSeen (standing_of ss j)) [ inl q ↦ subst IsSeen q h | inr q ↦ left_seen (standing_of ss j) (subst IsSeen q h) ]
+    seen j m h =
+        elim (l.each j (within j m)) as (λ z. IsSeen (standing_of ss j)) [
+          | inl q ↦ subst IsSeen q h
+          | inr q ↦ left_seen (standing_of ss j) (subst IsSeen q h)
+        ]
 
 -- ---- in the end
 pub alone_in_the_end : (d : Plan) (ss : List SearchState) (marks : List Bool) → AreApart d ss
     → All IsSeen ss → marks ≡ map is_alone ss → AreAlone d 5 marks
 alone_in_the_end d ss marks a seen e = λ i j l m b.
-    let li : i < length d.curves = omega (arith, l, m) in
-    (mark_at i li ∙ not_alone i j (λ q. omega (arith, q, l)) li m b, mark_at j m ∙ not_alone j i (λ q. omega (arith, q, l)) m li (breaks_back d 5 i j b))
+    let li : i < length d.curves = omega (arith, l, m) in (
+      mark_at i li ∙ not_alone i j (λ q. omega (arith, q, l)) li m b,
+      mark_at j m
+          ∙ not_alone j i (λ q. omega (arith, q, l)) m li (breaks_back d 5 i j b),
+    )
   where
     within : (i : ℕ) → i < length d.curves → i < length ss
     within i m = let s = a.size in omega (arith, s, m)
 
     mark_at : (i : ℕ) → i < length d.curves → mark_of marks i ≡ is_alone (standing_of ss i)
-    mark_at i m = ap (λ (ms : List Bool). mark_of ms i) e ∙ at_map_within is_alone ss i false Alone (within i m)
+    mark_at i m = ap (λ (ms : List Bool). mark_of ms i) e
+        ∙ at_map_within is_alone ss i false Alone (within i m)
 
     not_alone : (i j : ℕ) → (i ≡ j → ⊥) → i < length d.curves → j < length d.curves → Breaks d 5 i j
         → is_alone (standing_of ss i) ≡ false

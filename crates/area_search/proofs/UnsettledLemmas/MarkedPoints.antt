@@ -27,12 +27,15 @@ use Rattle.area_search.proofs.UnsettledLemmas.PointsOnCurves.{lies_on, numbered,
 -- ---- the boxes and marks as they are lent
 pub near_pairs_on : (d : Plan) (marks : List Bool) (numbers : List ℕ)
     → AreMarkedTo marks true (length d.curves) numbers
-    → (boxes lent seen : List Reach) (chosen lent_marks : List Bool) (points : ℕ) → lent ≡ boxes → seen ≡ boxes → lent_marks ≡ chosen → points ≡ length d.points
+    → (boxes lent seen : List Reach) (chosen lent_marks : List Bool) (points : ℕ) → lent ≡ boxes
+    → seen ≡ boxes → lent_marks ≡ chosen → points ≡ length d.points
     → AreCurveBoxes d numbers (length numbers) boxes → AreMarkedFrom points (length seen) chosen
-    → ((c : Curve) (x : Box) (z : Vector) → HoldsCurve x c → IsPlace z → (c.kind ≡ kind.HalfArc → HasSide (arc c) z) → IsOn c z → InBox x z)
+    → ((c : Curve) (x : Box) (z : Vector) → HoldsCurve x c → IsPlace z
+    → (c.kind ≡ kind.HalfArc → HasSide (arc c) z) → IsOn c z → InBox x z)
     → (i j : ℕ) → IsPointOnCurve d numbers i j → AreNear lent lent_marks i j
 near_pairs_on d marks numbers a boxes lent seen chosen lent_marks points el es em ep b k law i j h =
-    subst (λ (bs : List Reach). AreNear bs lent_marks i j) (sym el) (subst (λ (ms : List Bool). AreNear boxes ms i j) (sym em) near)
+    subst (λ (bs : List Reach). AreNear bs lent_marks i j) (sym el)
+    (subst (λ (ms : List Bool). AreNear boxes ms i j) (sym em) near)
   where
     counted : length seen ≡ length d.points + length numbers
     counted = ap (λ (bs : List Reach). length bs) es ∙ b.size
@@ -44,10 +47,14 @@ near_pairs_on d marks numbers a boxes lent seen chosen lent_marks points el es e
     near = on_is_near d marks numbers a boxes chosen b (length seen) counted from law i j h
 
 same_on : (o : OnAt) (j i : ℕ) → o.point ≡ j → o.curve ≡ i → o ≡ record { point = j; curve = i }
-same_on o j i e f = ap (λ (p : ℕ). record { point = p; curve = o.curve }) e ∙ ap (λ (c : ℕ). record { point = j; curve = c }) f
+same_on o j i e f = ap (λ (p : ℕ). record { point = p; curve = o.curve }) e
+    ∙ ap (λ (c : ℕ). record { point = j; curve = c }) f
 
-module _ (d : Plan) (marks : List Bool) (numbers : List ℕ) (a : AreMarkedTo marks true (length d.curves) numbers) (l : PairList) (ons : List OnAt)
-    (list : IsPairList (IsPointOnCurve d numbers) (length d.points + length numbers) l) (whole : l.whole ≡ true) (few : length d.points + length numbers < 2 ^ 32) (decoded : AreDecoded d numbers l.codes.items (length l.codes.items) ons) where
+module _ (d : Plan) (marks : List Bool) (numbers : List ℕ)
+    (a : AreMarkedTo marks true (length d.curves) numbers) (l : PairList) (ons : List OnAt)
+    (list : IsPairList (IsPointOnCurve d numbers) (length d.points + length numbers) l)
+    (whole : l.whole ≡ true) (few : length d.points + length numbers < 2 ^ 32)
+    (decoded : AreDecoded d numbers l.codes.items (length l.codes.items) ons) where
   abbrev codes : List ℕ
   codes = l.codes.items
 
@@ -55,36 +62,51 @@ module _ (d : Plan) (marks : List Bool) (numbers : List ℕ) (a : AreMarkedTo ma
   at k = get_or ons k no_on
 
   of_pair : (k : ℕ) → k < length codes → LiesOnMarked d marks true (at k).point (at k).curve
-  of_pair k h = by (All-get_or (IsCode (IsPointOnCurve d numbers) (length d.points + length numbers)) codes k 0 h list.pairs)
+  of_pair k h =
+      by (All-get_or (IsCode (IsPointOnCurve d numbers) (length d.points + length numbers)) codes k
+      0 h list.pairs)
     where
       by : IsCode (IsPointOnCurve d numbers) (length d.points + length numbers) (get_or codes k 0)
           → LiesOnMarked d marks true (at k).point (at k).curve
       by c =
           let t = c.sought.there in
-          let e = decoded.each k h c.pair.first c.pair.second (omega (arith, t, few)) c.is c.sought.sought in
+          let e = decoded.each k h c.pair.first c.pair.second
+          (omega (arith, t, few)) c.is c.sought.sought in
           subst (λ (i : ℕ). LiesOnMarked d marks true (at k).point i) (sym e.1)
-          (subst (λ (j : ℕ). LiesOnMarked d marks true j (get_or numbers (c.pair.second - length d.points) 0)) (sym e.0) (lies_on d marks numbers a c.pair.first c.pair.second c.sought.sought))
+          (subst (λ (j : ℕ). LiesOnMarked d marks true j
+          (get_or numbers (c.pair.second - length d.points) 0)) (sym e.0)
+          (lies_on d marks numbers a c.pair.first c.pair.second c.sought.sought))
 
   on : (o : OnAt) → Contains ons o → LiesOnMarked d marks true o.point o.curve
   on o c =
       let n = decoded.size in
       let k = c.1 in
-      subst (λ (p : OnAt). LiesOnMarked d marks true p.point p.curve) (get_or_default ons c.0 no_on o c.1 ∙ c.2) (of_pair c.0 (omega (arith, n, k)))
+      subst (λ (p : OnAt). LiesOnMarked d marks true p.point p.curve)
+      (get_or_default ons c.0 no_on o c.1 ∙ c.2) (of_pair c.0 (omega (arith, n, k)))
 
   every : (j i : ℕ) → LiesOnMarked d marks true j i → Contains ons (record { point = j; curve = i })
   every j i o = by (numbered d marks numbers a j i o)
     where
-      by : (m : ℕ) × (m < length numbers) × (get_or numbers m 0 ≡ i) × IsPointOnCurve d numbers j (length d.points + m) → Contains ons (record { point = j; curve = i })
+      by : (m : ℕ) × (m < length numbers) × (get_or numbers m 0 ≡ i)
+          × IsPointOnCurve d numbers j (length d.points + m)
+          → Contains ons (record { point = j; curve = i })
       by f =
           let m = f.0 in
           let less = f.1 in
           let there = o.on.point_there in
-          let c = list.all whole j (length d.points + m) (omega (arith, there)) (omega (arith, less)) f.3 in
+          let c = list.all whole j (length d.points + m) (omega (arith, there))
+          (omega (arith, less)) f.3 in
           let n = decoded.size in
           let k = c.1 in
-          let e = decoded.each c.0 c.1 j (length d.points + m) (omega (arith, less, few)) (get_or_default codes c.0 0 _ c.1 ∙ c.2) f.3 in
+          let e = decoded.each c.0 c.1 j (length d.points + m) (omega (arith, less, few))
+          (get_or_default codes c.0 0 _ c.1 ∙ c.2) f.3 in
           let g : (length d.points + m) - length d.points ≡ m = omega arith in
-          let q : c.0 < length ons = omega (arith, n, k) in (c.0, q, get_or_default ons c.0 _ no_on q ∙ same_on (at c.0) j i e.0 (e.1 ∙ (ap (λ (x : ℕ). get_or numbers x 0) g ∙ f.2)))
+          let q : c.0 < length ons = omega (arith, n, k) in (
+            c.0,
+            q,
+            get_or_default ons c.0 _ no_on q
+                ∙ same_on (at c.0) j i e.0 (e.1 ∙ (ap (λ (x : ℕ). get_or numbers x 0) g ∙ f.2)),
+          )
 
   pub all_pairs_on : ArePairsOn d marks ons
   all_pairs_on = record { on = on; all = every }
@@ -92,31 +114,50 @@ module _ (d : Plan) (marks : List Bool) (numbers : List ℕ) (a : AreMarkedTo ma
 -- ---- one code after the other
 pub none_decoded : (d : Plan) (numbers codes : List ℕ) (ons : List OnAt) → ons ≡ []
     → AreDecoded d numbers codes 0 ons
-none_decoded d numbers codes ons e = record { size = ap (λ (xs : List OnAt). length xs) e; each = λ k l. absurd (omega (arith, l)) }
+none_decoded d numbers codes ons e =
+    record { size = ap (λ (xs : List OnAt). length xs) e; each = λ k l. absurd (omega (arith, l)) }
 
 pub decoded_next : (d : Plan) (numbers codes : List ℕ) (n : ℕ) (ons new : List OnAt) (o : OnAt)
     → new ≡ ons ++ o ∷ []
-    → IsDecoded d numbers (get_or codes n 0) o → AreDecoded d numbers codes n ons → AreDecoded d numbers codes (n + 1) new
-decoded_next d numbers codes n ons new o e is h = subst (λ (xs : List OnAt). AreDecoded d numbers codes (n + 1) xs) (sym e) (record { size = (let s = h.size in let t = length-append ons (o ∷ []) in omega (arith, s, t)); each = λ k l. elim (cases_lt k n) [ inl a ↦ old k a | inr b ↦ last k (omega (arith, l, b)) ] })
+    → IsDecoded d numbers (get_or codes n 0) o → AreDecoded d numbers codes n ons
+    → AreDecoded d numbers codes (n + 1) new
+decoded_next d numbers codes n ons new o e is h =
+    subst (λ (xs : List OnAt). AreDecoded d numbers codes (n + 1) xs) (sym e)
+    (record {
+      size = (let s = h.size in let t = length-append ons (o ∷ []) in omega (arith, s, t));
+      each = λ k l. elim (cases_lt k n) [ inl a ↦ old k a | inr b ↦ last k (omega (arith, l, b)) ];
+    })
   where
     old : (k : ℕ) → k < n → IsDecoded d numbers (get_or codes k 0) (get_or (ons ++ o ∷ []) k no_on)
-    old k l = subst (λ (p : OnAt). IsDecoded d numbers (get_or codes k 0) p) (sym (get_or_append_left ons (o ∷ []) no_on k (let s = h.size in omega (arith, l, s)))) (h.each k l)
+    old k l = subst (λ (p : OnAt). IsDecoded d numbers (get_or codes k 0) p)
+        (sym (get_or_append_left ons (o ∷ []) no_on k (let s = h.size in omega (arith, l, s))))
+        (h.each k l)
 
     last : (k : ℕ) → k ≡ n → IsDecoded d numbers (get_or codes k 0) (get_or (ons ++ o ∷ []) k no_on)
-    last k q = subst (λ (i : ℕ). IsDecoded d numbers (get_or codes i 0) (get_or (ons ++ o ∷ []) i no_on)) (sym q)
-        (subst (λ (p : OnAt). IsDecoded d numbers (get_or codes n 0) p) (sym (ap (λ (i : ℕ). get_or (ons ++ o ∷ []) i no_on) (sym h.size) ∙ get_or-append_seam ons o [] no_on)) is)
+    last k q = subst
+        (λ (i : ℕ). IsDecoded d numbers (get_or codes i 0) (get_or (ons ++ o ∷ []) i no_on)) (sym q)
+        (subst (λ (p : OnAt). IsDecoded d numbers (get_or codes n 0) p)
+        (sym (ap (λ (i : ℕ). get_or (ons ++ o ∷ []) i no_on) (sym h.size)
+        ∙ get_or-append_seam ons o [] no_on)) is)
 
 pub all_decoded : (d : Plan) (numbers codes : List ℕ) (n : ℕ) (ons : List OnAt) → length codes ≤ n
     → n ≤ length codes → AreDecoded d numbers codes n ons
     → AreDecoded d numbers codes (length codes) ons
-all_decoded d numbers codes n ons a b h = let e : n ≡ length codes = omega (arith, a, b) in subst (λ (k : ℕ). AreDecoded d numbers codes k ons) e h
+all_decoded d numbers codes n ons a b h =
+    let e : n ≡ length codes = omega (arith, a, b) in
+    subst (λ (k : ℕ). AreDecoded d numbers codes k ons) e h
 
 -- ---- all of it, with the lists as they are lent
-pub lent_pairs_on : (d : Plan) (marks : List Bool) (numbers one two codes : List ℕ) (l : PairList) (ons : List OnAt)
+pub lent_pairs_on : (d : Plan) (marks : List Bool) (numbers one two codes : List ℕ) (l : PairList)
+    (ons : List OnAt)
     → length marks ≡ length d.curves → one ≡ numbers → two ≡ numbers → codes ≡ l.codes.items
-    → AreMarkedTo marks true (length marks) numbers → IsPairList (IsPointOnCurve d one) (length d.points + length one) l → length d.points + length one < 2 ^ 32 → l.whole ≡ true
+    → AreMarkedTo marks true (length marks) numbers
+    → IsPairList (IsPointOnCurve d one) (length d.points + length one) l
+    → length d.points + length one < 2 ^ 32 → l.whole ≡ true
     → AreDecoded d two codes (length codes) ons → ArePairsOn d marks ons
 lent_pairs_on d marks numbers one two codes l ons size e f g a list few whole decoded =
     all_pairs_on d marks numbers (subst (λ (n : ℕ). AreMarkedTo marks true n numbers) size a) l ons
-    (subst (λ (xs : List ℕ). IsPairList (IsPointOnCurve d xs) (length d.points + length xs) l) e list) whole (subst (λ (xs : List ℕ). length d.points + length xs < 2 ^ 32) e few)
-    (subst (λ (xs : List ℕ). AreDecoded d xs l.codes.items (length l.codes.items) ons) f (subst (λ (xs : List ℕ). AreDecoded d two xs (length xs) ons) g decoded))
+    (subst (λ (xs : List ℕ). IsPairList (IsPointOnCurve d xs) (length d.points + length xs) l) e
+    list) whole (subst (λ (xs : List ℕ). length d.points + length xs < 2 ^ 32) e few)
+    (subst (λ (xs : List ℕ). AreDecoded d xs l.codes.items (length l.codes.items) ons) f
+    (subst (λ (xs : List ℕ). AreDecoded d two xs (length xs) ons) g decoded))

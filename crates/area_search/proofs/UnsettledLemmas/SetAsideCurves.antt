@@ -1,4 +1,5 @@
--- Curves that are set aside: half arcs, or those without which the last level settles the drawing of the others.
+-- Curves that are set aside: half arcs, or those without which the last level settles the drawing
+-- of the others.
 use Rattle.std.proofs.Common.{◌≡◌, ◌⊎◌, inl, inr, ℕ, ◌<◌, ◌≤◌, Bool, true, false, Option, Some}
 use Rattle.std.proofs.Common.{None, List, length, slice_index, get_or, arith, refl, ap, sym, ◌∙◌}
 use Rattle.std.proofs.Common.{subst, All}
@@ -48,13 +49,15 @@ module _ (d : Plan) (marks : List Bool) (a : AreArcMarks d.curves (length d.curv
   least_unmarked : (on : Option OnCurve) → IsLeastOf (LiesOnStraight d) on
       → IsLeastOf (LiesOnMarked d marks false) on
   least_unmarked None f = λ j i h. f j i (on_straight j i h)
-  least_unmarked (Some p) f = (on_unmarked p.point p.curve f.0, (λ j i h less. f.1 j i (on_straight j i h) less))
+  least_unmarked (Some p) f =
+      (on_unmarked p.point p.curve f.0, (λ j i h less. f.1 j i (on_straight j i h) less))
 
   one_marked : (i j : ℕ) → IsArcPair d i j → IsOneMarked marks i j
   one_marked i j p = by p.half_arc
     where
       by : HaveHalfArc (curve d i) (curve d j) → IsOneMarked marks i j
-      by (inl h) = inl (a.half_arc i (let o = p.pair.order in let t = p.pair.there in omega (arith, o, t)) h)
+      by (inl h) =
+          inl (a.half_arc i (let o = p.pair.order in let t = p.pair.there in omega (arith, o, t)) h)
       by (inr h) = inr (a.half_arc j p.pair.there h)
 
   pub arcs_aside : ((i j : ℕ) → Breaks d 5 i j → IsHalfArc d i ⊎ IsHalfArc d j)
@@ -62,7 +65,10 @@ module _ (d : Plan) (marks : List Bool) (a : AreArcMarks d.curves (length d.curv
   arcs_aside law on f = record {
     size = a.size;
     pairs = one_marked;
-    breaks = λ i j l m b. elim (law i j b) [ inl h ↦ inl (a.half_arc i h.there h.kind) | inr h ↦ inr (a.half_arc j h.there h.kind) ];
+    breaks = λ i j l m b. elim (law i j b) [
+      | inl h ↦ inl (a.half_arc i h.there h.kind)
+      | inr h ↦ inr (a.half_arc j h.there h.kind)
+    ];
     points = least_unmarked on f;
   }
 
@@ -71,7 +77,9 @@ pub left_are : (all lent curves : List Curve) (numbers lent_numbers : List ℕ) 
     → lent_numbers ≡ numbers → AreCurvesAt lent lent_numbers (length lent_numbers) curves
     → AreCurvesAt all numbers (length numbers) curves
 left_are all lent curves numbers lent_numbers e f are =
-    subst (λ (ns : List ℕ). AreCurvesAt all ns (length ns) curves) f (subst (λ (cs : List Curve). AreCurvesAt cs lent_numbers (length lent_numbers) curves) e are)
+    subst (λ (ns : List ℕ). AreCurvesAt all ns (length ns) curves) f
+    (subst (λ (cs : List Curve). AreCurvesAt cs lent_numbers (length lent_numbers) curves) e
+    are)
 
 pub left_drawn : (low high : Point) (all lent curves : List Curve) (numbers lent_numbers : List ℕ)
     → lent ≡ all → lent_numbers ≡ numbers → AreNumbers (length all) numbers
@@ -79,12 +87,15 @@ pub left_drawn : (low high : Point) (all lent curves : List Curve) (numbers lent
     → All (λ (c : Curve). IsDrawn low high c) all
     → All (λ (c : Curve). IsDrawn low high c) curves
 left_drawn low high all lent curves numbers lent_numbers e f known are drawn k x l =
-    let at : AreCurvesAt all numbers (length numbers) curves = left_are all lent curves numbers lent_numbers e f are in
+    let at : AreCurvesAt all numbers (length numbers) curves = left_are all lent curves numbers
+    lent_numbers e f are in
     let m : k < length numbers = (let s = at.size in omega (arith, l, s)) in
-    subst (IsDrawn low high) (sym (get_same curves k x no_curve l ∙ at.each k m)) (drawn (slice_index numbers k) no_curve (known k m))
+    subst (IsDrawn low high) (sym (get_same curves k x no_curve l ∙ at.each k m))
+    (drawn (slice_index numbers k) no_curve (known k m))
 
 -- ---- curves without which the last level settles the drawing
-module _ (d : Plan) (marks : List Bool) (points : List Placed) (r : SubDrawing) (is : IsRest d marks points r) where
+module _ (d : Plan) (marks : List Bool) (points : List Placed) (r : SubDrawing)
+    (is : IsRest d marks points r) where
   abbrev e : Plan
   e = plan r.drawing
 
@@ -116,7 +127,9 @@ module _ (d : Plan) (marks : List Bool) (points : List Placed) (r : SubDrawing) 
       → number a < number b → a < b
   in_order a b la lb l =
       by_lt a b (λ (x : a < b). x)
-      (λ (x : b ≤ a). absurd (by_lt b a (λ (y : b < a). let w = is.numbers.rising b a y la in omega (arith, w, l)) (λ (y : a ≤ b). let w = ap number (both x y) in omega (arith, w, l))))
+      (λ (x : b ≤ a). absurd (by_lt b a (λ (y : b < a). let w = is.numbers.rising b a y la in
+      omega (arith, w, l)) (λ (y : a ≤ b). let w = ap number (both x y) in
+      omega (arith, w, l))))
     where
       both : b ≤ a → a ≤ b → a ≡ b
       both x y = omega (arith, x, y)
@@ -134,19 +147,24 @@ module _ (d : Plan) (marks : List Bool) (points : List Placed) (r : SubDrawing) 
       none x.a y.a (record {
         order = in_order x.a y.a x.known y.known (omega (arith, ex, ey, o));
         there = y.there;
-        bad = subst (λ (c : Curve). AreBad c (curve e y.a)) x.curve_is (subst (λ (c : Curve). AreBad (curve d i) c) y.curve_is p.bad);
+        bad = subst (λ (c : Curve). AreBad c (curve e y.a)) x.curve_is
+            (subst (λ (c : Curve). AreBad (curve d i) c) y.curve_is p.bad);
       })
 
-  pub no_break : ((i j a b : ℕ) → a < length e.curves → b < length e.curves → curve d i ≡ curve e a → curve d j ≡ curve e b → (i ≡ j → ⊥) → (a ≡ b → ⊥) → Breaks d 5 i j → Breaks e 5 a b)
+  pub no_break : ((i j a b : ℕ) → a < length e.curves → b < length e.curves → curve d i ≡ curve e a
+      → curve d j ≡ curve e b → (i ≡ j → ⊥) → (a ≡ b → ⊥) → Breaks d 5 i j → Breaks e 5 a b)
       → HasNoBreak e
-      → (i j : ℕ) → i < j → j < length d.curves → Breaks d 5 i j → mark_of marks i ≡ false → mark_of marks j ≡ false → ⊥
+      → (i j : ℕ) → i < j → j < length d.curves → Breaks d 5 i j → mark_of marks i ≡ false
+      → mark_of marks j ≡ false → ⊥
   no_break law none i j o t h u v =
       let x = placed i (omega (arith, o, t)) u in
       let y = placed j t v in
       let ex = x.is_at in
       let ey = y.is_at in
       let l = in_order x.a y.a x.known y.known (omega (arith, ex, ey, o)) in
-      none x.a y.a (law i j x.a y.a x.there y.there x.curve_is y.curve_is (λ q. omega (arith, q, o)) (λ q. omega (arith, q, l)) h)
+      none x.a y.a
+      (law i j x.a y.a x.there y.there x.curve_is y.curve_is (λ q. omega (arith, q, o))
+      (λ q. omega (arith, q, l)) h)
 
   one_of : (i j : ℕ) → (mark_of marks i ≡ false → mark_of marks j ≡ false → ⊥)
       → IsOneMarked marks i j
@@ -162,26 +180,38 @@ module _ (d : Plan) (marks : List Bool) (points : List Placed) (r : SubDrawing) 
   HasAllPoints = points ≡ d.points
 
   object_is : HasAllPoints → (j : ℕ) → object e j ≡ object d j
-  object_is all j = ap (λ (ps : List Placed). (get_or ps j (record { at = no_point; line = 0 })).at) (is.points_are ∙ all)
+  object_is all j =
+      ap (λ (ps : List Placed). (get_or ps j (record { at = no_point; line = 0 })).at)
+      (is.points_are ∙ all)
 
   lies_there : HasAllPoints → (j i : ℕ) → LiesOn d j i → (x : HasPlace i) → LiesOn e j x.a
   lies_there all j i h x = record {
-    point_there = subst (λ (ps : List Placed). j < length ps) (sym (is.points_are ∙ all)) h.point_there;
+    point_there =
+        subst (λ (ps : List Placed). j < length ps) (sym (is.points_are ∙ all)) h.point_there;
     curve_there = x.there;
-    on = subst (λ (c : Curve). IsOn c (point (object e j))) x.curve_is (subst (λ (v : Point). IsOn (curve d i) (point v)) (sym (object_is all j)) h.on);
-    has_side = subst (λ (c : Curve). c.kind ≡ kind.HalfArc → HasSide (arc c) (point (object e j))) x.curve_is
-        (subst (λ (v : Point). (curve d i).kind ≡ kind.HalfArc → HasSide (arc (curve d i)) (point v)) (sym (object_is all j)) h.has_side);
+    on = subst (λ (c : Curve). IsOn c (point (object e j))) x.curve_is
+        (subst (λ (v : Point). IsOn (curve d i) (point v)) (sym (object_is all j)) h.on);
+    has_side = subst (λ (c : Curve). c.kind ≡ kind.HalfArc
+        → HasSide (arc c) (point (object e j))) x.curve_is
+        (subst (λ (v : Point). (curve d i).kind ≡ kind.HalfArc
+        → HasSide (arc (curve d i)) (point v)) (sym (object_is all j)) h.has_side);
   }
 
   lies_here : HasAllPoints → (j a : ℕ) → LiesOn e j a → LiesOnMarked d marks false j (number a)
   lies_here all j a h =
-      let l : a < length r.numbers.items = (let c = is.curves.size in let k = h.curve_there in omega (arith, c, k)) in record {
+      let l : a < length r.numbers.items = (let c = is.curves.size in let k = h.curve_there in
+      omega (arith, c, k)) in
+      record {
         on = record {
-          point_there = subst (λ (ps : List Placed). j < length ps) (is.points_are ∙ all) h.point_there;
+          point_there =
+              subst (λ (ps : List Placed). j < length ps) (is.points_are ∙ all) h.point_there;
           curve_there = is.numbers.known a l;
-          on = subst (λ (c : Curve). IsOn c (point (object d j))) (same a l) (subst (λ (v : Point). IsOn (curve e a) (point v)) (object_is all j) h.on);
-          has_side = subst (λ (c : Curve). c.kind ≡ kind.HalfArc → HasSide (arc c) (point (object d j))) (same a l)
-              (subst (λ (v : Point). (curve e a).kind ≡ kind.HalfArc → HasSide (arc (curve e a)) (point v)) (object_is all j) h.has_side);
+          on = subst (λ (c : Curve). IsOn c (point (object d j))) (same a l)
+              (subst (λ (v : Point). IsOn (curve e a) (point v)) (object_is all j) h.on);
+          has_side = subst (λ (c : Curve). c.kind ≡ kind.HalfArc
+              → HasSide (arc c) (point (object d j))) (same a l)
+              (subst (λ (v : Point). (curve e a).kind ≡ kind.HalfArc
+              → HasSide (arc (curve e a)) (point v)) (object_is all j) h.has_side);
         };
         mark_is = is.numbers.mark_is a l;
       }
@@ -191,19 +221,30 @@ module _ (d : Plan) (marks : List Bool) (points : List Placed) (r : SubDrawing) 
 
   least_here : HasAllPoints → (on found : Option OnCurve) → IsFirstOnCurve e on
       → IsNumbered r.numbers.items on found → IsLeastOf (LiesOnMarked d marks false) found
-  least_here all None found f q = subst (IsLeastOf (LiesOnMarked d marks false)) (sym q) (λ j i h. let x = placed i h.on.curve_there h.mark_is in f j x.a (lies_there all j i h.on x))
-  least_here all (Some p) found f q = subst (IsLeastOf (LiesOnMarked d marks false)) (sym q) (lies_here all p.point p.curve f.on, not_less)
+  least_here all None found f q =
+      subst (IsLeastOf (LiesOnMarked d marks false)) (sym q)
+      (λ j i h. let x = placed i h.on.curve_there h.mark_is in f j x.a (lies_there all j i h.on x))
+  least_here all (Some p) found f q =
+      subst (IsLeastOf (LiesOnMarked d marks false)) (sym q)
+      (lies_here all p.point p.curve f.on, not_less)
     where
       not_less : (j i : ℕ) → LiesOnMarked d marks false j i → IsLess j i p.point (number p.curve)
           → ⊥
-      not_less j i h (inl l) = let x = placed i h.on.curve_there h.mark_is in f.no_point j x.a l (lies_there all j i h.on x)
+      not_less j i h (inl l) =
+          let x = placed i h.on.curve_there h.mark_is in
+          f.no_point j x.a l (lies_there all j i h.on x)
       not_less j i h (inr (q, l)) =
           let x = placed i h.on.curve_there h.mark_is in
           let ex = x.is_at in
-          f.no_curve x.a (in_order x.a p.curve x.known (on_known p f) (omega (arith, ex, l))) (subst (λ (k : ℕ). LiesOn e k x.a) q (lies_there all j i h.on x))
+          f.no_curve x.a (in_order x.a p.curve x.known (on_known p f) (omega (arith, ex, l)))
+          (subst (λ (k : ℕ). LiesOn e k x.a) q (lies_there all j i h.on x))
 
-  pub few_are_aside : ((i j a b : ℕ) → a < length e.curves → b < length e.curves → curve d i ≡ curve e a → curve d j ≡ curve e b → (i ≡ j → ⊥) → (a ≡ b → ⊥) → Breaks d 5 i j → Breaks e 5 a b)
-      → HasAllPoints → length marks ≡ length d.curves → HasNoBadPair e → HasNoBreak e → (on found : Option OnCurve) → IsFirstOnCurve e on → IsNumbered r.numbers.items on found → AreAside d marks found
+  pub few_are_aside : ((i j a b : ℕ) → a < length e.curves → b < length e.curves
+      → curve d i ≡ curve e a → curve d j ≡ curve e b → (i ≡ j → ⊥) → (a ≡ b → ⊥) → Breaks d 5 i j
+      → Breaks e 5 a b)
+      → HasAllPoints → length marks ≡ length d.curves → HasNoBadPair e → HasNoBreak e
+      → (on found : Option OnCurve) → IsFirstOnCurve e on → IsNumbered r.numbers.items on found
+      → AreAside d marks found
   few_are_aside law all size bad break on found f q = record {
     size = size;
     pairs = λ i j p. one_of i j (no_bad bad i j p.pair);

@@ -11,7 +11,10 @@ pub returns-in_err-magnitude : goal.returns-in_err-magnitude
 returns-in_err-magnitude c =
     let bytes = c.args.bytes.now in
     let scale = c.args.scale in
-    let u : unsigned_of scale (after_sign bytes) ≡ Err c.in_err-magnitude.field-0.0 = rw (← c.split_sign-negative.ensures.rest) (sym c.read_unsigned.ensures.reading ∙ c.in_err-magnitude.was) in
+    let u : unsigned_of scale (after_sign bytes)
+    ≡ Err c.in_err-magnitude.field-0.0 =
+    rw (← c.split_sign-negative.ensures.rest) (sym c.read_unsigned.ensures.reading
+    ∙ c.in_err-magnitude.was) in
     let e = scaled_fault bytes scale _ u in
     let a : c.from_residual.result ≡ scaled_of bytes scale = search (rules, sym e) in
     record {
@@ -27,10 +30,17 @@ returns c =
     let bytes = c.args.bytes.now in
     let scale = c.args.scale in
     let f : FitsSigned w64 c.with_sign.result = search rules in
-    let u : unsigned_of scale (after_sign bytes) ≡ Ok c.in_ok-magnitude.magnitude = rw (← c.split_sign-negative.ensures.rest) (sym c.read_unsigned.ensures.reading ∙ c.in_ok-magnitude.was) in
-    let m = signed_is (sign_of bytes) c.split_sign-negative.result.0 c.in_ok-magnitude.magnitude c.split_sign-negative.ensures.negative in
-    let v : c.with_sign.result ≡ with_sign (sign_of bytes) c.in_ok-magnitude.magnitude = c.with_sign.ensures ∙ sym m in
-    let a : Ok (to_z w64 (of_z w64 c.with_sign.result)) ≡ scaled_of bytes scale = ap (λ (z : ℤ). Ok z) (to_z-of_z f ∙ v) ∙ sym (scaled_value bytes scale c.in_ok-magnitude.magnitude u) in
+    let u : unsigned_of scale (after_sign bytes)
+    ≡ Ok c.in_ok-magnitude.magnitude =
+    rw (← c.split_sign-negative.ensures.rest) (sym c.read_unsigned.ensures.reading
+    ∙ c.in_ok-magnitude.was) in
+    let m = signed_is (sign_of bytes) c.split_sign-negative.result.0 c.in_ok-magnitude.magnitude
+    c.split_sign-negative.ensures.negative in
+    let v : c.with_sign.result ≡ with_sign
+    (sign_of bytes) c.in_ok-magnitude.magnitude = c.with_sign.ensures ∙ sym m in
+    let a : Ok (to_z w64 (of_z w64 c.with_sign.result))
+    ≡ scaled_of bytes scale = ap (λ (z : ℤ). Ok z) (to_z-of_z f ∙ v)
+    ∙ sym (scaled_value bytes scale c.in_ok-magnitude.magnitude u) in
     record {
       answer = a;
       value = value_exactly bytes scale _ a;

@@ -1,4 +1,5 @@
--- Polynomial identities over the whole numbers, decided by computing: an expression is brought to Horner form, and one
+-- Polynomial identities over the whole numbers, decided by computing: an expression is brought to
+-- Horner form, and one
 -- whose form has no coefficient but 0 is 0 at every value of its variables.
 use Rattle.std.proofs.Common.{◌≡◌, ℕ, zero, suc, ℤ, pos, negsuc, ◌+ℤ◌, ◌*ℤ◌, ◌-ℤ◌, ap, sym, ◌∙◌}
 use Rattle.std.proofs.Common.{arith, refl, Bool, true, false, ◌&&◌, IsTrue, List, [], ◌∷◌}
@@ -148,7 +149,9 @@ mul-value (hor p q) (hor r s) e =
     let y = at_form t e in
     let a = add-value (shift (mul p t)) (lift (mul q) t) e in
     let b = lift-value (mul q) (at_form q rest) e t (λ u. mul-value q u rest) in
-    let k = shift-value (mul p t) e ∙ ap (λ v. v *ℤ x) (mul-value p t e) ∙ product_assoc (at_form p e) y x ∙ ap (λ v. at_form p e *ℤ v) (product_comm y x) ∙ sym (product_assoc (at_form p e) x y) in
+    let k = shift-value (mul p t) e ∙ ap (λ v. v *ℤ x) (mul-value p t e)
+    ∙ product_assoc (at_form p e) y x ∙ ap (λ v. at_form p e *ℤ v) (product_comm y x)
+    ∙ sym (product_assoc (at_form p e) x y) in
     let d = sum-product (at_form p e *ℤ x) (at_form q rest) y in
     omega (arith, ints, a, b, k, d)
 
@@ -159,12 +162,23 @@ variable-value (suc i) e = let h = variable-value i (λ n. e (suc n)) in omega (
 form-value : (a : Expr) (e : ℕ → ℤ) → at_form (form a) e ≡ value a e
 form-value (at i) e = variable-value i e
 form-value (num c) e = refl
-form-value (plus a b) e = let h = form-value a e in let k = form-value b e in omega (arith, ints, h, k, add-value (form a) (form b) e)
+form-value (plus a b) e =
+    let h = form-value a e in
+    let k = form-value b e in omega (arith, ints, h, k, add-value (form a) (form b) e)
 form-value (minus a b) e =
     let h = form-value a e in
     let k = form-value b e in
-    omega (arith, ints, h, k, add-value (form a) (scale (negsuc 0) (form b)) e, scale-value (negsuc 0) (form b) e, minus_one-product (at_form (form b) e))
-form-value (times a b) e = mul-value (form a) (form b) e ∙ ap (λ v. v *ℤ at_form (form b) e) (form-value a e) ∙ ap (λ v. value a e *ℤ v) (form-value b e)
+    omega (
+      arith,
+      ints,
+      h,
+      k,
+      add-value (form a) (scale (negsuc 0) (form b)) e,
+      scale-value (negsuc 0) (form b) e,
+      minus_one-product (at_form (form b) e),
+    )
+form-value (times a b) e = mul-value (form a) (form b) e
+    ∙ ap (λ v. v *ℤ at_form (form b) e) (form-value a e) ∙ ap (λ v. value a e *ℤ v) (form-value b e)
 
 zero-is : (c : ℤ) → IsTrue (is_zero c) → c ≡ pos 0
 zero-is (pos zero) h = refl

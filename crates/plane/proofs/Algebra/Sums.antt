@@ -51,7 +51,8 @@ below_take (suc m) x g l = by_last x m l
     omega (arith, ints, i, o))
     (λ (k : x ≡ m).
     let z = without_same x m g (sym k) in
-    let s = below_same m g (without x g) (λ e (j : e < m). sym (without_other x e g (λ (q : e ≡ x). absurd (omega arith)))) in
+    let s = below_same m g (without x g)
+    (λ e (j : e < m). sym (without_other x e g (λ (q : e ≡ x). absurd (omega arith)))) in
     let h = ap g k in
     omega (arith, ints, z, s, h))
 
@@ -69,9 +70,12 @@ pub total_once : (m : ℕ) (g : ℕ → ℤ) (xs : List ℕ) → Once xs → ((e
 total_once m g [] once fits none = below_none m g (λ e l. none e l (λ h. h))
 total_once m g (x ∷ xs) once fits none =
     let t = below_take m x g (fits x (inl refl)) in
-    let i = total_once m (without x g) xs once.1 (λ e h. fits e (inr h)) (λ e l h. elim (eqb_tells e x) [
+    let i = total_once m (without x g) xs once.1 (λ e h. fits e (inr h))
+    (λ e l h. elim (eqb_tells e x) [
       | inl k ↦ without_same x e g k.1
-      | inr k ↦ without_other x e g k.1 ∙ none e l (λ (j : Has e (x ∷ xs)). elim j [ inl q ↦ k.1 q | inr q ↦ h q ])
+      | inr k ↦ without_other x e g k.1
+          ∙ none e l (λ (j : Has e (x ∷ xs)). elim j [ inl q ↦ k.1 q | inr q ↦ h q ])
     ]) in
-    let s = total_same (without x g) g xs (λ e h. without_other x e g (λ (q : e ≡ x). once.0 (subst (λ (y : ℕ). Has y xs) q h))) in
+    let s = total_same (without x g) g xs
+    (λ e h. without_other x e g (λ (q : e ≡ x). once.0 (subst (λ (y : ℕ). Has y xs) q h))) in
     omega (arith, ints, t, i, s)

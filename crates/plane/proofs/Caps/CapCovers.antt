@@ -1,4 +1,5 @@
--- In the cap's own picture: from a place that is not outside to one that is not inside, over the chord's line, a place of the segment is in the strip.
+-- In the cap's own picture: from a place that is not outside to one that is not inside, over the
+-- chord's line, a place of the segment is in the strip.
 use Rattle.std.proofs.Common.{◌≡◌, ℤ, pos, ◌+ℤ◌, ◌*ℤ◌, ◌-ℤ◌, ◌<ℤ◌, ◌≤ℤ◌, inl, inr, List, [], ◌∷◌}
 use Rattle.std.proofs.Common.{refl, arith, ap, ◌∙◌, subst, sym}
 use Rattle.std.proofs.lemmas.Int.{ints, by_lt_z}
@@ -52,14 +53,19 @@ wall_outside c z hc hz e hy =
     omega (arith, ints, a, b)
 
 pub left_wall : (u v : ℤ) → ((pos 0 -ℤ v) *ℤ u) +ℤ (u *ℤ v) ≡ pos 0
-left_wall u v = ring (plus (times (minus (num (pos 0)) (at 1)) (at 0)) (times (at 0) (at 1))) (num (pos 0)) (vars (u ∷ v ∷ [])) refl
+left_wall u v =
+    ring (plus (times (minus (num (pos 0)) (at 1)) (at 0)) (times (at 0) (at 1))) (num (pos 0))
+    (vars (u ∷ v ∷ [])) refl
 
 pub right_wall : (l u m v n : ℤ)
-    → (((v -ℤ (l *ℤ n)) *ℤ u) +ℤ (((l *ℤ m) -ℤ u) *ℤ v)) -ℤ (l *ℤ (((v -ℤ (l *ℤ n)) *ℤ m) +ℤ (((l *ℤ m) -ℤ u) *ℤ n))) ≡ pos 0
+    → (((v -ℤ (l *ℤ n)) *ℤ u) +ℤ (((l *ℤ m) -ℤ u) *ℤ v))
+    -ℤ (l *ℤ (((v -ℤ (l *ℤ n)) *ℤ m) +ℤ (((l *ℤ m) -ℤ u) *ℤ n))) ≡ pos 0
 right_wall l u m v n =
     let s = minus (at 3) (times (at 0) (at 4)) in
     let t = minus (times (at 0) (at 2)) (at 1) in
-    ring (minus (plus (times s (at 1)) (times t (at 3))) (times (at 0) (plus (times s (at 2)) (times t (at 4))))) (num (pos 0)) (vars (l ∷ u ∷ m ∷ v ∷ n ∷ [])) refl
+    ring (minus (plus (times s (at 1)) (times t (at 3)))
+    (times (at 0) (plus (times s (at 2)) (times t (at 4))))) (num (pos 0))
+    (vars (l ∷ u ∷ m ∷ v ∷ n ∷ [])) refl
 
 swapped_zero : (a b : ℤ) → a ≡ pos 0 → a *ℤ b ≡ pos 0
 swapped_zero a b e = ap (λ (x : ℤ). x *ℤ b) e ∙ omega (arith, ints)
@@ -149,7 +155,8 @@ clip c u v hc hu hv slab uy vy out =
     }
       where
         one : (x y : ℤ) → (pos 0 *ℤ x) +ℤ (pos 1 *ℤ y) ≡ y
-        one x y = ring (plus (times (num (pos 0)) (at 0)) (times (num (pos 1)) (at 1))) (at 1) (vars (x ∷ y ∷ [])) refl
+        one x y = ring (plus (times (num (pos 0)) (at 0)) (times (num (pos 1)) (at 1))) (at 1)
+            (vars (x ∷ y ∷ [])) refl
 
         only : mix (pos 0) u (pos 1) v ≡ v
         only = vector_eq _ _ (one u.x v.x) (one u.y v.y) (one u.n v.n)
@@ -162,11 +169,13 @@ first_only p bs u v h = record {
   s_least = omega (arith, ints);
   t_least = omega (arith, ints);
   some = omega (arith, ints);
-  there = subst (λ (z : Vector). InTube p bs z) (sym (vector_eq _ _ (one u.x v.x) (one u.y v.y) (one u.n v.n))) h;
+  there = subst (λ (z : Vector). InTube p bs z)
+      (sym (vector_eq _ _ (one u.x v.x) (one u.y v.y) (one u.n v.n))) h;
 }
   where
     one : (x y : ℤ) → (pos 1 *ℤ x) +ℤ (pos 0 *ℤ y) ≡ x
-    one x y = ring (plus (times (num (pos 1)) (at 0)) (times (num (pos 0)) (at 1))) (at 0) (vars (x ∷ y ∷ [])) refl
+    one x y = ring (plus (times (num (pos 1)) (at 0)) (times (num (pos 0)) (at 1))) (at 0)
+        (vars (x ∷ y ∷ [])) refl
 
 -- a mix of u and of a mix of u and v
 part : (p : Point) (bs : List Bay) (u v : Vector) (s t : ℤ) → pos 0 ≤ℤ s → pos 0 ≤ℤ t
@@ -198,9 +207,11 @@ at_map R S z p (b ∷ rest) f h = ((λ k. f (line p b.inner) (h.0 k)), at_map R 
 
 pub strip_cover : (c : Cap) (p : Point) (b : Bay) (rest : List Bay) (u v : Vector) → IsCap c
     → IsCapStrip c p p (b ∷ rest) → p.x ≡ pos 0 → Place u → Place v
-    → pos 0 ≤ℤ u.y → pos 0 ≤ℤ v.y → shape c u ≤ℤ pos 0 → pos 0 ≤ℤ shape c v → Reaches p (b ∷ rest) u v
+    → pos 0 ≤ℤ u.y → pos 0 ≤ℤ v.y → shape c u ≤ℤ pos 0 → pos 0 ≤ℤ shape c v
+    → Reaches p (b ∷ rest) u v
 strip_cover c p b rest u v hc h start hu hv uy vy inside outside =
-    elim (locate c u p p (b ∷ rest) hu h (left_end u slab.low) slab.high (under_fences c u p p (b ∷ rest) hc hu h uy inside)) [
+    elim (locate c u p p (b ∷ rest) hu h (left_end u slab.low) slab.high
+    (under_fences c u p p (b ∷ rest) hc hu h uy inside)) [
       | inl f ↦ first_only p (b ∷ rest) u v (found_first u p (b ∷ rest) f)
       | inr under ↦ part p (b ∷ rest) u v k.s k.t k.s_least k.t_least k.some (across under)
     ]
@@ -226,11 +237,27 @@ strip_cover c p b rest u v hc h start hu hv uy vy inside outside =
     across : AtInner NotOver u p (b ∷ rest) → Reaches p (b ∷ rest) u w
     across under = by_lt_z (w.x *ℤ u.n) (u.x *ℤ w.n)
         (λ (l : (w.x *ℤ u.n) <ℤ (u.x *ℤ w.n)).
-        let m = crosses under_side c p p b rest w u under_tilt hw hu h (left_end w k.slab.low) k.slab.high slab.high (omega (arith, ints, l))
+        let m = crosses under_side c p p b rest w u under_tilt hw hu h
+        (left_end w k.slab.low) k.slab.high slab.high (omega (arith, ints, l))
         (at_map NotUnder (Most under_side) w p (b ∷ rest) (λ e y. omega (arith, ints, y)) over)
         (at_map NotOver (Least under_side) u p (b ∷ rest) (λ e y. omega (arith, ints, y)) under) in
         let some = m.some in
-        record { s = m.t; t = m.s; s_least = m.t_least; t_least = m.s_least; some = omega (arith, ints, some); there = inl (other_way p (b ∷ rest) m.s m.t w u m.there) })
+        record {
+          s = m.t;
+          t = m.s;
+          s_least = m.t_least;
+          t_least = m.s_least;
+          some = omega (arith, ints, some);
+          there = inl (other_way p (b ∷ rest) m.s m.t w u m.there);
+        })
         (λ (l : (u.x *ℤ w.n) ≤ℤ (w.x *ℤ u.n)).
-        let m = crosses side c p p b rest u w side_tilt hu hw h (left_end u slab.low) slab.high k.slab.high l under over in
-        record { s = m.s; t = m.t; s_least = m.s_least; t_least = m.t_least; some = m.some; there = inl m.there })
+        let m = crosses side c p p b rest u w side_tilt hu hw h
+        (left_end u slab.low) slab.high k.slab.high l under over in
+        record {
+          s = m.s;
+          t = m.t;
+          s_least = m.s_least;
+          t_least = m.t_least;
+          some = m.some;
+          there = inl m.there;
+        })

@@ -34,9 +34,12 @@ raised_inside c w z hc hw hz slab e over low ow =
     let on = chord_inside c h hc record { low = slab.low; high = slab.high } refl in
     let w_in = is_in ow.over hk in
     let inside = inside_mix c a w b h hc hw hz ha hb w_in on in
-    let same : mix a w b h ≡ scaled k z = vector_eq _ _ (mix_x w.x w.y w.n z.x z.y z.n e) (mix_y w.y w.n z.y z.n) (mix_n w.y w.n z.y z.n) in
-    let f : shape c (scaled k z) <ℤ pos 0 = subst (λ (v : Vector). shape c v <ℤ pos 0) same inside in
-    cancel_below (k *ℤ k) (shape c z) (square_positive k hk) (subst (λ (v : ℤ). v <ℤ pos 0) (shape-scaled c k z) f)
+    let same : mix a w b h ≡ scaled k z = vector_eq _ _ (mix_x w.x w.y w.n z.x z.y z.n e)
+    (mix_y w.y w.n z.y z.n) (mix_n w.y w.n z.y z.n) in
+    let f : shape c (scaled k z) <ℤ pos 0 = subst
+    (λ (v : Vector). shape c v <ℤ pos 0) same inside in
+    cancel_below (k *ℤ k) (shape c z) (square_positive k hk)
+    (subst (λ (v : ℤ). v <ℤ pos 0) (shape-scaled c k z) f)
   where
     comm : (a b : ℤ) → a *ℤ b ≡ b *ℤ a
     comm a b = ring (times (at 0) (at 1)) (times (at 1) (at 0)) (vars (a ∷ b ∷ [])) refl
@@ -51,14 +54,20 @@ raised_inside c w z hc hw hz slab e over low ow =
         up : (y n : ℤ) → pos 0 ≤ℤ y → pos 0 <ℤ n → pos 0 <ℤ (pos 0 -ℤ (y *ℤ n)) → ⊥
         up y n h k l = by_lt_z (pos 0) y
             (λ (m : pos 0 <ℤ y). let p = product_positive y n m k in omega (arith, ints, p, l))
-            (λ (m : y ≤ℤ pos 0). let z : y ≡ pos 0 = omega (arith, ints, h, m) in let p = ap (λ (v : ℤ). v *ℤ n) z in omega (arith, ints, p, l))
+            (λ (m : y ≤ℤ pos 0). let z : y ≡ pos 0 = omega (arith, ints, h, m) in
+            let p = ap (λ (v : ℤ). v *ℤ n) z in omega (arith, ints, p, l))
 
     mix_x : (x y n u v m : ℤ) → x *ℤ m ≡ u *ℤ n
         → ((pos 0 -ℤ (v *ℤ m)) *ℤ x) +ℤ (((v *ℤ n) -ℤ (y *ℤ m)) *ℤ u) ≡ (pos 0 -ℤ (y *ℤ m)) *ℤ u
     mix_x x y n u v m e =
-        let X = at 0 in let Y = at 1 in let N = at 2 in let U = at 3 in let V = at 4 in let M = at 5 in
+        let X = at 0 in
+        let Y = at 1 in let N = at 2 in let U = at 3 in let V = at 4 in let M = at 5 in
         let zero = num (pos 0) in
-        let i = ring (minus (plus (times (minus zero (times V M)) X) (times (minus (times V N) (times Y M)) U)) (times (minus zero (times Y M)) U)) (minus (times V (times U N)) (times V (times X M))) (vars (x ∷ y ∷ n ∷ u ∷ v ∷ m ∷ [])) refl in
+        let i = ring
+        (minus (plus (times (minus zero (times V M)) X)
+        (times (minus (times V N) (times Y M)) U)) (times (minus zero (times Y M)) U))
+        (minus (times V (times U N)) (times V (times X M)))
+        (vars (x ∷ y ∷ n ∷ u ∷ v ∷ m ∷ [])) refl in
         let f = ap (λ (w : ℤ). v *ℤ w) e in
         omega (arith, ints, i, f)
 
@@ -67,14 +76,16 @@ raised_inside c w z hc hw hz slab e over low ow =
     mix_y y n v m =
         let Y = at 0 in let N = at 1 in let V = at 2 in let M = at 3 in
         let zero = num (pos 0) in
-        ring (plus (times (minus zero (times V M)) Y) (times (minus (times V N) (times Y M)) zero)) (times (minus zero (times Y M)) V) (vars (y ∷ n ∷ v ∷ m ∷ [])) refl
+        ring (plus (times (minus zero (times V M)) Y) (times (minus (times V N) (times Y M)) zero))
+        (times (minus zero (times Y M)) V) (vars (y ∷ n ∷ v ∷ m ∷ [])) refl
 
     mix_n : (y n v m : ℤ)
         → ((pos 0 -ℤ (v *ℤ m)) *ℤ n) +ℤ (((v *ℤ n) -ℤ (y *ℤ m)) *ℤ m) ≡ (pos 0 -ℤ (y *ℤ m)) *ℤ m
     mix_n y n v m =
         let Y = at 0 in let N = at 1 in let V = at 2 in let M = at 3 in
         let zero = num (pos 0) in
-        ring (plus (times (minus zero (times V M)) N) (times (minus (times V N) (times Y M)) M)) (times (minus zero (times Y M)) M) (vars (y ∷ n ∷ v ∷ m ∷ [])) refl
+        ring (plus (times (minus zero (times V M)) N) (times (minus (times V N) (times Y M)) M))
+        (times (minus zero (times Y M)) M) (vars (y ∷ n ∷ v ∷ m ∷ [])) refl
 
 -- a place strictly over a straight whose ends are over the lower part
 pub raised_over : (c : Cap) (p q : Point) (z : Vector) → IsCap c → Place z → p.x <ℤ q.x
@@ -89,7 +100,9 @@ raised_over c p q z hc hz h k slab op oq l = record {
     inside m =
         let w = stands p q z hz h k in
         let one : pos 0 <ℤ pos 1 = omega (arith, ints) in
-        let o = over_mix c ((q.x *ℤ z.n) -ℤ z.x) (point p) (z.x -ℤ (p.x *ℤ z.n)) (point q) hc one one w.s_least w.t_least w.some op oq in
+        let o = over_mix c ((q.x *ℤ z.n) -ℤ z.x) (point p) (z.x -ℤ (p.x *ℤ z.n))
+        (point q) hc one one w.s_least w.t_least w.some op oq in
         let lift = product_positive z.n (side (line p q) z) hz l in
         let e = stand-y p q z in
-        raised_inside c (stand p q z) z hc w.place hz slab (stand-x p q z) (omega (arith, ints, e, lift)) m o
+        raised_inside c (stand p q z) z hc w.place hz slab (stand-x p q z)
+        (omega (arith, ints, e, lift)) m o

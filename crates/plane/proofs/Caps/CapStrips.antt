@@ -30,7 +30,8 @@ unfolding side
 side_at_high p q z e =
     let k = product_of_zero (q.y -ℤ p.y) (z.x -ℤ (q.x *ℤ z.n)) (omega (arith, ints, e)) in
     let i = ring (SIDE (at 0) (at 1) (at 2) (at 3) (at 4) (at 5) (at 6))
-    (minus (times (minus (at 2) (at 0)) (minus (at 5) (times (at 3) (at 6)))) (times (minus (at 3) (at 1)) (minus (at 4) (times (at 2) (at 6)))))
+    (minus (times (minus (at 2) (at 0)) (minus (at 5) (times (at 3) (at 6))))
+    (times (minus (at 3) (at 1)) (minus (at 4) (times (at 2) (at 6)))))
     (vars (p.x ∷ p.y ∷ q.x ∷ q.y ∷ z.x ∷ z.y ∷ z.n ∷ [])) refl in
     omega (arith, ints, k, i)
 
@@ -51,8 +52,10 @@ pub inner_left : (R : Edge → Vector → Type 0) (c : Cap) (z : Vector) (q p : 
 inner_left R c z q p [] hz h l = tt
 inner_left R c z q p (b ∷ rest) hz h l =
     let m = further p.x b.outer.x z.n hz h.0.up in
-    let n = further b.outer.x b.inner.x z.n hz h.0.on in
-    ((λ k. absurd (let k_low = k.low in omega (arith, ints, k_low, l))), inner_left R c z b.outer b.inner rest hz h.4 (omega (arith, ints, l, m, n)))
+    let n = further b.outer.x b.inner.x z.n hz h.0.on in (
+      (λ k. absurd (let k_low = k.low in omega (arith, ints, k_low, l))),
+      inner_left R c z b.outer b.inner rest hz h.4 (omega (arith, ints, l, m, n)),
+    )
 
 -- ---- in the strip, from the corners p and q on
 abbrev pub GapBefore : Vector → Point → Point → List Bay → Type 0
@@ -90,21 +93,26 @@ found_first z p (b ∷ rest) (inl h) = inl (inl record {
   k_least = h.k_least;
   some = (let a = h.some in omega (arith, ints, a));
   is = record {
-    x = ap (λ (v : ℤ). z.x *ℤ v) (one (pos 1) (pos 1) (pos 1)) ∙ h.is.x ∙ ap (λ (v : ℤ). v *ℤ z.n) (sym (one b.outer.x p.x b.inner.x));
-    y = ap (λ (v : ℤ). z.y *ℤ v) (one (pos 1) (pos 1) (pos 1)) ∙ h.is.y ∙ ap (λ (v : ℤ). v *ℤ z.n) (sym (one b.outer.y p.y b.inner.y));
+    x = ap (λ (v : ℤ). z.x *ℤ v) (one (pos 1) (pos 1) (pos 1)) ∙ h.is.x
+        ∙ ap (λ (v : ℤ). v *ℤ z.n) (sym (one b.outer.x p.x b.inner.x));
+    y = ap (λ (v : ℤ). z.y *ℤ v) (one (pos 1) (pos 1) (pos 1)) ∙ h.is.y
+        ∙ ap (λ (v : ℤ). v *ℤ z.n) (sym (one b.outer.y p.y b.inner.y));
   };
 })
   where
     one : (o x v : ℤ)
-        → (((h.i +ℤ h.j) *ℤ x) +ℤ (pos 0 *ℤ v)) +ℤ (h.k *ℤ o) ≡ ((h.i *ℤ x) +ℤ (h.j *ℤ x)) +ℤ (h.k *ℤ o)
+        → (((h.i +ℤ h.j) *ℤ x) +ℤ (pos 0 *ℤ v)) +ℤ (h.k *ℤ o)
+        ≡ ((h.i *ℤ x) +ℤ (h.j *ℤ x)) +ℤ (h.k *ℤ o)
     one o x v = let d = sum-product h.i h.j x in let e = zero-product v in omega (arith, ints, d, e)
 
 -- ---- the walk along the strip
 -- right of o and left of v the outer chain goes on from o
 after_top : (c : Cap) (z : Vector) (b : Bay) (rest : List Bay) → Place z
     → IsCapStrip c b.outer b.inner rest → IsUnder z b.outer b.inner rest
-    → (b.outer.x *ℤ z.n) ≤ℤ z.x → z.x ≤ℤ (b.inner.x *ℤ z.n) → pos 0 <ℤ side (line b.outer b.inner) z → b.outer.x <ℤ b.inner.x → Found z b.outer b.inner rest
-after_top c z b [] hz h u l r s on = absurd (let k = u record { low = l; high = r } in omega (arith, ints, k, s))
+    → (b.outer.x *ℤ z.n) ≤ℤ z.x → z.x ≤ℤ (b.inner.x *ℤ z.n) → pos 0 <ℤ side (line b.outer b.inner) z
+    → b.outer.x <ℤ b.inner.x → Found z b.outer b.inner rest
+after_top c z b [] hz h u l r s on =
+    absurd (let k = u record { low = l; high = r } in omega (arith, ints, k, s))
 after_top c z b (d ∷ rest) hz h u l r s on = inl (top h.1)
   where
     top : (b.outer ≡ b.inner) ⊎ IsDip b.outer b.inner d.outer
@@ -114,22 +122,27 @@ after_top c z b (d ∷ rest) hz h u l r s on = inl (top h.1)
         let out = h.0.up in
         let m = further b.inner.x d.outer.x z.n hz out in
         let under = u.0 record { low = l; high = omega (arith, ints, r, m) } in
-        triangle_down b.outer b.inner d.outer z hz dip.under under (omega (arith, ints, s)) (left_down b.outer b.inner d.outer z dip.up out dip.under r (omega (arith, ints, s)))
+        triangle_down b.outer b.inner d.outer z hz dip.under under (omega (arith, ints, s))
+        (left_down b.outer b.inner d.outer z dip.up out dip.under r (omega (arith, ints, s)))
 
 before_top : (c : Cap) (z : Vector) (q p : Point) (b : Bay) (rest : List Bay) → Place z
     → IsCapStrip c q p (b ∷ rest) → IsUnder z q p (b ∷ rest)
-    → (p.x *ℤ z.n) ≤ℤ z.x → z.x ≤ℤ (b.outer.x *ℤ z.n) → pos 0 <ℤ side (line p b.outer) z → Found z q p (b ∷ rest)
+    → (p.x *ℤ z.n) ≤ℤ z.x → z.x ≤ℤ (b.outer.x *ℤ z.n) → pos 0 <ℤ side (line p b.outer) z
+    → Found z q p (b ∷ rest)
 before_top c z q p b rest hz h u l r s = inl (top h.1)
   where
     top : (q ≡ p) ⊎ IsDip q p b.outer → InTriangle z (point p) (point q) (point b.outer)
     top (inl e) =
-        let k : side (line p b.outer) z ≤ℤ pos 0 = subst (λ (v : Point). InColumn v b.outer z → side (line v b.outer) z ≤ℤ pos 0) e u.0 record { low = l; high = r } in
+        let k : side (line p b.outer) z ≤ℤ pos 0 = subst (λ (v : Point). InColumn v b.outer z
+        → side (line v b.outer) z ≤ℤ pos 0) e u.0 record { low = l; high = r } in
         absurd (omega (arith, ints, k, s))
     top (inr dip) =
         let out = h.0.up in
         let m = further q.x p.x z.n hz dip.up in
         let under = u.0 record { low = omega (arith, ints, l, m); high = r } in
-        triangle_down q p b.outer z hz dip.under under (right_down q p b.outer z dip.up out dip.under l (omega (arith, ints, s))) (omega (arith, ints, s))
+        triangle_down q p b.outer z hz dip.under under
+        (right_down q p b.outer z dip.up out dip.under l (omega (arith, ints, s)))
+        (omega (arith, ints, s))
 
 -- under the straight p v, the place is not over any straight of the inner chain
 under_all : (c : Cap) (z : Vector) (p : Point) (b : Bay) (rest : List Bay) → Place z → IsArch p b
@@ -141,8 +154,10 @@ under_all c z p b rest hz a h r s = ((λ k. omega (arith, ints, s)), later rest 
     later [] h = tt
     later (d ∷ rest) h =
         let m = further b.inner.x d.outer.x z.n hz h.0.up in
-        let n = further d.outer.x d.inner.x z.n hz h.0.on in
-        ((λ (k : InColumn b.inner d.inner z). first k), inner_left NotOver c z d.outer d.inner rest hz h.4 (omega (arith, ints, r, m, n)))
+        let n = further d.outer.x d.inner.x z.n hz h.0.on in (
+          (λ (k : InColumn b.inner d.inner z). first k),
+          inner_left NotOver c z d.outer d.inner rest hz h.4 (omega (arith, ints, r, m, n)),
+        )
       where
         first : InColumn b.inner d.inner z → side (line b.inner d.inner) z ≤ℤ pos 0
         first k =
@@ -151,8 +166,11 @@ under_all c z p b rest hz a h r s = ((λ k. omega (arith, ints, s)), later rest 
             let up = a.up in let on = a.on in let out = h.0.up in let out_on = h.0.on in
             let f = side_at_high p b.inner z e in
             let g = side_at_low b.inner d.inner z e in
-            let w : (z.y -ℤ (b.inner.y *ℤ z.n)) ≤ℤ pos 0 = cancel_most (b.inner.x -ℤ p.x) (z.y -ℤ (b.inner.y *ℤ z.n)) (omega (arith, ints, up, on)) (omega (arith, ints, f, s)) in
-            let x = times_most (d.inner.x -ℤ b.inner.x) (z.y -ℤ (b.inner.y *ℤ z.n)) (omega (arith, ints, out, out_on)) w in
+            let w : (z.y -ℤ (b.inner.y *ℤ z.n)) ≤ℤ pos 0 = cancel_most (b.inner.x -ℤ p.x)
+            (z.y -ℤ (b.inner.y *ℤ z.n)) (omega (arith, ints, up, on))
+            (omega (arith, ints, f, s)) in
+            let x = times_most (d.inner.x -ℤ b.inner.x) (z.y -ℤ (b.inner.y *ℤ z.n))
+            (omega (arith, ints, out, out_on)) w in
             omega (arith, ints, g, x)
 
 abbrev pub Split : Vector → Point → Point → List Bay → Type 0
@@ -163,23 +181,34 @@ pub locate : (c : Cap) (z : Vector) (q p : Point) (bs : List Bay) → Place z �
 locate c z q p [] hz h l r u = inr tt
 locate c z q p (b ∷ rest) hz h l r u =
     by_lt_z (b.inner.x *ℤ z.n) z.x
-    (λ (a : (b.inner.x *ℤ z.n) <ℤ z.x). later a (locate c z b.outer b.inner rest hz h.4 (omega (arith, ints, a)) r u.1))
+    (λ (a : (b.inner.x *ℤ z.n) <ℤ z.x). later a
+    (locate c z b.outer b.inner rest hz h.4 (omega (arith, ints, a)) r u.1))
     (λ (a : z.x ≤ℤ (b.inner.x *ℤ z.n)).
     by_lt_z z.x (b.outer.x *ℤ z.n)
-    (λ (k : z.x <ℤ (b.outer.x *ℤ z.n)). let k0 : z.x ≤ℤ (b.outer.x *ℤ z.n) = omega (arith, ints, k) in
+    (λ (k : z.x <ℤ (b.outer.x *ℤ z.n)). let k0 : z.x ≤ℤ (b.outer.x *ℤ z.n) = omega
+    (arith, ints, k) in
     by_lt_z (pos 0) (side (line p b.outer) z)
     (λ (s : pos 0 <ℤ side (line p b.outer) z). inl (before_top c z q p b rest hz h u l k0 s))
-    (λ (s : side (line p b.outer) z ≤ℤ pos 0). middle a s (left_up p b.outer b.inner z h.0.up h.0.on h.0.over k0 s)))
+    (λ (s : side (line p b.outer) z ≤ℤ pos 0). middle a s
+    (left_up p b.outer b.inner z h.0.up h.0.on h.0.over k0 s)))
     (λ (k : (b.outer.x *ℤ z.n) ≤ℤ z.x). by_lt_z (pos 0) (side (line b.outer b.inner) z)
-    (λ (s : pos 0 <ℤ side (line b.outer b.inner) z). inl (inr (found_step z p b rest (after_top c z b rest hz h.4 u.1 k a s h.0.on))))
-    (λ (s : side (line b.outer b.inner) z ≤ℤ pos 0). middle a (right_up p b.outer b.inner z h.0.up h.0.on h.0.over k s) s)))
+    (λ (s : pos 0 <ℤ side (line b.outer b.inner) z). inl
+    (inr (found_step z p b rest (after_top c z b rest hz h.4 u.1 k a s h.0.on))))
+    (λ (s : side (line b.outer b.inner) z ≤ℤ pos 0). middle a
+    (right_up p b.outer b.inner z h.0.up h.0.on h.0.over k s) s)))
   where
     later : (b.inner.x *ℤ z.n) <ℤ z.x → Split z b.outer b.inner rest → Split z q p (b ∷ rest)
     later a (inl f) = inl (inr (found_step z p b rest f))
-    later a (inr g) = inr ((λ (k : InColumn p b.inner z). absurd (let k_high = k.high in omega (arith, ints, k_high, a))), g)
+    later a (inr g) =
+        inr (
+          (λ (k : InColumn p b.inner z). absurd (let k_high = k.high in
+              omega (arith, ints, k_high, a))),
+          g,
+        )
 
     middle : z.x ≤ℤ (b.inner.x *ℤ z.n) → side (line p b.outer) z ≤ℤ pos 0
         → side (line b.outer b.inner) z ≤ℤ pos 0 → Split z q p (b ∷ rest)
     middle a s t = by_lt_z (side (line p b.inner) z) (pos 0)
         (λ (k : side (line p b.inner) z <ℤ pos 0). inr (under_all c z p b rest hz h.0 h.4 a k))
-        (λ (k : pos 0 ≤ℤ side (line p b.inner) z). inl (inr (inl (inl (triangle_up p b.outer b.inner z hz h.0.over k s t)))))
+        (λ (k : pos 0 ≤ℤ side (line p b.inner) z). inl
+        (inr (inl (inl (triangle_up p b.outer b.inner z hz h.0.over k s t)))))

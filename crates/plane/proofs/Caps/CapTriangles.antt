@@ -21,7 +21,9 @@ side-mean e i p j q k r =
     ap (λ (v : Vector). side e v) (sym (mean-mix i p j q k r))
     ∙ side-mix e (pos 1) (mix i p j q) k r
     ∙ ap (λ (v : ℤ). (pos 1 *ℤ v) +ℤ (k *ℤ side e r)) (side-mix e i p j q)
-    ∙ ring (plus (times (num (pos 1)) (plus (times (at 0) (at 1)) (times (at 2) (at 3)))) (times (at 4) (at 5))) (plus (plus (times (at 0) (at 1)) (times (at 2) (at 3))) (times (at 4) (at 5)))
+    ∙ ring (plus (times (num (pos 1)) (plus (times (at 0) (at 1)) (times (at 2) (at 3))))
+    (times (at 4) (at 5)))
+    (plus (plus (times (at 0) (at 1)) (times (at 2) (at 3))) (times (at 4) (at 5)))
     (vars (i ∷ side e p ∷ j ∷ side e q ∷ k ∷ side e r ∷ [])) refl
 
 mean_place : (z : Vector) (p q r : Point) (t : InTriangle z (point p) (point q) (point r))
@@ -37,7 +39,8 @@ triangle_least e z p q r hz t a b c =
     let v = product_nonnegative t.j (side e (point q)) t.j_least b in
     let w = product_nonnegative t.k (side e (point r)) t.k_least c in
     let f = side-mean e t.i (point p) t.j (point q) t.k (point r) in
-    let g = product_nonnegative z.n (side e m) (omega (arith, ints, hz)) (omega (arith, ints, f, u, v, w)) in
+    let g = product_nonnegative z.n (side e m) (omega (arith, ints, hz))
+    (omega (arith, ints, f, u, v, w)) in
     let k = side_same e z m t.is in
     cancel_least m.n (side e z) (mean_place z p q r t) (omega (arith, ints, g, k))
 
@@ -64,14 +67,23 @@ triangle_low l z p q r hz t a b c =
     let v = product_nonnegative t.j (q.x -ℤ l) t.j_least (omega (arith, ints, b)) in
     let w = product_nonnegative t.k (r.x -ℤ l) t.k_least (omega (arith, ints, c)) in
     let one = num (pos 1) in
-    let f = ring (plus (plus (times (at 0) (minus (at 3) (at 6))) (times (at 1) (minus (at 4) (at 6)))) (times (at 2) (minus (at 5) (at 6))))
-    (minus (plus (plus (times (at 0) (at 3)) (times (at 1) (at 4))) (times (at 2) (at 5))) (times (at 6) (plus (plus (times (at 0) one) (times (at 1) one)) (times (at 2) one))))
+    let f = ring
+    (plus (plus (times (at 0) (minus (at 3) (at 6))) (times (at 1) (minus (at 4) (at 6))))
+    (times (at 2) (minus (at 5) (at 6))))
+    (minus (plus (plus (times (at 0) (at 3)) (times (at 1) (at 4))) (times (at 2) (at 5)))
+    (times (at 6) (plus (plus (times (at 0) one) (times (at 1) one)) (times (at 2) one))))
     (vars (t.i ∷ t.j ∷ t.k ∷ p.x ∷ q.x ∷ r.x ∷ l ∷ [])) refl in
-    let g = product_nonnegative z.n (m.x -ℤ (l *ℤ m.n)) (omega (arith, ints, hz)) (omega (arith, ints, f, u, v, w)) in
+    let g = product_nonnegative z.n (m.x -ℤ (l *ℤ m.n)) (omega (arith, ints, hz))
+    (omega (arith, ints, f, u, v, w)) in
     let k = t.is.x in
-    let i = ring (times (at 1) (minus (at 0) (times (at 2) (at 3)))) (minus (times (at 0) (at 1)) (times (times (at 1) (at 2)) (at 3))) (vars (z.x ∷ m.n ∷ l ∷ z.n ∷ [])) refl in
-    let j = ring (times (at 3) (minus (at 0) (times (at 2) (at 1)))) (minus (times (at 0) (at 3)) (times (times (at 1) (at 2)) (at 3))) (vars (m.x ∷ m.n ∷ l ∷ z.n ∷ [])) refl in
-    let n = cancel_least m.n (z.x -ℤ (l *ℤ z.n)) (mean_place z p q r t) (omega (arith, ints, g, k, i, j)) in
+    let i = ring (times (at 1) (minus (at 0) (times (at 2) (at 3))))
+    (minus (times (at 0) (at 1)) (times (times (at 1) (at 2)) (at 3)))
+    (vars (z.x ∷ m.n ∷ l ∷ z.n ∷ [])) refl in
+    let j = ring (times (at 3) (minus (at 0) (times (at 2) (at 1))))
+    (minus (times (at 0) (at 3)) (times (times (at 1) (at 2)) (at 3)))
+    (vars (m.x ∷ m.n ∷ l ∷ z.n ∷ [])) refl in
+    let n = cancel_least m.n (z.x -ℤ (l *ℤ z.n)) (mean_place z p q r t)
+    (omega (arith, ints, g, k, i, j)) in
     omega (arith, ints, n)
 
 pub triangle_high : (l : ℤ) (z : Vector) (p q r : Point) → Place z
@@ -83,14 +95,23 @@ triangle_high l z p q r hz t a b c =
     let v = product_nonnegative t.j (l -ℤ q.x) t.j_least (omega (arith, ints, b)) in
     let w = product_nonnegative t.k (l -ℤ r.x) t.k_least (omega (arith, ints, c)) in
     let one = num (pos 1) in
-    let f = ring (plus (plus (times (at 0) (minus (at 6) (at 3))) (times (at 1) (minus (at 6) (at 4)))) (times (at 2) (minus (at 6) (at 5))))
-    (minus (times (at 6) (plus (plus (times (at 0) one) (times (at 1) one)) (times (at 2) one))) (plus (plus (times (at 0) (at 3)) (times (at 1) (at 4))) (times (at 2) (at 5))))
+    let f = ring
+    (plus (plus (times (at 0) (minus (at 6) (at 3))) (times (at 1) (minus (at 6) (at 4))))
+    (times (at 2) (minus (at 6) (at 5))))
+    (minus (times (at 6) (plus (plus (times (at 0) one) (times (at 1) one)) (times (at 2) one)))
+    (plus (plus (times (at 0) (at 3)) (times (at 1) (at 4))) (times (at 2) (at 5))))
     (vars (t.i ∷ t.j ∷ t.k ∷ p.x ∷ q.x ∷ r.x ∷ l ∷ [])) refl in
-    let g = product_nonnegative z.n ((l *ℤ m.n) -ℤ m.x) (omega (arith, ints, hz)) (omega (arith, ints, f, u, v, w)) in
+    let g = product_nonnegative z.n ((l *ℤ m.n) -ℤ m.x) (omega (arith, ints, hz))
+    (omega (arith, ints, f, u, v, w)) in
     let k = t.is.x in
-    let i = ring (times (at 1) (minus (times (at 2) (at 3)) (at 0))) (minus (times (times (at 1) (at 2)) (at 3)) (times (at 0) (at 1))) (vars (z.x ∷ m.n ∷ l ∷ z.n ∷ [])) refl in
-    let j = ring (times (at 3) (minus (times (at 2) (at 1)) (at 0))) (minus (times (times (at 1) (at 2)) (at 3)) (times (at 0) (at 3))) (vars (m.x ∷ m.n ∷ l ∷ z.n ∷ [])) refl in
-    let n = cancel_least m.n ((l *ℤ z.n) -ℤ z.x) (mean_place z p q r t) (omega (arith, ints, g, k, i, j)) in
+    let i = ring (times (at 1) (minus (times (at 2) (at 3)) (at 0)))
+    (minus (times (times (at 1) (at 2)) (at 3)) (times (at 0) (at 1)))
+    (vars (z.x ∷ m.n ∷ l ∷ z.n ∷ [])) refl in
+    let j = ring (times (at 3) (minus (times (at 2) (at 1)) (at 0)))
+    (minus (times (times (at 1) (at 2)) (at 3)) (times (at 0) (at 3)))
+    (vars (m.x ∷ m.n ∷ l ∷ z.n ∷ [])) refl in
+    let n = cancel_least m.n ((l *ℤ z.n) -ℤ z.x) (mean_place z p q r t)
+    (omega (arith, ints, g, k, i, j)) in
     omega (arith, ints, n)
 
 -- ---- three points seen from each side
@@ -98,31 +119,45 @@ pub side-turned : (a b c : Point) → side (line b c) (point a) ≡ side (line a
 unfolding side
 side-turned a b c =
     let one = num (pos 1) in
-    ring (SIDE (at 2) (at 3) (at 4) (at 5) (at 0) (at 1) one) (SIDE (at 0) (at 1) (at 2) (at 3) (at 4) (at 5) one) (vars (a.x ∷ a.y ∷ b.x ∷ b.y ∷ c.x ∷ c.y ∷ [])) refl
+    ring (SIDE (at 2) (at 3) (at 4) (at 5) (at 0) (at 1) one)
+    (SIDE (at 0) (at 1) (at 2) (at 3) (at 4) (at 5) one)
+    (vars (a.x ∷ a.y ∷ b.x ∷ b.y ∷ c.x ∷ c.y ∷ [])) refl
 
 pub side-swapped : (a b c : Point) → side (line a c) (point b) ≡ pos 0 -ℤ side (line a b) (point c)
 unfolding side
 side-swapped a b c =
     let one = num (pos 1) in
-    ring (SIDE (at 0) (at 1) (at 4) (at 5) (at 2) (at 3) one) (minus (num (pos 0)) (SIDE (at 0) (at 1) (at 2) (at 3) (at 4) (at 5) one)) (vars (a.x ∷ a.y ∷ b.x ∷ b.y ∷ c.x ∷ c.y ∷ [])) refl
+    ring (SIDE (at 0) (at 1) (at 4) (at 5) (at 2) (at 3) one)
+    (minus (num (pos 0)) (SIDE (at 0) (at 1) (at 2) (at 3) (at 4) (at 5) one))
+    (vars (a.x ∷ a.y ∷ b.x ∷ b.y ∷ c.x ∷ c.y ∷ [])) refl
 
 -- ---- two lines with one end
 fan-low : (m a b : Point) (z : Vector)
-    → (b.x -ℤ m.x) *ℤ side (line m a) z ≡ ((a.x -ℤ m.x) *ℤ side (line m b) z) +ℤ (side (line m a) (point b) *ℤ (z.x -ℤ (m.x *ℤ z.n)))
+    → (b.x -ℤ m.x) *ℤ side (line m a) z
+    ≡ ((a.x -ℤ m.x) *ℤ side (line m b) z)
+    +ℤ (side (line m a) (point b) *ℤ (z.x -ℤ (m.x *ℤ z.n)))
 unfolding side
 fan-low m a b z =
-    let MX = at 0 in let MY = at 1 in let AX = at 2 in let AY = at 3 in let BX = at 4 in let BY = at 5 in
+    let MX = at 0 in
+    let MY = at 1 in let AX = at 2 in let AY = at 3 in let BX = at 4 in let BY = at 5 in
     let X = at 6 in let Y = at 7 in let N = at 8 in
-    ring (times (minus BX MX) (SIDE MX MY AX AY X Y N)) (plus (times (minus AX MX) (SIDE MX MY BX BY X Y N)) (times (SIDE MX MY AX AY BX BY (num (pos 1))) (minus X (times MX N))))
+    ring (times (minus BX MX) (SIDE MX MY AX AY X Y N))
+    (plus (times (minus AX MX) (SIDE MX MY BX BY X Y N))
+    (times (SIDE MX MY AX AY BX BY (num (pos 1))) (minus X (times MX N))))
     (vars (m.x ∷ m.y ∷ a.x ∷ a.y ∷ b.x ∷ b.y ∷ z.x ∷ z.y ∷ z.n ∷ [])) refl
 
 fan-high : (m a b : Point) (z : Vector)
-    → (m.x -ℤ b.x) *ℤ side (line a m) z ≡ ((m.x -ℤ a.x) *ℤ side (line b m) z) +ℤ (side (line a m) (point b) *ℤ ((m.x *ℤ z.n) -ℤ z.x))
+    → (m.x -ℤ b.x) *ℤ side (line a m) z
+    ≡ ((m.x -ℤ a.x) *ℤ side (line b m) z)
+    +ℤ (side (line a m) (point b) *ℤ ((m.x *ℤ z.n) -ℤ z.x))
 unfolding side
 fan-high m a b z =
-    let MX = at 0 in let MY = at 1 in let AX = at 2 in let AY = at 3 in let BX = at 4 in let BY = at 5 in
+    let MX = at 0 in
+    let MY = at 1 in let AX = at 2 in let AY = at 3 in let BX = at 4 in let BY = at 5 in
     let X = at 6 in let Y = at 7 in let N = at 8 in
-    ring (times (minus MX BX) (SIDE AX AY MX MY X Y N)) (plus (times (minus MX AX) (SIDE BX BY MX MY X Y N)) (times (SIDE AX AY MX MY BX BY (num (pos 1))) (minus (times MX N) X)))
+    ring (times (minus MX BX) (SIDE AX AY MX MY X Y N))
+    (plus (times (minus MX AX) (SIDE BX BY MX MY X Y N))
+    (times (SIDE AX AY MX MY BX BY (num (pos 1))) (minus (times MX N) X)))
     (vars (m.x ∷ m.y ∷ a.x ∷ a.y ∷ b.x ∷ b.y ∷ z.x ∷ z.y ∷ z.n ∷ [])) refl
 
 pub fan_low_least : (m a b : Point) (z : Vector) → m.x <ℤ b.x → m.x ≤ℤ a.x
@@ -130,18 +165,22 @@ pub fan_low_least : (m a b : Point) (z : Vector) → m.x <ℤ b.x → m.x ≤ℤ
     → pos 0 ≤ℤ side (line m a) z
 fan_low_least m a b z hb ha d l k =
     let u = product_nonnegative (a.x -ℤ m.x) (side (line m b) z) (omega (arith, ints, ha)) k in
-    let v = product_nonnegative (side (line m a) (point b)) (z.x -ℤ (m.x *ℤ z.n)) d (omega (arith, ints, l)) in
+    let v = product_nonnegative (side (line m a) (point b)) (z.x -ℤ (m.x *ℤ z.n)) d
+    (omega (arith, ints, l)) in
     let e = fan-low m a b z in
-    cancel_least (b.x -ℤ m.x) (side (line m a) z) (omega (arith, ints, hb)) (omega (arith, ints, u, v, e))
+    cancel_least (b.x -ℤ m.x) (side (line m a) z) (omega (arith, ints, hb))
+    (omega (arith, ints, u, v, e))
 
 pub fan_high_least : (m a b : Point) (z : Vector) → b.x <ℤ m.x → a.x ≤ℤ m.x
     → pos 0 ≤ℤ side (line a m) (point b) → z.x ≤ℤ (m.x *ℤ z.n) → pos 0 ≤ℤ side (line b m) z
     → pos 0 ≤ℤ side (line a m) z
 fan_high_least m a b z hb ha d l k =
     let u = product_nonnegative (m.x -ℤ a.x) (side (line b m) z) (omega (arith, ints, ha)) k in
-    let v = product_nonnegative (side (line a m) (point b)) ((m.x *ℤ z.n) -ℤ z.x) d (omega (arith, ints, l)) in
+    let v = product_nonnegative (side (line a m) (point b)) ((m.x *ℤ z.n) -ℤ z.x) d
+    (omega (arith, ints, l)) in
     let e = fan-high m a b z in
-    cancel_least (m.x -ℤ b.x) (side (line a m) z) (omega (arith, ints, hb)) (omega (arith, ints, u, v, e))
+    cancel_least (m.x -ℤ b.x) (side (line a m) z) (omega (arith, ints, hb))
+    (omega (arith, ints, u, v, e))
 
 not_positive : (a b : ℤ) → a ≤ℤ pos 0 → pos 0 ≤ℤ b → (a *ℤ b) ≤ℤ pos 0
 not_positive a b h k =
@@ -154,15 +193,19 @@ pub fan_low_most : (m a b : Point) (z : Vector) → m.x <ℤ b.x → m.x ≤ℤ 
     → side (line m a) z ≤ℤ pos 0
 fan_low_most m a b z hb ha d l k =
     let u = times_most (a.x -ℤ m.x) (side (line m b) z) (omega (arith, ints, ha)) k in
-    let v = not_positive (side (line m a) (point b)) (z.x -ℤ (m.x *ℤ z.n)) d (omega (arith, ints, l)) in
+    let v = not_positive (side (line m a) (point b)) (z.x -ℤ (m.x *ℤ z.n)) d
+    (omega (arith, ints, l)) in
     let e = fan-low m a b z in
-    cancel_most (b.x -ℤ m.x) (side (line m a) z) (omega (arith, ints, hb)) (omega (arith, ints, u, v, e))
+    cancel_most (b.x -ℤ m.x) (side (line m a) z) (omega (arith, ints, hb))
+    (omega (arith, ints, u, v, e))
 
 pub fan_high_most : (m a b : Point) (z : Vector) → b.x <ℤ m.x → a.x ≤ℤ m.x
     → side (line a m) (point b) ≤ℤ pos 0 → z.x ≤ℤ (m.x *ℤ z.n) → side (line b m) z ≤ℤ pos 0
     → side (line a m) z ≤ℤ pos 0
 fan_high_most m a b z hb ha d l k =
     let u = times_most (m.x -ℤ a.x) (side (line b m) z) (omega (arith, ints, ha)) k in
-    let v = not_positive (side (line a m) (point b)) ((m.x *ℤ z.n) -ℤ z.x) d (omega (arith, ints, l)) in
+    let v = not_positive (side (line a m) (point b)) ((m.x *ℤ z.n) -ℤ z.x) d
+    (omega (arith, ints, l)) in
     let e = fan-high m a b z in
-    cancel_most (m.x -ℤ b.x) (side (line a m) z) (omega (arith, ints, hb)) (omega (arith, ints, u, v, e))
+    cancel_most (m.x -ℤ b.x) (side (line a m) z) (omega (arith, ints, hb))
+    (omega (arith, ints, u, v, e))

@@ -19,52 +19,75 @@ use Rattle.plane.proofs.Linear.Clear.{vector_eq}
 -- ---- the ends of the chord
 pub along-from : (h : HalfArc) → along h (point h.from) ≡ pos 0
 unfolding along
-along-from h = ring (plus (times (at 0) (minus (at 2) (times (at 2) (num (pos 1))))) (times (at 1) (minus (at 3) (times (at 3) (num (pos 1)))))) (num (pos 0)) (vars (wide h ∷ tall h ∷ h.from.x ∷ h.from.y ∷ [])) refl
+along-from h =
+    ring (plus (times (at 0) (minus (at 2) (times (at 2) (num (pos 1)))))
+    (times (at 1) (minus (at 3) (times (at 3) (num (pos 1)))))) (num (pos 0))
+    (vars (wide h ∷ tall h ∷ h.from.x ∷ h.from.y ∷ [])) refl
 
 pub along-to : (h : HalfArc) → along h (point h.to) ≡ chord h
 unfolding along chord
 along-to h =
     let W = minus (at 2) (at 0) in let T = minus (at 3) (at 1) in
-    ring (plus (times W (minus (at 2) (times (at 0) (num (pos 1))))) (times T (minus (at 3) (times (at 1) (num (pos 1)))))) (plus (times W W) (times T T)) (vars (h.from.x ∷ h.from.y ∷ h.to.x ∷ h.to.y ∷ [])) refl
+    ring (plus (times W (minus (at 2) (times (at 0) (num (pos 1)))))
+    (times T (minus (at 3) (times (at 1) (num (pos 1)))))) (plus (times W W) (times T T))
+    (vars (h.from.x ∷ h.from.y ∷ h.to.x ∷ h.to.y ∷ [])) refl
 
 pub bow-from : (h : HalfArc) → bow h (point h.from) ≡ pos 0
 unfolding bow
 bow-from h =
-    ring (minus (num (pos 0)) (times (at 4) (minus (times (at 0) (minus (at 3) (times (at 3) (num (pos 1))))) (times (at 1) (minus (at 2) (times (at 2) (num (pos 1)))))))) (num (pos 0))
+    ring (minus (num (pos 0))
+    (times (at 4)
+    (minus (times (at 0) (minus (at 3) (times (at 3) (num (pos 1)))))
+    (times (at 1) (minus (at 2) (times (at 2) (num (pos 1)))))))) (num (pos 0))
     (vars (wide h ∷ tall h ∷ h.from.x ∷ h.from.y ∷ bend h ∷ [])) refl
 
 pub bow-to : (h : HalfArc) → bow h (point h.to) ≡ pos 0
 unfolding bow
 bow-to h =
     let W = minus (at 2) (at 0) in let T = minus (at 3) (at 1) in
-    ring (minus (num (pos 0)) (times (at 4) (minus (times W (minus (at 3) (times (at 1) (num (pos 1))))) (times T (minus (at 2) (times (at 0) (num (pos 1)))))))) (num (pos 0))
+    ring (minus (num (pos 0))
+    (times (at 4)
+    (minus (times W (minus (at 3) (times (at 1) (num (pos 1)))))
+    (times T (minus (at 2) (times (at 0) (num (pos 1)))))))) (num (pos 0))
     (vars (h.from.x ∷ h.from.y ∷ h.to.x ∷ h.to.y ∷ bend h ∷ [])) refl
 
 -- ---- the side of a straight
 pub side-seen : (h : HalfArc) (p q z : Point)
-    → side (line (seen_point h p) (seen_point h q)) (point (seen_point h z)) ≡ chord h *ℤ outward h p q z
+    → side (line (seen_point h p) (seen_point h q)) (point (seen_point h z))
+    ≡ chord h *ℤ outward h p q z
 unfolding side along bow chord outward
 side-seen h p q z =
     let W = at 0 in let T = at 1 in let D = at 2 in let AX = at 3 in let AY = at 4 in
     let one = num (pos 1) in
     let zero = num (pos 0) in
-    let S : Expr → Expr → Expr = λ x y. plus (times W (minus x (times AX one))) (times T (minus y (times AY one))) in
-    let G : Expr → Expr → Expr = λ x y. minus zero (times D (minus (times W (minus y (times AY one))) (times T (minus x (times AX one))))) in
-    let PX = at 5 in let PY = at 6 in let QX = at 7 in let QY = at 8 in let X = at 9 in let Y = at 10 in
-    ring (minus (times (minus (S QX QY) (S PX PY)) (minus (G X Y) (times (G PX PY) one))) (times (minus (G QX QY) (G PX PY)) (minus (S X Y) (times (S PX PY) one))))
-    (times (plus (times W W) (times T T)) (minus zero (times D (minus (times (minus QX PX) (minus Y PY)) (times (minus QY PY) (minus X PX))))))
-    (vars (wide h ∷ tall h ∷ bend h ∷ h.from.x ∷ h.from.y ∷ p.x ∷ p.y ∷ q.x ∷ q.y ∷ z.x ∷ z.y ∷ [])) refl
+    let S : Expr → Expr
+    → Expr = λ x y. plus (times W (minus x (times AX one)))
+    (times T (minus y (times AY one))) in
+    let G : Expr → Expr
+    → Expr = λ x y. minus zero
+    (times D (minus (times W (minus y (times AY one))) (times T (minus x (times AX one))))) in
+    let PX = at 5 in
+    let PY = at 6 in let QX = at 7 in let QY = at 8 in let X = at 9 in let Y = at 10 in
+    ring (minus (times (minus (S QX QY) (S PX PY)) (minus (G X Y) (times (G PX PY) one)))
+    (times (minus (G QX QY) (G PX PY)) (minus (S X Y) (times (S PX PY) one))))
+    (times (plus (times W W) (times T T))
+    (minus zero (times D
+    (minus (times (minus QX PX) (minus Y PY)) (times (minus QY PY) (minus X PX))))))
+    (vars (wide h ∷ tall h ∷ bend h ∷ h.from.x ∷ h.from.y ∷ p.x ∷ p.y ∷ q.x ∷ q.y ∷ z.x ∷ z.y ∷ []))
+    refl
 
 -- ---- triangles
 pub mean-mix : (i : ℤ) (p : Vector) (j : ℤ) (q : Vector) (k : ℤ) (r : Vector)
     → mix (pos 1) (mix i p j q) k r ≡ mean i p j q k r
-mean-mix i p j q k r = vector_eq _ _ (one i p.x j q.x k r.x) (one i p.y j q.y k r.y) (one i p.n j q.n k r.n)
+mean-mix i p j q k r =
+    vector_eq _ _ (one i p.x j q.x k r.x) (one i p.y j q.y k r.y) (one i p.n j q.n k r.n)
   where
     one : (i x j y k z : ℤ)
         → (pos 1 *ℤ ((i *ℤ x) +ℤ (j *ℤ y))) +ℤ (k *ℤ z) ≡ ((i *ℤ x) +ℤ (j *ℤ y)) +ℤ (k *ℤ z)
     one i x j y k z =
         let m = plus (times (at 0) (at 1)) (times (at 2) (at 3)) in
-        ring (plus (times (num (pos 1)) m) (times (at 4) (at 5))) (plus m (times (at 4) (at 5))) (vars (i ∷ x ∷ j ∷ y ∷ k ∷ z ∷ [])) refl
+        ring (plus (times (num (pos 1)) m) (times (at 4) (at 5))) (plus m (times (at 4) (at 5)))
+        (vars (i ∷ x ∷ j ∷ y ∷ k ∷ z ∷ [])) refl
 
 seen-mean : (h : HalfArc) (i : ℤ) (p : Vector) (j : ℤ) (q : Vector) (k : ℤ) (r : Vector)
     → seen h (mean i p j q k r) ≡ mean i (seen h p) j (seen h q) k (seen h r)
@@ -84,7 +107,8 @@ triangle_seen h z p q r t = record {
   j_least = t.j_least;
   k_least = t.k_least;
   some = t.some;
-  is = subst (λ (v : Vector). Same (seen h z) v) (seen-mean h t.i p t.j q t.k r) (seen_same h z (mean t.i p t.j q t.k r) t.is);
+  is = subst (λ (v : Vector). Same (seen h z) v) (seen-mean h t.i p t.j q t.k r)
+      (seen_same h z (mean t.i p t.j q t.k r) t.is);
 }
 
 pub triangle_only : (h : HalfArc) (z p q r : Vector) → IsCap (cap h)
@@ -97,7 +121,8 @@ triangle_only h z p q r hc t = record {
   j_least = t.j_least;
   k_least = t.k_least;
   some = t.some;
-  is = seen_only h z (mean t.i p t.j q t.k r) hc (subst (λ (v : Vector). Same (seen h z) v) (sym (seen-mean h t.i p t.j q t.k r)) t.is);
+  is = seen_only h z (mean t.i p t.j q t.k r) hc
+      (subst (λ (v : Vector). Same (seen h z) v) (sym (seen-mean h t.i p t.j q t.k r)) t.is);
 }
 
 -- the tube on the picture
@@ -108,14 +133,16 @@ tube_only h v bs z hc (inl t) = inl (bays_only v bs t)
     bays_only : (v : Point) (bs : List Bay) → InBays (seen_point h v) (seen_bays h bs) (seen h z)
         → InBays v bs z
     bays_only v [] t = t
-    bays_only v (b ∷ rest) (inl t) = inl (triangle_only h z (point v) (point b.inner) (point b.outer) hc t)
+    bays_only v (b ∷ rest) (inl t) =
+        inl (triangle_only h z (point v) (point b.inner) (point b.outer) hc t)
     bays_only v (b ∷ rest) (inr t) = inr (bays_only b.inner rest t)
 tube_only h v bs z hc (inr t) = inr (gaps_only bs t)
   where
     gaps_only : (bs : List Bay) → InGaps (seen_bays h bs) (seen h z) → InGaps bs z
     gaps_only [] t = t
     gaps_only (b ∷ []) t = t
-    gaps_only (b ∷ (d ∷ rest)) (inl t) = inl (triangle_only h z (point b.inner) (point b.outer) (point d.outer) hc t)
+    gaps_only (b ∷ (d ∷ rest)) (inl t) =
+        inl (triangle_only h z (point b.inner) (point b.outer) (point d.outer) hc t)
     gaps_only (b ∷ (d ∷ rest)) (inr t) = inr (gaps_only (d ∷ rest) t)
 
 pub tube_seen : (h : HalfArc) (v : Point) (bs : List Bay) (z : Vector) → InTube v bs z
@@ -125,14 +152,16 @@ tube_seen h v bs z (inl t) = inl (bays_seen v bs t)
     bays_seen : (v : Point) (bs : List Bay) → InBays v bs z
         → InBays (seen_point h v) (seen_bays h bs) (seen h z)
     bays_seen v [] t = t
-    bays_seen v (b ∷ rest) (inl t) = inl (triangle_seen h z (point v) (point b.inner) (point b.outer) t)
+    bays_seen v (b ∷ rest) (inl t) =
+        inl (triangle_seen h z (point v) (point b.inner) (point b.outer) t)
     bays_seen v (b ∷ rest) (inr t) = inr (bays_seen b.inner rest t)
 tube_seen h v bs z (inr t) = inr (gaps_seen bs t)
   where
     gaps_seen : (bs : List Bay) → InGaps bs z → InGaps (seen_bays h bs) (seen h z)
     gaps_seen [] t = t
     gaps_seen (b ∷ []) t = t
-    gaps_seen (b ∷ (d ∷ rest)) (inl t) = inl (triangle_seen h z (point b.inner) (point b.outer) (point d.outer) t)
+    gaps_seen (b ∷ (d ∷ rest)) (inl t) =
+        inl (triangle_seen h z (point b.inner) (point b.outer) (point d.outer) t)
     gaps_seen (b ∷ (d ∷ rest)) (inr t) = inr (gaps_seen (d ∷ rest) t)
 
 -- ---- a triangle whose corners are over the circle's lower part
@@ -147,7 +176,9 @@ over_triangle c z p q r hc hz hp hq hr op oq or_ t =
     let one : pos 0 ≤ℤ pos 1 = omega (arith, ints) in
     let kl = t.k_least in
     let some : pos 0 <ℤ (pos 1 +ℤ t.k) = omega (arith, ints, kl) in
-    at_mix (mix (pos 1) m t.k r) (mean-mix t.i p t.j q t.k r) (mix_place (pos 1) m t.k r hm hr one kl some) (over_mix c (pos 1) m t.k r hc hm hr one kl some om or_))
+    at_mix (mix (pos 1) m t.k r) (mean-mix t.i p t.j q t.k r)
+    (mix_place (pos 1) m t.k r hm hr one kl some)
+    (over_mix c (pos 1) m t.k r hc hm hr one kl some om or_))
     (λ (k : (t.i +ℤ t.j) ≤ℤ pos 0).
     let il = t.i_least in
     let jl = t.j_least in
@@ -157,7 +188,8 @@ over_triangle c z p q r hc hz hp hq hr op oq or_ t =
     let some : pos 0 <ℤ (pos 0 +ℤ t.k) = omega (arith, ints, k, s) in
     let i0 : t.i ≡ pos 0 = omega (arith, ints, k, il, jl) in
     let j0 : t.j ≡ pos 0 = omega (arith, ints, k, il, jl) in
-    at_mix (mix (pos 0) p t.k r) (rest i0 j0) (mix_place (pos 0) p t.k r hp hr zero kl some) (over_mix c (pos 0) p t.k r hc hp hr zero kl some op or_))
+    at_mix (mix (pos 0) p t.k r) (rest i0 j0) (mix_place (pos 0) p t.k r hp hr zero kl some)
+    (over_mix c (pos 0) p t.k r hc hp hr zero kl some op or_))
   where
     at_mix : (m : Vector) → m ≡ mean t.i p t.j q t.k r → Place m → IsOver c m → IsOver c z
     at_mix m e hm om = over_same c z m hz hm (subst (λ (v : Vector). Same z v) (sym e) t.is) om
@@ -170,4 +202,5 @@ over_triangle c z p q r hc hz hp hq hr op oq or_ t =
         omega (arith, ints, u, v)
 
     rest : t.i ≡ pos 0 → t.j ≡ pos 0 → mix (pos 0) p t.k r ≡ mean t.i p t.j q t.k r
-    rest a b = vector_eq _ _ (one_rest p.x q.x r.x a b) (one_rest p.y q.y r.y a b) (one_rest p.n q.n r.n a b)
+    rest a b = vector_eq _ _ (one_rest p.x q.x r.x a b) (one_rest p.y q.y r.y a b)
+        (one_rest p.n q.n r.n a b)

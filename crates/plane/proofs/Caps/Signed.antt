@@ -1,4 +1,5 @@
--- Two places over the circle's lower part have one sign where the segment between them does not hit the half arc.
+-- Two places over the circle's lower part have one sign where the segment between them does not hit
+-- the half arc.
 use Rattle.std.proofs.Common.{◌≡◌, ℤ, pos, ◌+ℤ◌, ◌*ℤ◌, ◌-ℤ◌, ◌<ℤ◌, ◌≤ℤ◌, ◌⊎◌, inl, inr, [], ◌∷◌}
 use Rattle.std.proofs.Common.{refl, arith, subst, sym}
 use Rattle.std.proofs.lemmas.Int.{ints, by_lt_z}
@@ -14,10 +15,20 @@ use Rattle.plane.proofs.Caps.CapOver.{level-y, slab_mix}
 use Rattle.plane.proofs.Caps.Seen.{seen-mix, power_below, power_most}
 
 pub between_first : (p q : Vector) → Between p p q
-between_first p q = record { s = pos 1; t = pos 0; s_least = omega (arith, ints); t_least = omega (arith, ints); some = omega (arith, ints); is = record { x = one p.x p.n q.x q.n; y = one p.y p.n q.y q.n } }
+between_first p q = record {
+  s = pos 1;
+  t = pos 0;
+  s_least = omega (arith, ints);
+  t_least = omega (arith, ints);
+  some = omega (arith, ints);
+  is = record { x = one p.x p.n q.x q.n; y = one p.y p.n q.y q.n };
+}
   where
     one : (x n u m : ℤ) → x *ℤ ((pos 1 *ℤ n) +ℤ (pos 0 *ℤ m)) ≡ ((pos 1 *ℤ x) +ℤ (pos 0 *ℤ u)) *ℤ n
-    one x n u m = ring (times (at 0) (plus (times (num (pos 1)) (at 1)) (times (num (pos 0)) (at 3)))) (times (plus (times (num (pos 1)) (at 0)) (times (num (pos 0)) (at 2))) (at 1)) (vars (x ∷ n ∷ u ∷ m ∷ [])) refl
+    one x n u m =
+        ring (times (at 0) (plus (times (num (pos 1)) (at 1)) (times (num (pos 0)) (at 3))))
+        (times (plus (times (num (pos 1)) (at 0)) (times (num (pos 0)) (at 2))) (at 1))
+        (vars (x ∷ n ∷ u ∷ m ∷ [])) refl
 
 pub hits_back : (h : HalfArc) (p q : Vector) → HitsArc h p q → HitsArc h q p
 hits_back h p q k = record {
@@ -54,8 +65,10 @@ crossing_hit h p q hc hp hq op oq a b =
     let sum : pos 0 <ℤ (bow h q +ℤ m) = omega (arith, ints, l, away) in
     let z = mix (bow h q) p m q in
     let e = seen-mix h (bow h q) p m q in
-    let zero : bow h z ≡ pos 0 = subst (λ (v : Vector). v.y ≡ pos 0) (sym e) (level-y (seen h p) (seen h q)) in
-    let slab : InSlab (cap h) (seen h z) = subst (λ (v : Vector). InSlab (cap h) v) (sym e) (slab_mix (cap h) (bow h q) (seen h p) m (seen h q) away m_least op.slab oq.slab) in
+    let zero : bow h z ≡ pos 0 = subst (λ (v : Vector). v.y ≡ pos 0) (sym e)
+    (level-y (seen h p) (seen h q)) in
+    let slab : InSlab (cap h) (seen h z) = subst (λ (v : Vector). InSlab (cap h) v) (sym e)
+    (slab_mix (cap h) (bow h q) (seen h p) m (seen h q) away m_least op.slab oq.slab) in
     record {
       u = z;
       v = q;
@@ -84,8 +97,11 @@ crossing_hit h p q hc hp hq op oq a b =
 pub sign_kept : (h : HalfArc) (p q : Vector) → IsCap (cap h) → Place p → Place q
     → IsOver (cap h) (seen h p) → IsOver (cap h) (seen h q) → (HitsArc h p q → ⊥) → SameSign h p q
 sign_kept h p q hc hp hq op oq miss =
-    let on : power h p ≤ℤ pos 0 → pos 0 ≤ℤ power h q → SameSign h p q = λ a b. absurd (miss (crossing_hit h p q hc hp hq op oq a b)) in
-    let back : power h q ≤ℤ pos 0 → pos 0 ≤ℤ power h p → SameSign h p q = λ a b. absurd (miss (hits_back h q p (crossing_hit h q p hc hq hp oq op a b))) in
+    let on : power h p ≤ℤ pos 0 → pos 0 ≤ℤ power h q
+    → SameSign h p q = λ a b. absurd (miss (crossing_hit h p q hc hp hq op oq a b)) in
+    let back : power h q ≤ℤ pos 0 → pos 0 ≤ℤ power h p
+    → SameSign h p q =
+    λ a b. absurd (miss (hits_back h q p (crossing_hit h q p hc hq hp oq op a b))) in
     by_lt_z (power h p) (pos 0)
     (λ (a : power h p <ℤ pos 0). by_lt_z (power h q) (pos 0)
     (λ (b : power h q <ℤ pos 0). inl (a, b))

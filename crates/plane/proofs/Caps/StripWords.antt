@@ -24,7 +24,10 @@ pub record IsDip (q p o : Point) : Type 0 where
   pub up : q.x <ℤ p.x
   pub under : side (line q o) (point p) <ℤ pos 0
 
--- from the inner corner p and the outer corner q before it on, the bays make a strip along the cap, up to its end
+-- from the inner corner p and the outer corner q before it on, the bays make a strip along the cap,
+-- up to its end
 abbrev pub IsCapStrip : Cap → Point → Point → List Bay → Type 0
 IsCapStrip c q p [] = (p.x ≡ c.chord) × (q.x <ℤ p.x) × IsFence c q p × (shape c (point p) ≤ℤ pos 0)
-IsCapStrip c q p (b ∷ rest) = IsArch p b × ((q ≡ p) ⊎ IsDip q p b.outer) × IsFence c q b.outer × (shape c (point p) ≤ℤ pos 0) × IsCapStrip c b.outer b.inner rest
+IsCapStrip c q p (b ∷ rest) =
+    IsArch p b × ((q ≡ p) ⊎ IsDip q p b.outer) × IsFence c q b.outer × (shape c (point p) ≤ℤ pos 0)
+    × IsCapStrip c b.outer b.inner rest

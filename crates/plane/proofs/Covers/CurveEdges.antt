@@ -1,4 +1,5 @@
--- A straight and the edge of its two ends have the same places, so edges are bad exactly where their straights meet badly.
+-- A straight and the edge of its two ends have the same places, so edges are bad exactly where
+-- their straights meet badly.
 use Rattle.std.proofs.Common.{◌≡◌, ◌↔◌, ◌⊎◌, inl, inr, sym, ◌∙◌, subst}
 use Rattle.plane.specs.declared.kinds.Point.{Point}
 use Rattle.plane.specs.declared.kinds.Curve.{Curve}
@@ -22,11 +23,14 @@ turned : (a b : Point) (z : Vector) → Place z → IsOnStraight (point a) (poin
 turned a b z Z on =
     let A = place_point a in
     let B = place_point b in
-    between_straight (point b) (point a) z B A Z (between_back z (point a) (point b) (straight_between (point a) (point b) z A B Z on))
+    between_straight (point b) (point a) z B A Z
+    (between_back z (point a) (point b) (straight_between (point a) (point b) z A B Z on))
 
 along : (a b p q : Point) (z : Vector) → a ≡ p → b ≡ q → IsOnStraight (point a) (point b) z
     → IsOnStraight (point p) (point q) z
-along a b p q z e f on = subst (λ (y : Point). IsOnStraight (point p) (point y) z) f (subst (λ (x : Point). IsOnStraight (point x) (point b) z) e on)
+along a b p q z e f on =
+    subst (λ (y : Point). IsOnStraight (point p) (point y) z) f
+    (subst (λ (x : Point). IsOnStraight (point x) (point b) z) e on)
 
 edge_on : (e : Edge) (c : Curve) (z : Vector) → IsEdgeOf e c → Place z → edges.OnStraight e z
     → IsOnStraight (point c.from) (point c.to) z
@@ -36,7 +40,8 @@ edge_on e c z (inr h) Z on = turned c.to c.from z Z (along e.low e.high c.to c.f
 pub on_edge : (e : Edge) (c : Curve) (z : Vector) → IsEdgeOf e c → Place z
     → IsOnStraight (point c.from) (point c.to) z → edges.OnStraight e z
 on_edge e c z (inl h) Z on = along c.from c.to e.low e.high z (sym h.0) (sym h.1) on
-on_edge e c z (inr h) Z on = along c.to c.from e.low e.high z (sym h.0) (sym h.1) (turned c.from c.to z Z on)
+on_edge e c z (inr h) Z on =
+    along c.to c.from e.low e.high z (sym h.0) (sym h.1) (turned c.from c.to z Z on)
 
 pub on_edge_is : (e : Edge) (c : Curve) (z : Vector) → IsEdgeOf e c → c.kind ≡ kind.Straight
     → Place z → edges.OnStraight e z ↔ IsOn c z
@@ -69,12 +74,20 @@ common_from s t c d z hs ht Z both =
     let (p, of_c, zp) = control_end c z both.0 in
     let (q, of_d, zq) = control_end d z both.1 in
     let e = one_point p q (same_trans (point p) z (point q) Z (same_sym z (point p) zp) zq) in
-    record { at = p; of_first = end_of_edge s c p hs of_c; of_second = end_of_edge t d p ht (subst (λ (r : Point). IsEndOf d r) (sym e) of_d); is = zp }
+    record {
+      at = p;
+      of_first = end_of_edge s c p hs of_c;
+      of_second = end_of_edge t d p ht (subst (λ (r : Point). IsEndOf d r) (sym e) of_d);
+      is = zp;
+    }
 
 -- a common end of two edges is a control point of both straights
 pub controls_from : (s t : Edge) (c d : Curve) (z : Vector) → IsEdgeOf s c → IsEdgeOf t d
     → edges.CommonEnd s t z → IsControl c z × IsControl d z
-controls_from s t c d z hs ht e = (control_of c e.at z e.is (edge_end s c e.at hs e.of_first), control_of d e.at z e.is (edge_end t d e.at ht e.of_second))
+controls_from s t c d z hs ht e = (
+  control_of c e.at z e.is (edge_end s c e.at hs e.of_first),
+  control_of d e.at z e.is (edge_end t d e.at ht e.of_second),
+)
 
 pub bad_edges_is : (s t : Edge) (c d : Curve) → IsEdgeOf s c → IsEdgeOf t d → c.kind ≡ kind.Straight
     → d.kind ≡ kind.Straight → edges.Bad s t ↔ StraightsMeet c d

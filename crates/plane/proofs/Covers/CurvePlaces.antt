@@ -23,7 +23,9 @@ no_kind k e f = subst IsBent (sym f ∙ e) tt
 
 on_kind_same : (k : CurveKind) (c : Curve) (z m : Vector) → Place z → Place m → Same z m
     → IsOnKind k c z → IsOnKind k c m
-on_kind_same kind.Straight c z m Z M h on = on_straight_same (point c.from) (point c.to) z m (place_point c.from) (place_point c.to) Z M (same_sym z m h) on
+on_kind_same kind.Straight c z m Z M h on =
+    on_straight_same (point c.from) (point c.to) z m (place_point c.from) (place_point c.to) Z M
+    (same_sym z m h) on
 on_kind_same kind.HalfArc c z m Z M h on = on_half_arc_same (arc c) z m Z M h on
 
 pub on_same : (c : Curve) (z m : Vector) → Place z → Place m → Same z m → IsOn c z → IsOn c m
@@ -33,12 +35,16 @@ on_same c = on_kind_same c.kind c
 hits_kind_same : (k : CurveKind) (c : Curve) (p q : Vector) → Place p → Place q → Same p q
     → HitsKind k c p q → IsOnKind k c q
 hits_kind_same kind.Straight c p q P Q h hit =
-    on_straight_same (point c.from) (point c.to) hit.z q (place_point c.from) (place_point c.to) hit.place Q (same_sym hit.z q (segment_same p q hit.z P Q hit.place h hit.of_segment)) hit.of_curve
+    on_straight_same (point c.from) (point c.to) hit.z q (place_point c.from)
+    (place_point c.to) hit.place Q
+    (same_sym hit.z q (segment_same p q hit.z P Q hit.place h hit.of_segment)) hit.of_curve
 hits_kind_same kind.HalfArc c p q P Q h hit =
     let u = segment_same p q hit.u P Q hit.u_place h hit.u_of_segment in
     let v = segment_same p q hit.v P Q hit.v_place h hit.v_of_segment in
     record {
-      circle = level (power (arc c) q) (not_outside_same (arc c) hit.u q hit.u_place Q u hit.u_not_outside) (not_inside_same (arc c) hit.v q hit.v_place Q v hit.v_not_inside);
+      circle = level (power (arc c) q)
+          (not_outside_same (arc c) hit.u q hit.u_place Q u hit.u_not_outside)
+          (not_inside_same (arc c) hit.v q hit.v_place Q v hit.v_not_inside);
       away = away_same (arc c) hit.u q hit.u_place Q u hit.u_away;
     }
 
@@ -47,7 +53,8 @@ hits_same c = hits_kind_same c.kind c
 
 hits_kind_alone : (k : CurveKind) (c : Curve) (z : Vector) → Place z → IsOnKind k c z
     → HitsKind k c z z
-hits_kind_alone kind.Straight c z Z on = record { z = z; place = Z; of_segment = first_on z z Z Z; of_curve = on }
+hits_kind_alone kind.Straight c z Z on =
+    record { z = z; place = Z; of_segment = first_on z z Z Z; of_curve = on }
 hits_kind_alone kind.HalfArc c z Z on =
     let e = on.circle in
     record {
@@ -64,17 +71,23 @@ hits_kind_alone kind.HalfArc c z Z on =
     }
 
 pub hits_alone : (c : Curve) (z : Vector) → Place z → Hits c z z ↔ IsOn c z
-hits_alone c z Z = ((λ h. hits_same c z z Z Z (same_refl z) h), (λ h. hits_kind_alone c.kind c z Z h))
+hits_alone c z Z =
+    ((λ h. hits_same c z z Z Z (same_refl z) h), (λ h. hits_kind_alone c.kind c z Z h))
 
 -- ---- control points
 from_kind : (k : CurveKind) (c : Curve) → IsOnKind k c (point c.from)
-from_kind kind.Straight c = first_on (point c.from) (point c.to) (place_point c.from) (place_point c.to)
+from_kind kind.Straight c =
+    first_on (point c.from) (point c.to) (place_point c.from) (place_point c.to)
 from_kind kind.HalfArc c = from_on (arc c)
 
 to_kind : (k : CurveKind) (c : Curve) → IsOnKind k c (point c.to)
-to_kind kind.Straight c = last_on (point c.from) (point c.to) (place_point c.from) (place_point c.to)
+to_kind kind.Straight c =
+    last_on (point c.from) (point c.to) (place_point c.from) (place_point c.to)
 to_kind kind.HalfArc c = to_on (arc c)
 
 pub control_on : (c : Curve) (z : Vector) → Place z → IsControl c z → IsOn c z
-control_on c z Z (inl h) = on_same c (point c.from) z (place_point c.from) Z (same_sym z (point c.from) h) (from_kind c.kind c)
-control_on c z Z (inr h) = on_same c (point c.to) z (place_point c.to) Z (same_sym z (point c.to) h) (to_kind c.kind c)
+control_on c z Z (inl h) =
+    on_same c (point c.from) z (place_point c.from) Z (same_sym z (point c.from) h)
+    (from_kind c.kind c)
+control_on c z Z (inr h) =
+    on_same c (point c.to) z (place_point c.to) Z (same_sym z (point c.to) h) (to_kind c.kind c)

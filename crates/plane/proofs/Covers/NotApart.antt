@@ -40,13 +40,17 @@ meet_not_apart c d m h = m.no_control (apart_controls c d h m.z m.place m.on_fir
 
 -- ---- an end on the other curve
 end_control : (c : Curve) (p : Point) → IsEndOf c p → IsControl c (point p)
-end_control c p (inl e) = inl (subst (λ (q : Point). Same (point p) (point q)) (sym e) (same_refl (point p)))
-end_control c p (inr e) = inr (subst (λ (q : Point). Same (point p) (point q)) (sym e) (same_refl (point p)))
+end_control c p (inl e) =
+    inl (subst (λ (q : Point). Same (point p) (point q)) (sym e) (same_refl (point p)))
+end_control c p (inr e) =
+    inr (subst (λ (q : Point). Same (point p) (point q)) (sym e) (same_refl (point p)))
 
 end_not_apart : (c d : Curve) → EndsOn c d → Apart c d → ⊥
 end_not_apart c d m h =
     let P = place_point m.at in
-    m.no_control (apart_controls c d h (point m.at) P (control_on c (point m.at) P (end_control c m.at m.of_first)) m.on_second).1
+    m.no_control
+    (apart_controls c d h (point m.at) P
+    (control_on c (point m.at) P (end_control c m.at m.of_first)) m.on_second).1
 
 ends_not_apart : (c d : Curve) → EndsOn c d ⊎ EndsOn d c → Apart c d → ⊥
 ends_not_apart c d (inl m) h = end_not_apart c d m h
@@ -55,16 +59,26 @@ ends_not_apart c d (inr m) h = end_not_apart d c m (apart_back c d h)
 -- ---- a trial crossing
 -- a mean of two sixteenths is a mean of the ends
 weighed : (a b k l m n s t : ℤ) → k +ℤ l ≡ pos 16 → m +ℤ n ≡ pos 16 → (z zn pn qn : ℤ)
-    → z *ℤ ((s *ℤ pos 16) +ℤ (t *ℤ pos 16)) ≡ ((s *ℤ ((k *ℤ a) +ℤ (l *ℤ b))) +ℤ (t *ℤ ((m *ℤ a) +ℤ (n *ℤ b)))) *ℤ zn
-    → z *ℤ ((((s *ℤ k) +ℤ (t *ℤ m)) *ℤ pos 1) +ℤ (((s *ℤ l) +ℤ (t *ℤ n)) *ℤ pos 1)) ≡ ((((s *ℤ k) +ℤ (t *ℤ m)) *ℤ a) +ℤ (((s *ℤ l) +ℤ (t *ℤ n)) *ℤ b)) *ℤ zn
+    → z *ℤ ((s *ℤ pos 16) +ℤ (t *ℤ pos 16))
+    ≡ ((s *ℤ ((k *ℤ a) +ℤ (l *ℤ b))) +ℤ (t *ℤ ((m *ℤ a) +ℤ (n *ℤ b)))) *ℤ zn
+    → z *ℤ ((((s *ℤ k) +ℤ (t *ℤ m)) *ℤ pos 1) +ℤ (((s *ℤ l) +ℤ (t *ℤ n)) *ℤ pos 1))
+    ≡ ((((s *ℤ k) +ℤ (t *ℤ m)) *ℤ a) +ℤ (((s *ℤ l) +ℤ (t *ℤ n)) *ℤ b)) *ℤ zn
 weighed a b k l m n s t kl mn z zn pn qn e =
     let E = vars (a ∷ b ∷ k ∷ l ∷ m ∷ n ∷ s ∷ t ∷ z ∷ zn ∷ []) in
     let one = num (pos 1) in
-    let i = ring (times (at 8) (plus (times (plus (times (at 6) (at 2)) (times (at 7) (at 4))) one) (times (plus (times (at 6) (at 3)) (times (at 7) (at 5))) one)))
-    (times (at 8) (plus (times (at 6) (plus (at 2) (at 3))) (times (at 7) (plus (at 4) (at 5))))) E refl in
-    let j = ring (times (plus (times (plus (times (at 6) (at 2)) (times (at 7) (at 4))) (at 0)) (times (plus (times (at 6) (at 3)) (times (at 7) (at 5))) (at 1))) (at 9))
-    (times (plus (times (at 6) (plus (times (at 2) (at 0)) (times (at 3) (at 1)))) (times (at 7) (plus (times (at 4) (at 0)) (times (at 5) (at 1))))) (at 9)) E refl in
-    i ∙ ap (λ (v : ℤ). z *ℤ ((s *ℤ v) +ℤ (t *ℤ (m +ℤ n)))) kl ∙ ap (λ (v : ℤ). z *ℤ ((s *ℤ pos 16) +ℤ (t *ℤ v))) mn ∙ e ∙ sym j
+    let i = ring
+    (times (at 8)
+    (plus (times (plus (times (at 6) (at 2)) (times (at 7) (at 4))) one)
+    (times (plus (times (at 6) (at 3)) (times (at 7) (at 5))) one)))
+    (times (at 8) (plus (times (at 6) (plus (at 2) (at 3))) (times (at 7) (plus (at 4) (at 5))))) E
+    refl in
+    let j = ring
+    (times (plus (times (plus (times (at 6) (at 2)) (times (at 7) (at 4))) (at 0))
+    (times (plus (times (at 6) (at 3)) (times (at 7) (at 5))) (at 1))) (at 9))
+    (times (plus (times (at 6) (plus (times (at 2) (at 0)) (times (at 3) (at 1))))
+    (times (at 7) (plus (times (at 4) (at 0)) (times (at 5) (at 1))))) (at 9)) E refl in
+    i ∙ ap (λ (v : ℤ). z *ℤ ((s *ℤ v) +ℤ (t *ℤ (m +ℤ n)))) kl
+    ∙ ap (λ (v : ℤ). z *ℤ ((s *ℤ pos 16) +ℤ (t *ℤ v))) mn ∙ e ∙ sym j
 
 sixteenths : (k : ℕ) → k < 16
     → (pos (16 - k) +ℤ pos k ≡ pos 16) × (pos (16 - (k + 1)) +ℤ pos (k + 1) ≡ pos 16)
@@ -82,15 +96,19 @@ on_sixteenths c k h z Z on =
     let u1 = product_nonnegative b.t (pos (16 - (k + 1))) b.t_least (least (16 - (k + 1))) in
     let v0 = product_nonnegative b.s (pos k) b.s_least (least k) in
     let v1 = product_nonnegative b.t (pos (k + 1)) b.t_least (least (k + 1)) in
-    between_straight (point c.from) (point c.to) z (place_point c.from) (place_point c.to) Z (record {
+    between_straight (point c.from) (point c.to) z (place_point c.from) (place_point c.to) Z
+    (record {
       s = (b.s *ℤ pos (16 - k)) +ℤ (b.t *ℤ pos (16 - (k + 1)));
       t = (b.s *ℤ pos k) +ℤ (b.t *ℤ pos (k + 1));
       s_least = both _ _ u0 u1;
       t_least = both _ _ v0 v1;
-      some = some b.s b.t (pos (16 - k)) (pos k) (pos (16 - (k + 1))) (pos (k + 1)) sums.0 sums.1 b.some;
+      some = some b.s b.t (pos (16 - k)) (pos k) (pos (16 - (k + 1)))
+          (pos (k + 1)) sums.0 sums.1 b.some;
       is = record {
-        x = weighed c.from.x c.to.x (pos (16 - k)) (pos k) (pos (16 - (k + 1))) (pos (k + 1)) b.s b.t sums.0 sums.1 z.x z.n (pos 16) (pos 16) b.is.x;
-        y = weighed c.from.y c.to.y (pos (16 - k)) (pos k) (pos (16 - (k + 1))) (pos (k + 1)) b.s b.t sums.0 sums.1 z.y z.n (pos 16) (pos 16) b.is.y;
+        x = weighed c.from.x c.to.x (pos (16 - k)) (pos k) (pos (16 - (k + 1)))
+            (pos (k + 1)) b.s b.t sums.0 sums.1 z.x z.n (pos 16) (pos 16) b.is.x;
+        y = weighed c.from.y c.to.y (pos (16 - k)) (pos k) (pos (16 - (k + 1)))
+            (pos (k + 1)) b.s b.t sums.0 sums.1 z.y z.n (pos 16) (pos 16) b.is.y;
       };
     })
   where
@@ -103,7 +121,11 @@ on_sixteenths c k h z Z on =
     some : (s t k l m n : ℤ) → k +ℤ l ≡ pos 16 → m +ℤ n ≡ pos 16 → pos 0 <ℤ (s +ℤ t)
         → pos 0 <ℤ (((s *ℤ k) +ℤ (t *ℤ m)) +ℤ ((s *ℤ l) +ℤ (t *ℤ n)))
     some s t k l m n kl mn h =
-        let i = ring (plus (plus (times (at 0) (at 2)) (times (at 1) (at 4))) (plus (times (at 0) (at 3)) (times (at 1) (at 5)))) (plus (times (at 0) (plus (at 2) (at 3))) (times (at 1) (plus (at 4) (at 5)))) (vars (s ∷ t ∷ k ∷ l ∷ m ∷ n ∷ [])) refl in
+        let i = ring
+        (plus (plus (times (at 0) (at 2)) (times (at 1) (at 4)))
+        (plus (times (at 0) (at 3)) (times (at 1) (at 5))))
+        (plus (times (at 0) (plus (at 2) (at 3))) (times (at 1) (plus (at 4) (at 5))))
+        (vars (s ∷ t ∷ k ∷ l ∷ m ∷ n ∷ [])) refl in
         let j = ap (λ (v : ℤ). s *ℤ v) kl in
         let g = ap (λ (v : ℤ). t *ℤ v) mn in
         omega (arith, ints, i, j, g, h)
@@ -143,7 +165,8 @@ control_end c z (inl h) = (c.from, inl refl, h)
 control_end c z (inr h) = (c.to, inr refl, h)
 
 pub one_point : (p q : Point) → Same (point p) (point q) → p ≡ q
-one_point p q h = let x = h.x in let y = h.y in point_eq p q (omega (arith, ints, x)) (omega (arith, ints, y))
+one_point p q h =
+    let x = h.x in let y = h.y in point_eq p q (omega (arith, ints, x)) (omega (arith, ints, y))
 
 no_common_control : (c d : Curve) → HaveNoCommonEnd c d → (z : Vector) → Place z
     → IsControl c z × IsControl d z → ⊥
@@ -159,10 +182,13 @@ trial_not_apart c d t h =
     let q = sixteenth c (t.k + 1) in
     let P : Place p = omega (arith, ints) in
     let Q : Place q = omega (arith, ints) in
-    let hit : Hits d p q = subst (λ (k : CurveKind). HitsKind k d p q) (sym t.half_arc) (trial_hits (arc d) p q P Q t.crossing) in
+    let hit : Hits d p q = subst (λ (k : CurveKind). HitsKind k d p q) (sym t.half_arc)
+    (trial_hits (arc d) p q P Q t.crossing) in
     let (z, Z, of_segment, in_second) = h.second_covers p q P Q hit in
-    let on : IsOn c z = subst (λ (k : CurveKind). IsOnKind k c z) (sym t.straight) (on_sixteenths c t.k t.within z Z of_segment) in
-    no_common_control c d t.no_common z Z (h.apart z Z (covered_place h.first c h.first_covers z Z on) in_second)
+    let on : IsOn c z = subst (λ (k : CurveKind). IsOnKind k c z) (sym t.straight)
+    (on_sixteenths c t.k t.within z Z of_segment) in
+    no_common_control c d t.no_common z Z
+    (h.apart z Z (covered_place h.first c h.first_covers z Z on) in_second)
 
 -- ---- one arc twice
 summit_on_other : (c d : Curve) → AreOneArc c d → IsOnHalfArc (arc d) (summit (arc c))
@@ -170,28 +196,48 @@ summit_on_other c d a =
     let z = summit (arc c) in
     let k = through (arc c) d.third in
     let bent = a.has_side.circle.bent in
-    let on : IsOnHalfArc k z = record { circle = other_circle (arc c) d.third bent a.on_circle; away = other_bow (arc c) d.third a.one_side } in
+    let on : IsOnHalfArc k z = record {
+      circle = other_circle (arc c) d.third bent a.on_circle;
+      away = other_bow (arc c) d.third a.one_side;
+    } in
     elim a.same_ends [
-      | inl e ↦ subst (λ (q : Point). IsOnHalfArc (record { from = d.from; to = q; third = d.third }) z) e.1 (subst (λ (p : Point). IsOnHalfArc (record { from = p; to = c.to; third = d.third }) z) e.0 on)
+      | inl e ↦ subst
+          (λ (q : Point). IsOnHalfArc (record { from = d.from; to = q; third = d.third }) z) e.1
+          (subst (λ (p : Point). IsOnHalfArc (record { from = p; to = c.to; third = d.third }) z)
+          e.0 on)
       | inr e ↦
-          let turned : IsOnHalfArc (back k) z = record { circle = power-back k z ∙ on.circle; away = subst (λ (v : ℤ). pos 0 ≤ℤ v) (sym (bow-back k z)) on.away } in
-          subst (λ (q : Point). IsOnHalfArc (record { from = d.from; to = q; third = d.third }) z) e.0 (subst (λ (p : Point). IsOnHalfArc (record { from = p; to = c.from; third = d.third }) z) e.1 turned)
+          let turned : IsOnHalfArc (back k) z = record {
+            circle = power-back k z ∙ on.circle;
+            away = subst (λ (v : ℤ). pos 0 ≤ℤ v) (sym (bow-back k z)) on.away;
+          } in
+          subst (λ (q : Point). IsOnHalfArc (record { from = d.from; to = q; third = d.third }) z)
+          e.0 (subst (λ (p : Point). IsOnHalfArc (record {
+            from = p;
+            to = c.from;
+            third = d.third;
+          }) z) e.1 turned)
     ]
 
 flat : (z zn b : ℤ) → pos 1 *ℤ z ≡ zn *ℤ b → b ≡ pos 0 → pos 0 <ℤ z → ⊥
 flat z zn b e f h = let k = ap (λ (v : ℤ). zn *ℤ v) f in omega (arith, ints, e, k, h)
 
 summit_no_control : (c : Curve) → (bend (arc c) ≡ pos 0 → ⊥) → IsControl c (summit (arc c)) → ⊥
-summit_no_control c n (inl h) = flat _ _ _ (bow_same (arc c) (summit (arc c)) (point c.from) h) (from-bow (arc c)) (summit_high (arc c) n)
-summit_no_control c n (inr h) = flat _ _ _ (bow_same (arc c) (summit (arc c)) (point c.to) h) (to-bow (arc c)) (summit_high (arc c) n)
+summit_no_control c n (inl h) =
+    flat _ _ _ (bow_same (arc c) (summit (arc c)) (point c.from) h) (from-bow (arc c))
+    (summit_high (arc c) n)
+summit_no_control c n (inr h) =
+    flat _ _ _ (bow_same (arc c) (summit (arc c)) (point c.to) h) (to-bow (arc c))
+    (summit_high (arc c) n)
 
 arc_not_apart : (c d : Curve) → AreOneArc c d → Apart c d → ⊥
 arc_not_apart c d a h =
     let z = summit (arc c) in
     let bent = a.has_side.circle.bent in
     let Z = summit_place (arc c) bent in
-    let on_c : IsOn c z = subst (λ (k : CurveKind). IsOnKind k c z) (sym a.first) (summit_on (arc c) bent) in
-    let on_d : IsOn d z = subst (λ (k : CurveKind). IsOnKind k d z) (sym a.second) (summit_on_other c d a) in
+    let on_c : IsOn c z = subst (λ (k : CurveKind). IsOnKind k c z) (sym a.first)
+    (summit_on (arc c) bent) in
+    let on_d : IsOn d z = subst (λ (k : CurveKind). IsOnKind k d z) (sym a.second)
+    (summit_on_other c d a) in
     summit_no_control c bent (apart_controls c d h z Z on_c on_d).0
 
 pub bad_not_apart : (c d : Curve) → AreBad c d → Apart c d → ⊥

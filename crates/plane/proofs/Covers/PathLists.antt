@@ -16,10 +16,20 @@ record Route (d : Plan) (p q : Vector) : Type 0 where
   clear : Neighbours (IsClear d) (p ∷ rest)
 
 route : (d : Plan) (p q : Vector) → Place p → Path d p q → Route d p q
-route d _ _ P (ends p q h off) = record { rest = []; arrives = h; places = ((P, off), tt); clear = (tt, tt) }
+route d _ _ P (ends p q h off) = record {
+  rest = [];
+  arrives = h;
+  places = ((P, off), tt);
+  clear = (tt, tt);
+}
 route d _ _ P (goes p q s off Q miss path) =
     let r = route d q s Q path in
-    record { rest = q ∷ r.rest; arrives = r.arrives; places = ((P, off), r.places); clear = (miss, r.clear) }
+    record {
+      rest = q ∷ r.rest;
+      arrives = r.arrives;
+      places = ((P, off), r.places);
+      clear = (miss, r.clear);
+    }
 
 path_on : (d : Plan) (q p : Vector) (rest : List Vector) → Last (λ z. Same z q) (p ∷ rest)
     → Each (λ z. Place z × IsOff d z) (p ∷ rest) → Neighbours (IsClear d) (p ∷ rest) → Path d p q
@@ -38,7 +48,14 @@ joined_path d p q P h =
 pub joined_is_path : (d : Plan) (p q : Vector) → Place p → Joined d p q ↔ Path d p q
 joined_is_path d p q P = (
   (λ h. joined_path d p q P h),
-  (λ h. let r = route d p q P h in record { first = p; rest = r.rest; begins = same_refl p; ends = r.arrives; places = r.places; clear = r.clear }),
+  (λ h. let r = route d p q P h in record {
+    first = p;
+    rest = r.rest;
+    begins = same_refl p;
+    ends = r.arrives;
+    places = r.places;
+    clear = r.clear;
+  }),
 )
 
 pub outer_is_path : (d : Plan) (p : Vector) → Place p

@@ -1,4 +1,5 @@
--- Half arcs with the same two control points on one side of one circle: each has the other's summit on it.
+-- Half arcs with the same two control points on one side of one circle: each has the other's summit
+-- on it.
 use Rattle.std.proofs.Common.{◌≡◌, ℤ, pos, ◌*ℤ◌, ◌-ℤ◌, ◌<ℤ◌, ◌≤ℤ◌, [], ◌∷◌, refl, arith, ap, sym}
 use Rattle.std.proofs.Common.{◌∙◌}
 use Rattle.std.proofs.lemmas.Int.{ints}
@@ -15,7 +16,8 @@ use Rattle.plane.proofs.Covers.OneArc.{summit-chord, same_form}
 
 zero_factor : (d f : ℤ) → (d ≡ pos 0 → ⊥) → d *ℤ f ≡ pos 0 → f ≡ pos 0
 zero_factor d f n e =
-    let i = ring (times (times (at 0) (at 0)) (at 1)) (times (at 0) (times (at 0) (at 1))) (vars (d ∷ f ∷ [])) refl in
+    let i = ring (times (times (at 0) (at 0)) (at 1)) (times (at 0) (times (at 0) (at 1)))
+    (vars (d ∷ f ∷ [])) refl in
     cancel_zero (d *ℤ d) f (square_positive d n) (i ∙ product_of_zero d (d *ℤ f) e)
 
 -- the same two control points with another third point
@@ -26,11 +28,15 @@ one : (u f : ℤ) → u -ℤ (f *ℤ pos 1) ≡ u -ℤ f
 one u f = omega (arith, ints)
 
 point_form : (h : HalfArc) (u : Point)
-    → form_at (wide h) (tall h) (third_x h) (third_y h) (off_x h (point u)) (off_y h (point u)) (pos 1)
-    ≡ form_at (wide h) (tall h) (third_x h) (third_y h) (third_x (through h u)) (third_y (through h u)) (pos 1)
+    → form_at (wide h) (tall h) (third_x h) (third_y h) (off_x h (point u)) (off_y h (point u))
+    (pos 1)
+    ≡ form_at (wide h) (tall h) (third_x h) (third_y h) (third_x (through h u))
+    (third_y (through h u)) (pos 1)
 point_form h u =
-    ap (λ (x : ℤ). form_at (wide h) (tall h) (third_x h) (third_y h) x (off_y h (point u)) (pos 1)) (one u.x h.from.x)
-    ∙ ap (λ (y : ℤ). form_at (wide h) (tall h) (third_x h) (third_y h) (third_x (through h u)) y (pos 1)) (one u.y h.from.y)
+    ap (λ (x : ℤ). form_at (wide h) (tall h) (third_x h) (third_y h) x (off_y h (point u)) (pos 1))
+    (one u.x h.from.x)
+    ∙ ap (λ (y : ℤ). form_at (wide h) (tall h) (third_x h) (third_y h) (third_x (through h u)) y
+    (pos 1)) (one u.y h.from.y)
 
 pub other_circle : (h : HalfArc) (u : Point) → (bend h ≡ pos 0 → ⊥) → power h (point u) ≡ pos 0
     → power (through h u) (summit h) ≡ pos 0
@@ -39,17 +45,22 @@ other_circle h u n on =
     let d = bend_at (wide h) (tall h) (third_x h) (third_y h) in
     let g = bend_at (wide k) (tall k) (third_x k) (third_y k) in
     let m = is_bent h n in
-    let zero : form_at (wide h) (tall h) (third_x h) (third_y h) (third_x k) (third_y k) (pos 1) ≡ pos 0 =
+    let zero : form_at (wide h) (tall h) (third_x h) (third_y h) (third_x k) (third_y k) (pos 1)
+    ≡ pos 0 =
     sym (point_form h u) ∙ zero_factor d _ m (sym (power-form h (point u)) ∙ on) in
     let z = summit h in
-    let first : form_at (wide h) (tall h) (third_x h) (third_y h) (off_x h z) (off_y h z) z.n ≡ pos 0 = summit-form h (wide h) (tall h) (third_x h) (third_y h) ∙ on_form h in
-    let both = same_form (wide h) (tall h) (third_x h) (third_y h) (third_x k) (third_y k) (off_x h z) (off_y h z) z.n zero ∙ product_of_zero g _ first in
+    let first : form_at (wide h) (tall h) (third_x h) (third_y h) (off_x h z) (off_y h z) z.n
+    ≡ pos 0 = summit-form h (wide h) (tall h) (third_x h) (third_y h) ∙ on_form h in
+    let both = same_form (wide h) (tall h) (third_x h) (third_y h) (third_x k) (third_y k)
+    (off_x h z) (off_y h z) z.n zero ∙ product_of_zero g _ first in
     power-form k z ∙ product_of_zero g _ (zero_factor d _ m both)
 
 point_chord : (h : HalfArc) (u : Point)
-    → chord_at (wide h) (tall h) (off_x h (point u)) (off_y h (point u)) ≡ bend_at (wide h) (tall h) (third_x (through h u)) (third_y (through h u))
+    → chord_at (wide h) (tall h) (off_x h (point u)) (off_y h (point u))
+    ≡ bend_at (wide h) (tall h) (third_x (through h u)) (third_y (through h u))
 point_chord h u =
-    ap (λ (x : ℤ). chord_at (wide h) (tall h) x (off_y h (point u))) (one u.x h.from.x) ∙ ap (λ (y : ℤ). chord_at (wide h) (tall h) (third_x (through h u)) y) (one u.y h.from.y)
+    ap (λ (x : ℤ). chord_at (wide h) (tall h) x (off_y h (point u))) (one u.x h.from.x)
+    ∙ ap (λ (y : ℤ). chord_at (wide h) (tall h) (third_x (through h u)) y) (one u.y h.from.y)
 
 pub other_bow : (h : HalfArc) (u : Point) → bow h (point u) <ℤ pos 0
     → pos 0 ≤ℤ bow (through h u) (summit h)
@@ -60,9 +71,14 @@ other_bow h u side =
     let e = bow-form h (point u) ∙ ap (λ (v : ℤ). pos 0 -ℤ (d *ℤ v)) (point_chord h u) in
     let a = square_nonnegative (wide h) in
     let b = square_nonnegative (tall h) in
-    let p = product_nonnegative (broad h) (d *ℤ g) (omega (arith, ints, a, b)) (omega (arith, ints, e, side)) in
+    let p = product_nonnegative (broad h) (d *ℤ g) (omega (arith, ints, a, b))
+    (omega (arith, ints, e, side)) in
     let f = bow-form k (summit h) ∙ ap (λ (v : ℤ). pos 0 -ℤ (g *ℤ v)) (summit-chord h) in
-    let i = ring (minus (num (pos 0)) (times (at 1) (minus (num (pos 0)) (times (num (pos 2)) (times (at 2) (at 0)))))) (times (num (pos 2)) (times (at 2) (times (at 0) (at 1)))) (vars (d ∷ g ∷ broad h ∷ [])) refl in
+    let i = ring
+    (minus (num (pos 0))
+    (times (at 1) (minus (num (pos 0)) (times (num (pos 2)) (times (at 2) (at 0))))))
+    (times (num (pos 2)) (times (at 2) (times (at 0) (at 1))))
+    (vars (d ∷ g ∷ broad h ∷ [])) refl in
     omega (arith, ints, p, f, i)
 
 -- ---- a half arc from its other end
@@ -92,9 +108,13 @@ BOW fx fy tx ty =
 pub power-back : (h : HalfArc) (v : Vector) → power (back h) v ≡ power h v
 unfolding power bend circle_x circle_y
 power-back h v =
-    ring (WHOLE (at 2) (at 3) (at 0) (at 1)) (WHOLE (at 0) (at 1) (at 2) (at 3)) (vars (h.from.x ∷ h.from.y ∷ h.to.x ∷ h.to.y ∷ h.third.x ∷ h.third.y ∷ v.x ∷ v.y ∷ v.n ∷ [])) refl
+    ring (WHOLE (at 2) (at 3) (at 0) (at 1)) (WHOLE (at 0) (at 1) (at 2) (at 3))
+    (vars (h.from.x ∷ h.from.y ∷ h.to.x ∷ h.to.y ∷ h.third.x ∷ h.third.y ∷ v.x ∷ v.y ∷ v.n
+    ∷ [])) refl
 
 pub bow-back : (h : HalfArc) (v : Vector) → bow (back h) v ≡ bow h v
 unfolding bow bend
 bow-back h v =
-    ring (BOW (at 2) (at 3) (at 0) (at 1)) (BOW (at 0) (at 1) (at 2) (at 3)) (vars (h.from.x ∷ h.from.y ∷ h.to.x ∷ h.to.y ∷ h.third.x ∷ h.third.y ∷ v.x ∷ v.y ∷ v.n ∷ [])) refl
+    ring (BOW (at 2) (at 3) (at 0) (at 1)) (BOW (at 0) (at 1) (at 2) (at 3))
+    (vars (h.from.x ∷ h.from.y ∷ h.to.x ∷ h.to.y ∷ h.third.x ∷ h.third.y ∷ v.x ∷ v.y ∷ v.n
+    ∷ [])) refl

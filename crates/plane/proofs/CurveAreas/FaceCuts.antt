@@ -1,4 +1,5 @@
--- In a settled run with face numbers a curve has one face on both sides exactly where the numbers of its two sides are equal.
+-- In a settled run with face numbers a curve has one face on both sides exactly where the numbers
+-- of its two sides are equal.
 use Rattle.std.proofs.Common.{◌≡◌, ◌↔◌, ℕ, ◌<◌, length, List, [], ℤ, inl, inr, refl, sym, ◌∙◌}
 use Rattle.std.proofs.Common.{subst}
 use Rattle.plane.specs.declared.kinds.CurveKind.TheVariants as kind
@@ -21,7 +22,9 @@ use Rattle.plane.proofs.CurveAreas.CutCurves.{cut_with, cut_without, straight_eq
 use Rattle.plane.proofs.CurveAreas.CutCurves.{straight_is_cut, arc_is_cut}
 use Rattle.plane.proofs.CurveAreas.FaceLabels as as_labels
 
-module _ (d : Plan) (bays : ℕ → List Bay) (m : ℕ) (E : ℕ → Edge) (steps : List Step) (is : IsTubedRun d bays m E steps) (wide : AreWide d bays) (settled : IsSettledRun d bays m E) (v : ℤ) (face : Half → ℕ) (given : IsFaces (replay v m E steps) face) where
+module _ (d : Plan) (bays : ℕ → List Bay) (m : ℕ) (E : ℕ → Edge) (steps : List Step)
+    (is : IsTubedRun d bays m E steps) (wide : AreWide d bays) (settled : IsSettledRun d bays m E)
+    (v : ℤ) (face : Half → ℕ) (given : IsFaces (replay v m E steps) face) where
   abbrev full : Plan
   full = as_labels.full d bays m E steps is wide settled v face given
 
@@ -63,13 +66,22 @@ module _ (d : Plan) (bays : ℕ → List Bay) (m : ℕ) (E : ℕ → Edge) (step
   straight_cut_by_faces e l part =
       let s = of_straight e l part in
       let i = (owned d bays e).curve in
-      let fits : i < length d.curves = subst (λ (n : ℕ). n < length d.curves) (sym s.number) s.fits in
-      let straight : (curve d i).kind ≡ kind.Straight = subst (λ (n : ℕ). (curve d n).kind ≡ kind.Straight) (sym s.number) s.straight in (
+      let fits : i < length d.curves = subst (λ (n : ℕ). n < length d.curves)
+      (sym s.number) s.fits in
+      let straight : (curve d i).kind ≡ kind.Straight = subst
+      (λ (n : ℕ). (curve d n).kind ≡ kind.Straight) (sym s.number) s.straight in (
         (λ c. as_labels.back d bays m E steps is wide settled v face given (over e) (under e) l l
-            (straight_equal u.weight full bays m E steps lab (half_within d bays E) inside outside full_run L i e fits straight l refl part (cut_without d extra i c))),
-        (λ k. cut_with d extra i (straight_is_cut u.weight full bays m E steps lab (half_within d bays E) inside outside full_run L num faces
-            (as_labels.fine d bays m E steps is wide settled v face given) (as_labels.none d bays m E steps is wide settled v face given) i e fits straight l refl part
-            (as_labels.forth d bays m E steps is wide settled v face given (over e) (under e) l l k))),
+            (straight_equal u.weight full bays m E steps lab
+            (half_within d bays E) inside outside full_run L i e fits straight l refl part
+            (cut_without d extra i c))),
+        (λ k. cut_with d extra i
+            (straight_is_cut u.weight full bays m E steps lab
+            (half_within d bays E) inside outside full_run L num faces
+            (as_labels.fine d bays m E steps is wide settled v face given)
+            (as_labels.none d bays m E steps is wide settled v face given) i e fits straight l
+            refl part
+            (as_labels.forth d bays m E steps is wide settled v face given (over e)
+            (under e) l l k))),
       )
 
   pub arc_cut_by_faces : (i : ℕ) → i < length d.curves → (curve d i).kind ≡ kind.HalfArc
@@ -77,7 +89,13 @@ module _ (d : Plan) (bays : ℕ → List Bay) (m : ℕ) (E : ℕ → Edge) (step
   arc_cut_by_faces i fits bent =
       let a = as_labels.same_inner d bays m E steps is wide settled v face given i in
       let b = as_labels.same_outer d bays m E steps is wide settled v face given i in (
-        (λ c. sym a ∙ arc_equal u.weight full bays m E steps lab (half_within d bays E) inside outside full_run L i fits bent (cut_without d extra i c) ∙ b),
-        (λ k. cut_with d extra i (arc_is_cut u.weight full bays m E steps lab (half_within d bays E) inside outside full_run L num faces
-            (as_labels.fine d bays m E steps is wide settled v face given) (as_labels.none d bays m E steps is wide settled v face given) i fits bent (a ∙ k ∙ sym b))),
+        (λ c. sym a ∙ arc_equal u.weight full bays m E steps lab
+            (half_within d bays E) inside outside full_run L i fits bent (cut_without d extra i c)
+            ∙ b),
+        (λ k. cut_with d extra i
+            (arc_is_cut u.weight full bays m E steps lab
+            (half_within d bays E) inside outside full_run L num faces
+            (as_labels.fine d bays m E steps is wide settled v face given)
+            (as_labels.none d bays m E steps is wide settled v face given) i fits bent (a ∙ k
+            ∙ sym b))),
       )

@@ -1,4 +1,5 @@
--- Points of a drawing with half arcs, by their labels: joined where the labels are equal, outer where the label is 0; and places that
+-- Points of a drawing with half arcs, by their labels: joined where the labels are equal, outer
+-- where the label is 0; and places that
 -- belong to no point.
 use Rattle.std.proofs.Common.{◌≡◌, ◌↔◌, ℕ, suc, ◌+◌, ◌<◌, ◌≤◌, length, List, [], ◌∷◌, ℤ, pos, ◌<ℤ◌}
 use Rattle.std.proofs.Common.{inl, inr, refl, arith, ap, sym, ◌∙◌, subst}
@@ -40,8 +41,10 @@ use Rattle.plane.proofs.CurveAreas.TubedFaces.{joined_without, outer_with, outer
 use Rattle.plane.proofs.TubePaths.WaysOut.{tube_label_of}
 
 -- ---- with a weight of the events and of the point
-module _ (w : ℤ) (d : Plan) (bays : ℕ → List Bay) (m : ℕ) (E : ℕ → Edge) (steps : List Step) (lab : Labels) (within : ℕ → Half) (inside outside : ℕ → ℕ)
-    (swept : WeighedRun w m E steps) (is : IsTubedRun d bays m E steps) (L : AreTubeLabels d bays (replay w m E steps) lab within inside outside) where
+module _ (w : ℤ) (d : Plan) (bays : ℕ → List Bay) (m : ℕ) (E : ℕ → Edge) (steps : List Step)
+    (lab : Labels) (within : ℕ → Half) (inside outside : ℕ → ℕ)
+    (swept : WeighedRun w m E steps) (is : IsTubedRun d bays m E steps)
+    (L : AreTubeLabels d bays (replay w m E steps) lab within inside outside) where
   abbrev r : Replay
   r = replay w m E steps
 
@@ -64,21 +67,39 @@ module _ (w : ℤ) (d : Plan) (bays : ℕ → List Bay) (m : ℕ) (E : ℕ → E
       → ((j : ℕ) → j < r.steps → Has (r.step j).at pts) → IsInRegion d r lab v l
       → HasLabel r lab T (point v) l
   of_region pts v l heavy known events p =
-      let q = located_point r whole.run whole.law pts v p.strip p.index heavy known events p.located in
+      let q = located_point r whole.run whole.law pts v p.strip p.index heavy known events
+      p.located in
       let e : label_of lab r (sector r (point v)) ≡ l = ap (label_of lab r) q.1 ∙ p.label in
-      inr ((λ c lc i. too_great (length d.points) (arc_at d c) l (sym (tube_label_of r whole lab L.matched T (MeetsArc d) all sides c lc (point v) (place_point v) q.0 i) ∙ e) p.region), q.0, sym e)
+      inr (
+        (λ c lc i. too_great (length d.points) (arc_at d c) l
+            (sym (tube_label_of r whole lab L.matched T (MeetsArc d) all sides c lc (point v)
+            (place_point v) q.0 i) ∙ e) p.region),
+        q.0,
+        sym e,
+      )
 
   of_tube : (v : Point) (l : ℕ) → IsInTube d bays inside outside v l → HasLabel r lab T (point v) l
   of_tube v l p =
-      let c = tube_of w d bays m E steps lab within inside outside swept is L p.number p.fits p.bent in
-      let there = (tube_places w d bays m E steps lab within inside outside swept is L c.0 c.1 (point v)).1 (subst (λ (n : ℕ). one.InTube (curve d n).from (bays n) (point v)) (sym c.2) p.holds) in
+      let c = tube_of w d bays m E steps lab within inside outside swept is L p.number p.fits
+      p.bent in
+      let there = (tube_places w d bays m E steps lab within inside outside swept is L c.0 c.1
+      (point v)).1
+      (subst (λ (n : ℕ). one.InTube (curve d n).from (bays n) (point v)) (sym c.2) p.holds) in
       inl (
         c.0,
         c.1,
         there,
         elim p.side [
-          | inl k ↦ inl (subst (λ (n : ℕ). power (arc (curve d n)) (point v) <ℤ pos 0) (sym c.2) k.0, sym k.1 ∙ ap inside (sym c.2))
-          | inr k ↦ inr (subst (λ (n : ℕ). pos 0 <ℤ power (arc (curve d n)) (point v)) (sym c.2) k.0, sym k.1 ∙ ap outside (sym c.2))
+          | inl k ↦ inl (
+            subst (λ (n : ℕ). power (arc (curve d n)) (point v) <ℤ pos 0) (sym c.2) k.0,
+            sym k.1
+                ∙ ap inside (sym c.2),
+          )
+          | inr k ↦ inr (
+            subst (λ (n : ℕ). pos 0 <ℤ power (arc (curve d n)) (point v)) (sym c.2) k.0,
+            sym k.1
+                ∙ ap outside (sym c.2),
+          )
         ],
       )
 
@@ -89,13 +110,24 @@ module _ (w : ℤ) (d : Plan) (bays : ℕ → List Bay) (m : ℕ) (E : ℕ → E
   region_label pts v l heavy known events (inr p) = of_tube v l p
 
 -- ---- with any weight in the replay
-module _ (v : ℤ) (d : Plan) (bays : ℕ → List Bay) (m : ℕ) (E : ℕ → Edge) (steps : List Step) (lab : Labels) (within : ℕ → Half) (inside outside : ℕ → ℕ)
-    (is : IsTubedRun d bays m E steps) (L : AreTubeLabels d bays (replay v m E steps) lab within inside outside) (face : Half → ℕ) (faces : IsFaces (replay v m E steps) face)
-    (fine : (g h : Half) → edge_of g < m → edge_of h < m → mark lab g ≡ mark lab h → face g ≡ face h) (none : (h : Half) → edge_of h < m → mark lab h ≡ 0 → face h ≡ 0) where
+module _ (v : ℤ) (d : Plan) (bays : ℕ → List Bay) (m : ℕ) (E : ℕ → Edge) (steps : List Step)
+    (lab : Labels) (within : ℕ → Half) (inside outside : ℕ → ℕ)
+    (is : IsTubedRun d bays m E steps)
+    (L : AreTubeLabels d bays (replay v m E steps) lab within inside outside) (face : Half → ℕ)
+    (faces : IsFaces (replay v m E steps) face)
+    (fine : (g h : Half) → edge_of g < m → edge_of h < m → mark lab g ≡ mark lab h
+    → face g ≡ face h) (none : (h : Half) → edge_of h < m → mark lab h ≡ 0 → face h ≡ 0) where
   region_to : (w : ℤ) (p : Point) (l : ℕ)
       → HasRegion d bays (replay v m E steps) lab inside outside p l
       → HasRegion d bays (replay w m E steps) lab inside outside p l
-  region_to w p l (inl c) = inl (record { strip = c.strip; index = c.index; located = located_to v w m E steps p c.strip c.index c.located; label = c.label; region = c.region })
+  region_to w p l (inl c) =
+      inl (record {
+        strip = c.strip;
+        index = c.index;
+        located = located_to v w m E steps p c.strip c.index c.located;
+        label = c.label;
+        region = c.region;
+      })
   region_to w p l (inr c) = inr c
 
   module _ (more : List Point) where
@@ -111,22 +143,31 @@ module _ (v : ℤ) (d : Plan) (bays : ℕ → List Bay) (m : ℕ) (E : ℕ → E
     pub label : (p : Point) (l : ℕ) → Has p more
         → HasRegion d bays (replay v m E steps) lab inside outside p l
         → HasLabel (replay u.weight m E steps) lab (tubes d bays within inside outside) (point p) l
-    label p l k h = region_label u.weight d bays m E steps lab within inside outside u.swept is here u.points p l u.heavy (u.known p k) (event_known m E steps more u) (region_to u.weight p l h)
+    label p l k h =
+        region_label u.weight d bays m E steps lab within inside outside u.swept is here u.points p
+        l u.heavy (u.known p k) (event_known m E steps more u) (region_to u.weight p l h)
 
     off : (p : Point) (l : ℕ) → Has p more
         → HasRegion d bays (replay v m E steps) lab inside outside p l → IsOff d (point p)
-    off p l k h = label_off u.weight d bays m E steps lab within inside outside u.swept is here (point p) (place_point p) l (label p l k h)
+    off p l k h =
+        label_off u.weight d bays m E steps lab within inside outside u.swept is here (point p)
+        (place_point p) l (label p l k h)
 
     joined_by : (p q : Point) (l k : ℕ) → Has p more → Has q more
         → HasRegion d bays (replay v m E steps) lab inside outside p l
         → HasRegion d bays (replay v m E steps) lab inside outside q k
         → Joined d (point p) (point q) ↔ (l ≡ k)
-    joined_by p q l k hp hq a b = joined_is_label u.weight d bays m E steps lab within inside outside u.swept is here face there fine none (point p) (point q) l k (place_point p) (place_point q) (off p l hp a) (label p l hp a) (label q k hq b)
+    joined_by p q l k hp hq a b =
+        joined_is_label u.weight d bays m E steps lab within inside outside u.swept is here face
+        there fine none (point p) (point q) l k (place_point p) (place_point q) (off p l hp a)
+        (label p l hp a) (label q k hq b)
 
     outer_by : (p : Point) (l : ℕ) → Has p more
         → HasRegion d bays (replay v m E steps) lab inside outside p l
         → IsOuter d (point p) ↔ (l ≡ 0)
-    outer_by p l hp a = outer_is_label u.weight d bays m E steps lab within inside outside u.swept is here face there fine none u.positive (point p) l (place_point p) (off p l hp a) (label p l hp a)
+    outer_by p l hp a =
+        outer_is_label u.weight d bays m E steps lab within inside outside u.swept is here face
+        there fine none u.positive (point p) l (place_point p) (off p l hp a) (label p l hp a)
 
   pub point_off : (p : Point) (l : ℕ) → HasRegion d bays (replay v m E steps) lab inside outside p l
       → IsOff d (point p)
@@ -143,9 +184,14 @@ module _ (v : ℤ) (d : Plan) (bays : ℕ → List Bay) (m : ℕ) (E : ℕ → E
   point_outer p l a = outer_by (p ∷ []) p l (inl refl) a
 
 -- ---- places that belong to no point, with labels numbered as if the drawing had the points ps
-module _ (w : ℤ) (d : Plan) (ps : List Placed) (bays : ℕ → List Bay) (m : ℕ) (E : ℕ → Edge) (steps : List Step) (lab : Labels) (within : ℕ → Half) (inside outside : ℕ → ℕ)
-    (swept : WeighedRun w m E steps) (is : IsTubedRun (record d { points = ps }) bays m E steps) (L : AreTubeLabels (record d { points = ps }) bays (replay w m E steps) lab within inside outside) (face : Half → ℕ) (faces : IsFaces (replay w m E steps) face)
-    (fine : (g h : Half) → edge_of g < m → edge_of h < m → mark lab g ≡ mark lab h → face g ≡ face h) (none : (h : Half) → edge_of h < m → mark lab h ≡ 0 → face h ≡ 0) where
+module _ (w : ℤ) (d : Plan) (ps : List Placed) (bays : ℕ → List Bay) (m : ℕ) (E : ℕ → Edge)
+    (steps : List Step) (lab : Labels) (within : ℕ → Half) (inside outside : ℕ → ℕ)
+    (swept : WeighedRun w m E steps) (is : IsTubedRun (record d { points = ps }) bays m E steps)
+    (L : AreTubeLabels (record d { points = ps }) bays
+    (replay w m E steps) lab within inside outside) (face : Half → ℕ)
+    (faces : IsFaces (replay w m E steps) face)
+    (fine : (g h : Half) → edge_of g < m → edge_of h < m → mark lab g ≡ mark lab h
+    → face g ≡ face h) (none : (h : Half) → edge_of h < m → mark lab h ≡ 0 → face h ≡ 0) where
   abbrev wide : Plan
   wide = record d { points = ps }
 
@@ -157,11 +203,23 @@ module _ (w : ℤ) (d : Plan) (ps : List Placed) (bays : ℕ → List Bay) (m : 
       → IsLost d z ↔ ((l ≡ 0 → ⊥) × ((j : ℕ) → j < length d.points → l ≡ k j → ⊥))
   lost_is heavy z l k Z free h points = (
     (λ lost. (
-      (λ e. lost.inner (outer_with d ps z ((outer_is_label w wide bays m E steps lab within inside outside swept is L face faces fine none heavy z l Z free h).1 e))),
-      (λ j n e. lost.alone j n (joined_with d ps z (point (object d j)) ((joined_is_label w wide bays m E steps lab within inside outside swept is L face faces fine none z (point (object d j)) l (k j) Z (place_point (object d j)) free h (points j n)).1 e))),
+      (λ e. lost.inner
+          (outer_with d ps z
+          ((outer_is_label w wide bays m E steps lab within inside outside swept is L face faces
+          fine none heavy z l Z free h).1 e))),
+      (λ j n e. lost.alone j n
+          (joined_with d ps z (point (object d j))
+          ((joined_is_label w wide bays m E steps lab within inside outside swept is L face faces
+          fine none z (point (object d j)) l (k j) Z (place_point (object d j)) free h
+          (points j n)).1 e))),
     )),
     (λ c. record {
-      inner = λ o. c.0 ((outer_is_label w wide bays m E steps lab within inside outside swept is L face faces fine none heavy z l Z free h).0 (outer_without d ps z o));
-      alone = λ j n path. c.1 j n ((joined_is_label w wide bays m E steps lab within inside outside swept is L face faces fine none z (point (object d j)) l (k j) Z (place_point (object d j)) free h (points j n)).0 (joined_without d ps z (point (object d j)) path));
+      inner = λ o. c.0
+          ((outer_is_label w wide bays m E steps lab within inside outside swept is L face faces
+          fine none heavy z l Z free h).0 (outer_without d ps z o));
+      alone = λ j n path. c.1 j n
+          ((joined_is_label w wide bays m E steps lab within inside outside swept is L face faces
+          fine none z (point (object d j)) l (k j) Z (place_point (object d j)) free h
+          (points j n)).0 (joined_without d ps z (point (object d j)) path));
     }),
   )

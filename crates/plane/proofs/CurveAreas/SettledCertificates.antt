@@ -1,4 +1,5 @@
--- The face numbers of a settled drawing with half arcs, with placed points, lack only links of a search to make a certificate.
+-- The face numbers of a settled drawing with half arcs, with placed points, lack only links of a
+-- search to make a certificate.
 use Rattle.std.proofs.Common.{◌≡◌, ℕ, ◌<◌, List, [], ℤ, sym, ◌∙◌}
 use Rattle.plane.specs.Forms.Vectors.{Edge}
 use Rattle.plane.specs.Rule.Plans.{Plan}
@@ -20,8 +21,11 @@ use Rattle.plane.proofs.Settling.RunFaces.{run_labels}
 use Rattle.plane.proofs.CurveAreas.SettledPlaces.{number_is}
 use Rattle.plane.proofs.CurveAreas.TubedCompleteness.{run_reached, run_certified}
 
-module _ (w : ℤ) (d : Plan) (bays : ℕ → List Bay) (m : ℕ) (E : ℕ → Edge) (steps : List Step) (face : Half → ℕ) (is : IsTubedRun d bays m E steps) (wide : AreWide d bays) (settled : IsSettledRun d bays m E)
-    (faces : IsFaces (replay w m E steps) face) (named : AreCertificateNumbers d bays m E face) where
+module _ (w : ℤ) (d : Plan) (bays : ℕ → List Bay) (m : ℕ) (E : ℕ → Edge) (steps : List Step)
+    (face : Half → ℕ) (is : IsTubedRun d bays m E steps) (wide : AreWide d bays)
+    (settled : IsSettledRun d bays m E)
+    (faces : IsFaces (replay w m E steps) face)
+    (named : AreCertificateNumbers d bays m E face) where
   abbrev r : Replay
   r = replay w m E steps
 
@@ -40,7 +44,9 @@ module _ (w : ℤ) (d : Plan) (bays : ℕ → List Bay) (m : ℕ) (E : ℕ → E
   L : AreTubeLabels d bays r lab within inside outside
   L =
       let u = run_weight m E steps [] is.run in
-      labels_to u.weight w d bays m E steps lab within inside outside (run_labels d bays m E steps is wide settled u.weight u.swept face (faces_to w u.weight m E steps face faces) named)
+      labels_to u.weight w d bays m E steps lab within inside outside
+      (run_labels d bays m E steps is wide settled u.weight u.swept face
+      (faces_to w u.weight m E steps face faces) named)
 
   fine : (g h : Half) → edge_of g < m → edge_of h < m → mark lab g ≡ mark lab h → face g ≡ face h
   fine g h lg lh e = sym (number_is face g) ∙ e ∙ number_is face h
@@ -50,12 +56,18 @@ module _ (w : ℤ) (d : Plan) (bays : ℕ → List Bay) (m : ℕ) (E : ℕ → E
 
   module _ (placed : ArePlaced d bays r lab inside outside) where
     pub reached : (Reached : Half → Type 0)
-        → ((h : Half) → edge_of h < m → IsCurveRoot d bays r lab within inside outside h → Reached h)
+        → ((h : Half) → edge_of h < m → IsCurveRoot d bays r lab within inside outside h
+        → Reached h)
         → ((g h : Half) → Reached g → Across r h g → Reached h) → (h : Half) → edge_of h < m
         → Reached h
-    reached Reached roots closed = run_reached d bays m E steps lab within inside outside is w L placed face faces fine none Reached roots closed
+    reached Reached roots closed =
+        run_reached d bays m E steps lab within inside outside is w L placed face faces fine none
+        Reached roots closed
 
     pub certified : (rank : Half → ℕ) (link : Half → Lead)
-        → ((h : Half) → edge_of h < m → FoundLead r rank (IsCurveRoot d bays r lab within inside outside) h (link h))
+        → ((h : Half) → edge_of h < m
+        → FoundLead r rank (IsCurveRoot d bays r lab within inside outside) h (link h))
         → CertifiedCurves d bays r lab within inside outside rank link
-    certified rank link found = run_certified d bays m E steps lab within inside outside is w L placed face faces fine none rank link found
+    certified rank link found =
+        run_certified d bays m E steps lab within inside outside is w L placed face faces fine none
+        rank link found

@@ -1,4 +1,5 @@
--- In a settled drawing with half arcs places are joined exactly where they have one face number, and outer exactly where it is 0; the
+-- In a settled drawing with half arcs places are joined exactly where they have one face number,
+-- and outer exactly where it is 0; the
 -- number of a place in a tube is that beside the tube on its side of the circle.
 use Rattle.std.proofs.Common.{◌≡◌, ◌↔◌, ℕ, ◌<◌, List, ℤ, pos, ◌<ℤ◌, refl, sym, ◌∙◌}
 use Rattle.plane.specs.declared.kinds.Placed.{Placed}
@@ -24,16 +25,24 @@ number_is face (under e) = refl
 number_is face (over e) = refl
 
 -- the numbers may be those of a certificate for other points
-module _ (w : ℤ) (d : Plan) (ps : List Placed) (bays : ℕ → List Bay) (m : ℕ) (E : ℕ → Edge) (steps : List Step) (face : Half → ℕ) (swept : WeighedRun w m E steps)
-    (is : IsTubedRun (record d { points = ps }) bays m E steps) (wide : AreWide (record d { points = ps }) bays) (settled : IsSettledRun (record d { points = ps }) bays m E) (faces : IsFaces (replay w m E steps) face)
+module _ (w : ℤ) (d : Plan) (ps : List Placed) (bays : ℕ → List Bay) (m : ℕ) (E : ℕ → Edge)
+    (steps : List Step) (face : Half → ℕ) (swept : WeighedRun w m E steps)
+    (is : IsTubedRun (record d { points = ps }) bays m E steps)
+    (wide : AreWide (record d { points = ps }) bays)
+    (settled : IsSettledRun (record d { points = ps }) bays m E)
+    (faces : IsFaces (replay w m E steps) face)
     (named : AreCertificateNumbers (record d { points = ps }) bays m E face) where
   abbrev other : Plan
   other = record d { points = ps }
 
   abbrev Numbered : Vector → ℕ → Type 0
-  Numbered z l = HasLabel (replay w m E steps) (numbers face) (tubes other bays (half_within other bays E) (beside_inner other bays E face) (beside_outer other bays E face)) z l
+  Numbered z l =
+      HasLabel (replay w m E steps) (numbers face)
+      (tubes other bays (half_within other bays E) (beside_inner other bays E face)
+      (beside_outer other bays E face)) z l
 
-  L : AreTubeLabels other bays (replay w m E steps) (numbers face) (half_within other bays E) (beside_inner other bays E face) (beside_outer other bays E face)
+  L : AreTubeLabels other bays (replay w m E steps) (numbers face) (half_within other bays E)
+      (beside_inner other bays E face) (beside_outer other bays E face)
   L = run_labels other bays m E steps is wide settled w swept face faces named
 
   fine : (g h : Half) → edge_of g < m → edge_of h < m
@@ -46,11 +55,15 @@ module _ (w : ℤ) (d : Plan) (ps : List Placed) (bays : ℕ → List Bay) (m : 
   pub joined_is_number : (p q : Vector) (l k : ℕ) → Place p → Place q → IsOff d p → Numbered p l
       → Numbered q k → Joined d p q ↔ (l ≡ k)
   joined_is_number p q l k P Q off hp hq =
-      let b = joined_is_label w other bays m E steps (numbers face) (half_within other bays E) (beside_inner other bays E face) (beside_outer other bays E face) swept is L face faces fine none p q l k P Q off hp hq in
+      let b = joined_is_label w other bays m E steps (numbers face) (half_within other bays E)
+      (beside_inner other bays E face)
+      (beside_outer other bays E face) swept is L face faces fine none p q l k P Q off hp hq in
       ((λ j. b.0 (joined_without d ps p q j)), (λ e. joined_with d ps p q (b.1 e)))
 
   pub outer_is_number : pos 0 <ℤ w → (p : Vector) (l : ℕ) → Place p → IsOff d p → Numbered p l
       → IsOuter d p ↔ (l ≡ 0)
   outer_is_number heavy p l P off hp =
-      let b = outer_is_label w other bays m E steps (numbers face) (half_within other bays E) (beside_inner other bays E face) (beside_outer other bays E face) swept is L face faces fine none heavy p l P off hp in
+      let b = outer_is_label w other bays m E steps (numbers face) (half_within other bays E)
+      (beside_inner other bays E face)
+      (beside_outer other bays E face) swept is L face faces fine none heavy p l P off hp in
       ((λ o. b.0 (outer_without d ps p o)), (λ e. outer_with d ps p (b.1 e)))

@@ -1,4 +1,5 @@
--- A certificate over a run with tubes proves the partition rule of a drawing of straights and half arcs, all five parts.
+-- A certificate over a run with tubes proves the partition rule of a drawing of straights and half
+-- arcs, all five parts.
 -- The weight in the replay may be any: the proof takes one of its own.
 use Rattle.std.proofs.Common.{◌≡◌, ℕ, suc, ◌+◌, ◌<◌, length, List, ℤ, pos, ◌<ℤ◌, ◌⊎◌, inl, inr}
 use Rattle.std.proofs.Common.{refl, arith, ap, sym, ◌∙◌, subst}
@@ -44,7 +45,8 @@ use Rattle.plane.proofs.TubePaths.WaysOut.{IsBeside, tube_label_of, way_out}
 use Rattle.plane.proofs.TubePaths.CurveFaces.{Root, place_filled}
 
 -- ---- the same with another weight
-module _ (v w : ℤ) (d : Plan) (bays : ℕ → List Bay) (m : ℕ) (E : ℕ → Edge) (steps : List Step) (lab : Labels) (within : ℕ → Half) (inside outside : ℕ → ℕ) where
+module _ (v w : ℤ) (d : Plan) (bays : ℕ → List Bay) (m : ℕ) (E : ℕ → Edge) (steps : List Step)
+    (lab : Labels) (within : ℕ → Half) (inside outside : ℕ → ℕ) where
   abbrev from : Replay
   from = replay v m E steps
 
@@ -52,7 +54,13 @@ module _ (v w : ℤ) (d : Plan) (bays : ℕ → List Bay) (m : ℕ) (E : ℕ →
   to = replay w m E steps
 
   abbrev in_cell_to : (p : Point) (n : ℕ) → IsInCell from lab p n → IsInCell to lab p n
-  in_cell_to p n c = record { strip = c.strip; index = c.index; placed = placed_to v w m E steps p c.strip c.index c.placed; lower_label = c.lower_label; upper_label = c.upper_label }
+  in_cell_to p n c = record {
+    strip = c.strip;
+    index = c.index;
+    placed = placed_to v w m E steps p c.strip c.index c.placed;
+    lower_label = c.lower_label;
+    upper_label = c.upper_label;
+  }
 
   pub places_to : ArePlaced d bays from lab inside outside → ArePlaced d bays to lab inside outside
   places_to a j l = elim (a j l) [ inl c ↦ inl (in_cell_to (object d j) (suc j) c) | inr c ↦ inr c ]
@@ -62,16 +70,36 @@ module _ (v w : ℤ) (d : Plan) (bays : ℕ → List Bay) (m : ℕ) (E : ℕ →
 
   side_to : (h : Half) (j : ℕ) → BoundsSide d bays from within inside outside h j
       → BoundsSide d bays to within inside outside h j
-  side_to h j b = record { place = b.place; edge = b.edge; fits = b.fits; of_curve = b.of_curve; side = b.side; is = b.is }
+  side_to h j b = record {
+    place = b.place;
+    edge = b.edge;
+    fits = b.fits;
+    of_curve = b.of_curve;
+    side = b.side;
+    is = b.is;
+  }
 
   pub root_to : (h : Half) → IsCurveRoot d bays from lab within inside outside h
       → IsCurveRoot d bays to lab within inside outside h
   root_to h (inl a) = inl a
   root_to h (inr (inl a)) = inr (inl (a.0, touches_to v w m E steps h a.1))
-  root_to h (inr (inr a)) = inr (inr (a.0, a.1, a.2, elim a.3 [ inl b ↦ inl (cell_to h a.0 b) | inr b ↦ inr (side_to h a.0 b) ]))
+  root_to h (inr (inr a)) =
+      inr (inr (
+        a.0,
+        a.1,
+        a.2,
+        elim a.3 [
+          | inl b ↦ inl (cell_to h a.0 b)
+          | inr b ↦ inr (side_to h a.0 b)
+        ],
+      ))
 
-module _ (v : ℤ) (d : Plan) (bays : ℕ → List Bay) (m : ℕ) (E : ℕ → Edge) (steps : List Step) (lab : Labels) (within : ℕ → Half) (inside outside : ℕ → ℕ) (rank : Half → ℕ) (link : Half → Lead)
-    (is : IsTubedRun d bays m E steps) (cert : CertifiedCurves d bays (replay v m E steps) lab within inside outside rank link) where
+module _ (v : ℤ) (d : Plan) (bays : ℕ → List Bay) (m : ℕ) (E : ℕ → Edge) (steps : List Step)
+    (lab : Labels) (within : ℕ → Half) (inside outside : ℕ → ℕ) (rank : Half → ℕ) (link : Half
+    → Lead)
+    (is : IsTubedRun d bays m E steps)
+    (cert : CertifiedCurves d bays (replay v m E steps) lab within inside outside rank
+    link) where
   u : RunWeight m E steps (points_of (object d) (length d.points))
   u = run_weight m E steps (points_of (object d) (length d.points)) is.run
 
@@ -115,29 +143,45 @@ module _ (v : ℤ) (d : Plan) (bays : ℕ → List Bay) (m : ℕ) (E : ℕ → E
   too_great : (n i j : ℕ) → suc (n + i) ≡ suc j → j < n → ⊥
   too_great n i j e l = omega (arith, e, l)
 
-  reach_cell : (j : ℕ) → j < length d.points → (g : Half) (p : IsInCell r lab (object d j) (suc j)) → Beside r g (record { strip = p.strip; index = p.index }) → Reached j g
+  reach_cell : (j : ℕ) → j < length d.points → (g : Half) (p : IsInCell r lab (object d j) (suc j))
+      → Beside r g (record { strip = p.strip; index = p.index }) → Reached j g
   reach_cell j l g p b =
-      let q = placed_point r whole.run whole.law u.points (object d j) p.strip p.index u.heavy (known j l) (event_known m E steps (points_of (object d) (length d.points)) u) p.placed in
-      let label : label_of lab r (sector r (spot j)) ≡ suc j = ap (label_of lab r) q.1 ∙ label_before lab 0 p.index (r.list p.strip) p.placed.lower p.placed.is_lower ∙ p.lower_label in (
+      let q = placed_point r whole.run whole.law u.points (object d j) p.strip p.index u.heavy
+      (known j l) (event_known m E steps (points_of (object d) (length d.points)) u) p.placed in
+      let label : label_of lab r (sector r (spot j)) ≡ suc j = ap (label_of lab r) q.1
+      ∙ label_before lab 0 p.index (r.list p.strip) p.placed.lower p.placed.is_lower
+      ∙ p.lower_label in (
         spot j,
         record {
           place = S j;
           off = q.0;
-          outside = λ c lc i. too_great (length d.points) (arc_at d c) j (sym (tube_label_of r whole lab L.matched T (MeetsArc d) all sides c lc (spot j) (S j) q.0 i) ∙ label) l;
+          outside = λ c lc i. too_great (length d.points) (arc_at d c) j
+              (sym (tube_label_of r whole lab L.matched T (MeetsArc d) all sides c lc (spot j)
+              (S j) q.0 i) ∙ label) l;
           beside = subst (λ (c : Sector). Beside r g c) (sym q.1) b;
           path = paths.ends (spot j) (spot j) refl;
         },
       )
 
-  reach_side : (j : ℕ) (g : Half) (p : IsInTube d bays inside outside (object d j) (suc j)) (s : Side)
+  reach_side : (j : ℕ) (g : Half) (p : IsInTube d bays inside outside (object d j) (suc j))
+      (s : Side)
       → ((c : ℕ) → arc_at d c ≡ p.number → IsOnSide T c s (spot j))
-      → (e : ℕ) → e < m → (owned d bays e).curve ≡ p.number → (owned d bays e).part ≡ part_of s → g ≡ twin (within e) → Reached j g
+      → (e : ℕ) → e < m → (owned d bays e).curve ≡ p.number → (owned d bays e).part ≡ part_of s
+      → g ≡ twin (within e) → Reached j g
   reach_side j g p s on e le own part name =
-      let c = tube_of w d bays m E steps lab within inside outside u.swept is L p.number p.fits p.bent in
-      let there = (tube_places w d bays m E steps lab within inside outside u.swept is L c.0 c.1 (spot j)).1 (subst (λ (n : ℕ). one.InTube (curve d n).from (bays n) (spot j)) (sym c.2) p.holds) in
-      let wall = part_wall w d bays m E steps lab within inside outside u.swept is L c.0 c.1 s e le (own ∙ sym c.2) part in
-      let o = way_out r whole lab L.matched T (MeetsArc d) all sides c.0 c.1 s (within e) wall (spot j) (S j) there (on c.0 c.2) in
-      (o.0, subst (λ (h : Half). IsBeside r whole lab L.matched T (MeetsArc d) all sides h (spot j) o.0) (sym name) o.1)
+      let c = tube_of w d bays m E steps lab within inside outside u.swept is L p.number p.fits
+      p.bent in
+      let there = (tube_places w d bays m E steps lab within inside outside u.swept is L c.0 c.1
+      (spot j)).1 (subst (λ (n : ℕ). one.InTube (curve d n).from (bays n) (spot j))
+      (sym c.2) p.holds) in
+      let wall = part_wall w d bays m E steps lab within inside outside u.swept is L c.0 c.1 s e le
+      (own ∙ sym c.2) part in
+      let o = way_out r whole lab L.matched T (MeetsArc d) all sides c.0 c.1 s (within e) wall
+      (spot j) (S j) there (on c.0 c.2) in (
+        o.0,
+        subst (λ (h : Half). IsBeside r whole lab L.matched T (MeetsArc d) all sides h
+            (spot j) o.0) (sym name) o.1,
+      )
 
   abbrev Bounds : ℕ → Half → Type 0
   Bounds j g = BoundsCell d r lab g j ⊎ BoundsSide d bays r within inside outside g j
@@ -145,8 +189,12 @@ module _ (v : ℤ) (d : Plan) (bays : ℕ → List Bay) (m : ℕ) (E : ℕ → E
   reach : (j : ℕ) → j < length d.points → (g : Half) → Bounds j g → Reached j g
   reach j l g (inl b) = reach_cell j l g b.place b.beside
   reach j l g (inr b) = elim b.side [
-    | inl k ↦ reach_side j g b.place inner_side (λ c n. subst (λ (i : ℕ). power (arc (curve d i)) (spot j) <ℤ pos 0) (sym n) k.1) b.edge b.fits b.of_curve k.0 b.is
-    | inr k ↦ reach_side j g b.place outer_side (λ c n. subst (λ (i : ℕ). pos 0 <ℤ power (arc (curve d i)) (spot j)) (sym n) k.1) b.edge b.fits b.of_curve k.0 b.is
+    | inl k ↦ reach_side j g b.place inner_side
+        (λ c n. subst (λ (i : ℕ). power (arc (curve d i)) (spot j) <ℤ pos 0) (sym n) k.1) b.edge
+        b.fits b.of_curve k.0 b.is
+    | inr k ↦ reach_side j g b.place outer_side
+        (λ c n. subst (λ (i : ℕ). pos 0 <ℤ power (arc (curve d i)) (spot j)) (sym n) k.1) b.edge
+        b.fits b.of_curve k.0 b.is
   ]
 
   abbrev TubeRoot : Half → Type 0
@@ -157,8 +205,10 @@ module _ (v : ℤ) (d : Plan) (bays : ℕ → List Bay) (m : ℕ) (E : ℕ → E
   tube_root h (inl a) = elim (owner_is d bays m E steps is a.0 a.1) [
     | inl s ↦ absurd (subst IsOfTube s.part a.2)
     | inr b ↦
-        let c = tube_of w d bays m E steps lab within inside outside u.swept is L b.index b.fits b.bent in
-        let k = edge_in_tube w d bays m E steps lab within inside outside u.swept is L c.0 c.1 a.0 a.1 (b.number ∙ sym c.2) in
+        let c = tube_of w d bays m E steps lab within inside outside u.swept is L b.index b.fits
+        b.bent in
+        let k = edge_in_tube w d bays m E steps lab within inside outside u.swept is L c.0 c.1 a.0
+        a.1 (b.number ∙ sym c.2) in
         inl (c.0, c.1, subst (λ (g : Half). Has g (T.halves c.0)) (sym a.3) k.0)
   ]
 
@@ -167,19 +217,31 @@ module _ (v : ℤ) (d : Plan) (bays : ℕ → List Bay) (m : ℕ) (E : ℕ → E
       → IsOuter d z ⊎ ((j : ℕ) × (j < length d.points) × Joined d z (spot j))
   filled z Z none =
       let h = off_label w d bays m E steps lab within inside outside u.swept is L z Z none in
-      elim (place_filled r whole lab L.matched T (MeetsArc d) all sides (length d.points) spot S Bounds u.positive reach rank link
-      (λ g l. link_to v w m E steps (mark lab) rank (IsCurveRoot d bays (replay v m E steps) lab within inside outside) TubeRoot
-      (λ k root. tube_root k (root_to v w d bays m E steps lab within inside outside k root)) g (link g) (cert.links g l)) z h.0 Z h.1) [
-        | inl o ↦ inl (curves_outer w d bays m E steps lab within inside outside u.swept is L z Z none o)
-        | inr o ↦ inr (o.0, o.1, curves_joined w d bays m E steps lab within inside outside u.swept is L z (spot o.0) Z none o.2)
+      elim (place_filled r whole lab L.matched T (MeetsArc d) all sides
+      (length d.points) spot S Bounds u.positive reach rank link
+      (λ g l. link_to v w m E steps (mark lab) rank
+      (IsCurveRoot d bays (replay v m E steps) lab within inside outside) TubeRoot
+      (λ k root. tube_root k (root_to v w d bays m E steps lab within inside outside k root)) g
+      (link g) (cert.links g l)) z h.0 Z h.1) [
+        | inl o ↦ inl
+            (curves_outer w d bays m E steps lab within inside outside u.swept is L z Z none o)
+        | inr o ↦ inr (
+          o.0,
+          o.1,
+          curves_joined w d bays m E steps lab within inside outside u.swept is L z
+              (spot o.0) Z none o.2,
+        )
       ]
 
   -- all five parts
   pub tubed_partition : IsPartition d
   tubed_partition = record {
     apart = curves_apart v d bays m E steps lab within inside outside is cert.labels;
-    off = points.off w u.points d bays m E steps lab within inside outside u.heavy u.events known u.swept is L placed;
-    bounded = points.bounded w u.points d bays m E steps lab within inside outside u.heavy u.events known u.swept is L placed;
-    alone = points.alone w u.points d bays m E steps lab within inside outside u.heavy u.events known u.swept is L placed;
+    off = points.off w u.points d bays m E steps lab within inside outside u.heavy u.events known
+        u.swept is L placed;
+    bounded = points.bounded w u.points d bays m E steps lab within inside outside u.heavy u.events
+        known u.swept is L placed;
+    alone = points.alone w u.points d bays m E steps lab within inside outside u.heavy u.events
+        known u.swept is L placed;
     filled = filled;
   }

@@ -1,4 +1,5 @@
--- Objects' points of a drawing with half arcs that are placed with their labels: on no curve, not outer, and no two joined.
+-- Objects' points of a drawing with half arcs that are placed with their labels: on no curve, not
+-- outer, and no two joined.
 use Rattle.std.proofs.Common.{◌≡◌, ◌⊎◌, ℕ, suc, ◌<◌, List, length, ℤ, inl, inr, arith, ◌∙◌}
 use Rattle.plane.specs.declared.kinds.Point.{Point}
 use Rattle.plane.specs.Lists.{Each, Has}
@@ -27,9 +28,12 @@ use Rattle.plane.proofs.TubedRuns.TubedLabels.{joined_label, outer_label}
 use Rattle.plane.proofs.TubedRuns.TubedOff.{label_off}
 
 -- The weight is one of the events and of the points.
-module _ (w : ℤ) (pts : List Point) (d : Plan) (bays : ℕ → List Bay) (m : ℕ) (E : ℕ → Edge) (steps : List Step) (lab : Labels) (within : ℕ → Half) (inside outside : ℕ → ℕ)
-    (heavy : Weight w pts) (events : Each (λ s. Has s.at pts) steps) (known : (j : ℕ) → j < length d.points → Has (object d j) pts)
-    (swept : WeighedRun w m E steps) (is : IsTubedRun d bays m E steps) (L : AreTubeLabels d bays (replay w m E steps) lab within inside outside)
+module _ (w : ℤ) (pts : List Point) (d : Plan) (bays : ℕ → List Bay) (m : ℕ) (E : ℕ → Edge)
+    (steps : List Step) (lab : Labels) (within : ℕ → Half) (inside outside : ℕ → ℕ)
+    (heavy : Weight w pts) (events : Each (λ s. Has s.at pts) steps) (known : (j : ℕ)
+    → j < length d.points → Has (object d j) pts)
+    (swept : WeighedRun w m E steps) (is : IsTubedRun d bays m E steps)
+    (L : AreTubeLabels d bays (replay w m E steps) lab within inside outside)
     (placed : ArePlaced d bays (replay w m E steps) lab inside outside) where
   abbrev r : Replay
   r = replay w m E steps
@@ -54,23 +58,33 @@ module _ (w : ℤ) (pts : List Point) (d : Plan) (bays : ℕ → List Bay) (m : 
     strip = c.strip;
     index = c.index;
     located = located r (object d j) c.strip c.index c.placed;
-    label = label_before lab 0 c.index (r.list c.strip) c.placed.lower c.placed.is_lower ∙ c.lower_label;
+    label = label_before lab 0 c.index (r.list c.strip) c.placed.lower c.placed.is_lower
+        ∙ c.lower_label;
     region = omega (arith, l);
   })
   region_of j l (inr c) = inr c
 
   pub point_label : (j : ℕ) → j < length d.points → HasLabel r lab T (spot j) (suc j)
-  point_label j l = region_label w d bays m E steps lab within inside outside swept is L pts (object d j) (suc j) heavy (known j l)
-      (λ k n. each_has (λ s. Has s.at pts) steps (r.step k) events (has_nth steps k n)) (region_of j l (placed j l))
+  point_label j l =
+      region_label w d bays m E steps lab within inside outside swept is L pts (object d j)
+      (suc j) heavy (known j l)
+      (λ k n. each_has (λ s. Has s.at pts) steps (r.step k) events (has_nth steps k n))
+      (region_of j l (placed j l))
 
   pub off : (j : ℕ) → j < length d.points → IsOff d (spot j)
-  off j l = label_off w d bays m E steps lab within inside outside swept is L (spot j) (place_point (object d j)) (suc j) (point_label j l)
+  off j l = label_off w d bays m E steps lab within inside outside swept is L (spot j)
+      (place_point (object d j)) (suc j) (point_label j l)
 
   pub bounded : (j : ℕ) → j < length d.points → IsOuter d (spot j) → ⊥
-  bounded j l o = let e = outer_label w d bays m E steps lab within inside outside swept is L (spot j) (suc j) (place_point (object d j)) o (point_label j l) in omega (arith, e)
+  bounded j l o =
+      let e = outer_label w d bays m E steps lab within inside outside swept is L (spot j) (suc j)
+      (place_point (object d j)) o (point_label j l) in
+      omega (arith, e)
 
   pub alone : (i j : ℕ) → i < length d.points → j < length d.points → (i ≡ j → ⊥)
       → Joined d (spot i) (spot j) → ⊥
   alone i j li lj n path =
-      let e = joined_label w d bays m E steps lab within inside outside swept is L (spot i) (spot j) (suc i) (suc j) (place_point (object d i)) (place_point (object d j)) path (point_label i li) (point_label j lj) in
+      let e = joined_label w d bays m E steps lab within inside outside swept is L (spot i) (spot j)
+      (suc i) (suc j) (place_point (object d i)) (place_point (object d j)) path
+      (point_label i li) (point_label j lj) in
       n (omega (arith, e))

@@ -28,6 +28,17 @@ crossing_tells r run law e p q l x =
     let c = crossed r run law e p q l x in
     let t = top r run law e p q l x in
     let b = bottom r run law e p q l x in
-    let T : Place t = near_place r run law e p q l x (high r run law e p q l x) (high_place r run law e p q l x) in
-    let B : Place b = near_place r run law e p q l x (low r run law e p q l x) (low_place r run law e p q l x) in
-    record { above = sector r t; below = sector r b; above_is = cell_is r run law t T; below_is = cell_is r run law b B; above_linked = c.0; above_beside = c.1; below_linked = c.2; below_beside = c.3 }
+    let T : Place t = near_place r run law e p q l x (high r run law e p q l x)
+    (high_place r run law e p q l x) in
+    let B : Place b = near_place r run law e p q l x (low r run law e p q l x)
+    (low_place r run law e p q l x) in
+    record {
+      above = sector r t;
+      below = sector r b;
+      above_is = cell_is r run law t T;
+      below_is = cell_is r run law b B;
+      above_linked = c.0;
+      above_beside = c.1;
+      below_linked = c.2;
+      below_beside = c.3;
+    }

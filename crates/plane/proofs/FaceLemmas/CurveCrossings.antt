@@ -1,4 +1,5 @@
--- A segment crosses a straight as seen from `from` to `to` exactly where it crosses its edge: in the same direction where the low end is
+-- A segment crosses a straight as seen from `from` to `to` exactly where it crosses its edge: in
+-- the same direction where the low end is
 -- `from`, with its ends exchanged where it is `to`.
 use Rattle.std.proofs.Common.{◌≡◌, ◌↔◌, ℕ, ◌<◌, ℤ, pos, ◌-ℤ◌, ◌<ℤ◌, [], ◌∷◌, length, refl, arith}
 use Rattle.std.proofs.Common.{ap, sym, ◌∙◌, subst}
@@ -22,17 +23,29 @@ use Rattle.plane.proofs.Linear.Straights.{straight_between, between_straight}
 turn-back : (a b : Point) (z : Vector)
     → turn (point b) (point a) z ≡ pos 0 -ℤ turn (point a) (point b) z
 turn-back a b z =
-    let AX = at 0 in let AY = at 1 in let BX = at 2 in let BY = at 3 in let X = at 4 in let Y = at 5 in let N = at 6 in
+    let AX = at 0 in
+    let AY = at 1 in
+    let BX = at 2 in let BY = at 3 in let X = at 4 in let Y = at 5 in let N = at 6 in
     let one = num (pos 1) in
     let D : Expr → Expr → Expr → Expr → Expr = λ a m b n. minus (times a n) (times b m) in
-    let TURN : Expr → Expr → Expr → Expr → Expr = λ ax ay bx by. minus (times (D bx one ax one) (D Y N ay one)) (times (D by one ay one) (D X N ax one)) in
-    ring (TURN BX BY AX AY) (minus (num (pos 0)) (TURN AX AY BX BY)) (vars (a.x ∷ a.y ∷ b.x ∷ b.y ∷ z.x ∷ z.y ∷ z.n ∷ [])) refl
+    let TURN : Expr → Expr → Expr → Expr
+    → Expr = λ ax ay bx by. minus (times (D bx one ax one) (D Y N ay one))
+    (times (D by one ay one) (D X N ax one)) in
+    ring (TURN BX BY AX AY) (minus (num (pos 0)) (TURN AX AY BX BY))
+    (vars (a.x ∷ a.y ∷ b.x ∷ b.y ∷ z.x ∷ z.y ∷ z.n ∷ [])) refl
 
 hits_back : (c : Curve) (p q : Vector) → c.kind ≡ kind.Straight → Place p → Place q → Hits c p q
     → Hits c q p
 hits_back c p q k P Q h =
     let s = subst (λ (k : CurveKind). HitsKind k c p q) k h in
-    let there : HitsStraight c q p = record { z = s.z; place = s.place; of_segment = between_straight q p s.z Q P s.place (between_back s.z p q (straight_between p q s.z P Q s.place s.of_segment)); of_curve = s.of_curve } in
+    let there : HitsStraight c q p = record {
+      z = s.z;
+      place = s.place;
+      of_segment =
+          between_straight q p s.z Q P s.place
+          (between_back s.z p q (straight_between p q s.z P Q s.place s.of_segment));
+      of_curve = s.of_curve;
+    } in
     subst (λ (k : CurveKind). HitsKind k c q p) (sym k) there
 
 -- ---- the two ties
@@ -40,8 +53,10 @@ module _ (d : Plan) (E : ℕ → Edge) (i : ℕ) where
   pub crosses_same : (p q : Vector) → (E i).low ≡ (curve d i).from → (E i).high ≡ (curve d i).to
       → Crosses d i p q ↔ CrossesCurve d (E i) i p q
   crosses_same p q low high =
-      let t : (z : Vector) → turn (point (E i).low) (point (E i).high) z ≡ turn (point (curve d i).from) (point (curve d i).to) z =
-      λ z. ap (λ (x : Point). turn (point x) (point (E i).high) z) low ∙ ap (λ (x : Point). turn (point (curve d i).from) (point x) z) high in (
+      let t : (z : Vector) → turn (point (E i).low) (point (E i).high) z
+      ≡ turn (point (curve d i).from) (point (curve d i).to) z =
+      λ z. ap (λ (x : Point). turn (point x) (point (E i).high) z) low
+      ∙ ap (λ (x : Point). turn (point (curve d i).from) (point x) z) high in (
         (λ c. record {
           p_place = c.p_place;
           q_place = c.q_place;
@@ -68,8 +83,11 @@ module _ (d : Plan) (E : ℕ → Edge) (i : ℕ) where
       → (E i).low ≡ (curve d i).to → (E i).high ≡ (curve d i).from
       → Crosses d i p q ↔ CrossesCurve d (E i) i q p
   crosses_back p q all l low high =
-      let t : (z : Vector) → turn (point (E i).low) (point (E i).high) z ≡ pos 0 -ℤ turn (point (curve d i).from) (point (curve d i).to) z =
-      λ z. ap (λ (x : Point). turn (point x) (point (E i).high) z) low ∙ ap (λ (x : Point). turn (point (curve d i).to) (point x) z) high ∙ turn-back (curve d i).from (curve d i).to z in (
+      let t : (z : Vector) → turn (point (E i).low) (point (E i).high) z
+      ≡ pos 0 -ℤ turn (point (curve d i).from) (point (curve d i).to) z =
+      λ z. ap (λ (x : Point). turn (point x) (point (E i).high) z) low
+      ∙ ap (λ (x : Point). turn (point (curve d i).to) (point x) z) high
+      ∙ turn-back (curve d i).from (curve d i).to z in (
         (λ c.
             let a = t q in
             let b = t p in
@@ -83,7 +101,8 @@ module _ (d : Plan) (E : ℕ → Edge) (i : ℕ) where
               above = omega (arith, ints, a, y);
               below = omega (arith, ints, b, x);
               hits = hits_back (curve d i) p q (all.straight i l) c.p_place c.q_place c.hits;
-              clear = λ j k n h. c.clear j k n (hits_back (curve d j) q p (all.straight j k) c.q_place c.p_place h);
+              clear = λ j k n h. c.clear j k n
+                  (hits_back (curve d j) q p (all.straight j k) c.q_place c.p_place h);
             }),
         (λ c.
             let a = t q in
@@ -98,6 +117,7 @@ module _ (d : Plan) (E : ℕ → Edge) (i : ℕ) where
               left = omega (arith, ints, b, y);
               right = omega (arith, ints, a, x);
               hits = hits_back (curve d i) q p (all.straight i l) c.p_place c.q_place c.hits;
-              clear = λ j k n h. c.clear j k n (hits_back (curve d j) p q (all.straight j k) c.q_place c.p_place h);
+              clear = λ j k n h. c.clear j k n
+                  (hits_back (curve d j) p q (all.straight j k) c.q_place c.p_place h);
             }),
       )

@@ -4,7 +4,8 @@ use Rattle.std.specs.Prelude.{◌≡◌, ℕ, ◌<◌, pos, ◌<ℤ◌}
 use Rattle.plane.specs.Forms.Vectors.{Vector, Place, side, HitsEdge}
 use Rattle.plane.specs.Faces.Replays.{Replay, IsOffEdges}
 
--- p is strictly above the line of e and q strictly below it, both off the edges; the segment hits e and no other edge
+-- p is strictly above the line of e and q strictly below it, both off the edges; the segment hits e
+-- and no other edge
 pub record IsCrossing (r : Replay) (e : ℕ) (p q : Vector) : Type 0 where
   pub p_place : Place p
   pub q_place : Place q

@@ -1,4 +1,5 @@
--- A run over edges is a run over the drawing of them, and a point with a position in it is on none of them.
+-- A run over edges is a run over the drawing of them, and a point with a position in it is on none
+-- of them.
 use Rattle.std.proofs.Common.{◌≡◌, ℕ, zero, suc, ◌<◌, ℤ, pos, inl, List, [], ◌∷◌, length, get_or}
 use Rattle.std.proofs.Common.{refl, arith, ap, sym, subst}
 use Rattle.std.proofs.lemmas.Int.{ints}
@@ -38,7 +39,9 @@ module _ (u : Window2) (m : ℕ) (E : ℕ → Edge) (steps : List Step) where
       → curve (as_straights u E m) i ≡ straight (E i).low (E i).high 0
   curve_is i l =
       let n = straights_count E m in
-      straight_at E m i (straight (record { x = pos 0; y = pos 0 }) (record { x = pos 0; y = pos 0 }) 0) (omega (arith, l, n))
+      straight_at E m i
+      (straight (record { x = pos 0; y = pos 0 }) (record { x = pos 0; y = pos 0 }) 0)
+      (omega (arith, l, n))
 
   pub edges_run : Run m E steps → IsRunOf (as_straights u E m) E steps
   edges_run run = record {
@@ -57,8 +60,14 @@ some_window =
       low = o;
       high = o;
       narrow = record { x = omega (arith, ints); y = omega (arith, ints) };
-      low_digits = record { x = record { low = omega (arith, ints); high = omega (arith, ints) }; y = record { low = omega (arith, ints); high = omega (arith, ints) } };
-      high_digits = record { x = record { low = omega (arith, ints); high = omega (arith, ints) }; y = record { low = omega (arith, ints); high = omega (arith, ints) } };
+      low_digits = record {
+        x = record { low = omega (arith, ints); high = omega (arith, ints) };
+        y = record { low = omega (arith, ints); high = omega (arith, ints) };
+      };
+      high_digits = record {
+        x = record { low = omega (arith, ints); high = omega (arith, ints) };
+        y = record { low = omega (arith, ints); high = omega (arith, ints) };
+      };
     }
 
 -- ---- points with a position
@@ -67,6 +76,8 @@ pub located_off : (w : ℤ) (m : ℕ) (E : ℕ → Edge) (steps : List Step) (a 
 located_off w m E steps a k i e run at_a l on =
     let u = run_weight m E steps (a ∷ []) run in
     let r = replay u.weight m E steps in
-    let off = (located_point r (swept_run u.weight m E steps u.swept) (swept_lawful u.weight m E steps u.swept) u.points a k i u.heavy (u.known a (inl refl)) (event_known m E steps (a ∷ []) u)
+    let off = (located_point r (swept_run u.weight m E steps u.swept)
+    (swept_lawful u.weight m E steps u.swept) u.points a k i u.heavy (u.known a (inl refl))
+    (event_known m E steps (a ∷ []) u)
     (located_to w u.weight m E steps a k i at_a)).0 in
     off e l (straight_on u.weight (E e) (point a) (u.swept.rises e l) (place_point a) on)

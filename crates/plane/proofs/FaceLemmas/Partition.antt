@@ -1,4 +1,5 @@
--- A certificate over a run of a drawing's straights, with a weight of its events and points, proves the partition rule.
+-- A certificate over a run of a drawing's straights, with a weight of its events and points, proves
+-- the partition rule.
 -- Each of the five parts stands under its own name.
 use Rattle.std.proofs.Common.{length, ◌≡◌, ℕ, suc, ◌<◌, List, ℤ, pos, ◌<ℤ◌, refl, arith, ap, sym}
 use Rattle.std.proofs.Common.{◌∙◌, ◌⊎◌, inl, inr, subst}
@@ -40,9 +41,12 @@ use Rattle.plane.proofs.Covers.CurveEdges.{controls_from}
 use Rattle.plane.proofs.Covers.StraightCovers.{straights_apart_is}
 use Rattle.plane.proofs.Linear.EdgePlaces.{place_point}
 
-module _ (w : ℤ) (pts : List Point) (d : Plan) (E : ℕ → Edge) (steps : List Step) (lab : Labels) (rank : Half → ℕ) (link : Half → Lead)
-    (positive : pos 0 <ℤ w) (heavy : Weight w pts) (events : Each (λ s. Has s.at pts) steps) (known : (j : ℕ) → j < length d.points → Has (object d j) pts)
-    (edges : AreEdgesOf E d) (replayed : Run (length d.curves) E steps) (cert : Certified d (replay w (length d.curves) E steps) lab rank link) where
+module _ (w : ℤ) (pts : List Point) (d : Plan) (E : ℕ → Edge) (steps : List Step) (lab : Labels)
+    (rank : Half → ℕ) (link : Half → Lead)
+    (positive : pos 0 <ℤ w) (heavy : Weight w pts) (events : Each (λ s. Has s.at pts) steps)
+    (known : (j : ℕ) → j < length d.points → Has (object d j) pts)
+    (edges : AreEdgesOf E d) (replayed : Run (length d.curves) E steps)
+    (cert : Certified d (replay w (length d.curves) E steps) lab rank link) where
   abbrev r : Replay
   r = replay w (length d.curves) E steps
 
@@ -65,10 +69,14 @@ module _ (w : ℤ) (pts : List Point) (d : Plan) (E : ℕ → Edge) (steps : Lis
   apart : (i j : ℕ) → i < length d.curves → j < length d.curves → (i ≡ j → ⊥)
       → Apart (curve d i) (curve d j)
   apart i j li lj differ =
-      (straights_apart_is (curve d i) (curve d j) (edges.straight i li) (edges.straight j lj)).1 (λ z Z a b.
-      let x = on_edge w (E i) (curve d i) z (edges.edge i li) (edges.straight i li) (run.rise i li) Z a in
-      let y = on_edge w (E j) (curve d j) z (edges.edge j lj) (edges.straight j lj) (run.rise j lj) Z b in
-      controls_from (E i) (E j) (curve d i) (curve d j) z (edges.edge i li) (edges.edge j lj) (meet_in_ends w (length d.curves) E steps z i j all li lj differ Z x y))
+      (straights_apart_is (curve d i) (curve d j) (edges.straight i li) (edges.straight j lj)).1
+      (λ z Z a b.
+      let x = on_edge w (E i) (curve d i) z (edges.edge i li) (edges.straight i li)
+      (run.rise i li) Z a in
+      let y = on_edge w (E j) (curve d j) z (edges.edge j lj) (edges.straight j lj)
+      (run.rise j lj) Z b in
+      controls_from (E i) (E j) (curve d i) (curve d j) z (edges.edge i li) (edges.edge j lj)
+      (meet_in_ends w (length d.curves) E steps z i j all li lj differ Z x y))
 
   -- 2: the points
   abbrev spot : ℕ → Vector
@@ -78,12 +86,16 @@ module _ (w : ℤ) (pts : List Point) (d : Plan) (E : ℕ → Edge) (steps : Lis
   cell_for j = record { strip = cert.strip j; index = cert.index j }
 
   placed : (j : ℕ) → j < length d.points → IsOffEdges r (spot j) × (sector r (spot j) ≡ cell_for j)
-  placed j l = placed_point r run law pts (object d j) (cert.strip j) (cert.index j) heavy (known j l) event_known (cert.placed j l)
+  placed j l =
+      placed_point r run law pts (object d j) (cert.strip j) (cert.index j) heavy
+      (known j l) event_known (cert.placed j l)
 
   point_label : (j : ℕ) → j < length d.points → label_of lab r (sector r (spot j)) ≡ suc j
   point_label j l =
       let p = cert.placed j l in
-      ap (label_of lab r) (placed j l).1 ∙ label_before lab 0 (cert.index j) (r.list (cert.strip j)) p.lower p.is_lower ∙ cert.lower_label j l
+      ap (label_of lab r) (placed j l).1
+      ∙ label_before lab 0 (cert.index j) (r.list (cert.strip j)) p.lower p.is_lower
+      ∙ cert.lower_label j l
 
   off : (j : ℕ) → j < length d.points → rule.IsOff d (spot j)
   off j l = off_curves d r run draws (spot j) (place_point (object d j)) (placed j l).0
@@ -92,7 +104,8 @@ module _ (w : ℤ) (pts : List Point) (d : Plan) (E : ℕ → Edge) (steps : Lis
   bounded : (j : ℕ) → j < length d.points → IsOuter d (spot j) → ⊥
   bounded j l o =
       let P = place_point (object d j) in
-      let e = outer_label r run law lab cert.matched (spot j) P (placed j l).0 (outer_edges d r run draws (spot j) P o) in
+      let e = outer_label r run law lab cert.matched (spot j) P (placed j l).0
+      (outer_edges d r run draws (spot j) P o) in
       let f = point_label j l in
       omega (arith, e, f)
 
@@ -101,7 +114,9 @@ module _ (w : ℤ) (pts : List Point) (d : Plan) (E : ℕ → Edge) (steps : Lis
       → Joined d (spot i) (spot j) → ⊥
   alone i j li lj differ path =
       let P = place_point (object d i) in
-      let e = joined_label r run law lab cert.matched (spot i) (spot j) (joined_edges d r run draws (spot i) (spot j) P path) P (place_point (object d j)) (placed i li).0 in
+      let e = joined_label r run law lab cert.matched (spot i) (spot j)
+      (joined_edges d r run draws (spot i) (spot j) P path) P (place_point (object d j))
+      (placed i li).0 in
       let f = point_label i li in
       let g = point_label j lj in
       differ (omega (arith, e, f, g))
@@ -109,7 +124,8 @@ module _ (w : ℤ) (pts : List Point) (d : Plan) (E : ℕ → Edge) (steps : Lis
   -- 5: each place is outer or joined to a point
   linked_outside : (z : Vector) → Place z → IsOffEdges r z → Linked r (sector r z) corner
       → IsOuter d z
-  linked_outside z Z free l = outer_curves d r run draws z Z free (linked_outer r run law positive z Z free l)
+  linked_outside z Z free l =
+      outer_curves d r run draws z Z free (linked_outer r run law positive z Z free l)
 
   filled : (z : Vector) → Place z → rule.IsOff d z
       → IsOuter d z ⊎ ((j : ℕ) × (j < length d.points) × Joined d z (spot j))
@@ -120,15 +136,25 @@ module _ (w : ℤ) (pts : List Point) (d : Plan) (E : ℕ → Edge) (steps : Lis
       elim (wall r run law c C) [
         | inl b ↦ inl (linked_outside z Z free (border_linked r run law c C b))
         | inr h ↦ (
-            let g = rooted r run law (mark lab) rank link (IsRoot d r lab cert.strip cert.index) cert.links (suc (rank h.0)) h.0 (beside_fits r run law h.0 c C h.1) (omega arith) in
+            let g = rooted r run law (mark lab) rank link
+            (IsRoot d r lab cert.strip cert.index) cert.links (suc (rank h.0)) h.0
+            (beside_fits r run law h.0 c C h.1) (omega arith) in
             elim g.1.good [
-              | inl o ↦ inl (linked_outside z Z free (linked_join r c o.1.0 corner (g.1.linked c o.1.0 C o.1.1 h.1 o.1.2) (border_linked r run law o.1.0 o.1.1 o.1.3)))
+              | inl o ↦ inl
+                  (linked_outside z Z free
+                  (linked_join r c o.1.0 corner (g.1.linked c o.1.0 C o.1.1 h.1 o.1.2)
+                  (border_linked r run law o.1.0 o.1.1 o.1.3)))
               | inr o ↦ inr (
                 o.0,
                 o.1,
                 (let p = cert.placed o.0 o.1 in
-                    let l = g.1.linked c (cell_for o.0) C (placed_is r run law (cert.strip o.0) (cert.index o.0) (object d o.0) p) h.1 o.3 in
-                    joined_curves d r run draws z (spot o.0) Z free (linked_joined r run law z (spot o.0) Z (place_point (object d o.0)) free (placed o.0 o.1).0 (subst (λ (u : Sector). Linked r c u) (sym (placed o.0 o.1).1) l))),
+                    let l = g.1.linked c (cell_for o.0) C
+                    (placed_is r run law (cert.strip o.0) (cert.index o.0) (object d o.0) p) h.1
+                    o.3 in
+                    joined_curves d r run draws z (spot o.0) Z free
+                    (linked_joined r run law z (spot o.0) Z (place_point (object d o.0)) free
+                    (placed o.0 o.1).0
+                    (subst (λ (u : Sector). Linked r c u) (sym (placed o.0 o.1).1) l))),
               )
             ])
       ]

@@ -30,7 +30,8 @@ parts_zero f [] e n a h = absurd a
 parts_zero f (d ∷ []) e n a h = (subst (λ (x : ℕ). f x <ℤ pos 0) a h, tt)
 parts_zero f (d ∷ (c ∷ es)) e n a h =
     let g : f d <ℤ pos 0 = subst (λ (x : ℕ). f x <ℤ pos 0) a h in
-    let k : f c <ℤ pos 0 = by_lt_z (f c) (pos 0) (λ l. l) (λ (l : pos 0 ≤ℤ f c). let m = n.0 l in absurd (omega (arith, ints, m, g))) in
+    let k : f c <ℤ pos 0 = by_lt_z (f c) (pos 0) (λ l. l) (λ (l : pos 0 ≤ℤ f c). let m = n.0 l in
+    absurd (omega (arith, ints, m, g))) in
     (g, parts_zero f (c ∷ es) c n.1 refl k)
 
 parts_from : (f : ℕ → ℤ) (es : List ℕ) → Falling f es → ((e : ℕ) → At es 0 e → f e <ℤ pos 0)
@@ -71,8 +72,10 @@ located r v k i p = record {
   index = before_less (r.list k) i p.lower p.is_lower;
   passed = p.passed;
   coming = p.coming;
-  above = λ e a. subst (λ (x : ℕ). pos 0 <ℤ side (r.edge x) (point v)) (one_before (r.list k) i p.lower e p.is_lower a) p.above;
-  below = λ e a. subst (λ (x : ℕ). side (r.edge x) (point v) <ℤ pos 0) (one_at (r.list k) i p.upper e p.is_upper a) p.below;
+  above = λ e a. subst (λ (x : ℕ). pos 0 <ℤ side (r.edge x) (point v))
+      (one_before (r.list k) i p.lower e p.is_lower a) p.above;
+  below = λ e a. subst (λ (x : ℕ). side (r.edge x) (point v) <ℤ pos 0)
+      (one_at (r.list k) i p.upper e p.is_upper a) p.below;
 }
 
 module _ (r : Replay) (run : IsRun r) (law : IsLawful r) where
@@ -83,30 +86,48 @@ module _ (r : Replay) (run : IsRun r) (law : IsLawful r) where
   located_centre pts v k i heavy known events p =
       let fits = p.fits in
       let inside : IsBetweenEvents r k (point v) = record {
-        from = λ (j : ℕ) (l : j < k). let f = heavy (r.step j).at v (events j (omega arith)) known (p.passed j l) in omega (arith, ints, f);
-        to = λ (j : ℕ) (l : k ≤ j) (m : j < r.steps). let f = heavy v (r.step j).at known (events j m) (p.coming j l m) in omega (arith, ints, f);
+        from = λ (j : ℕ) (l : j < k). let f =
+            heavy (r.step j).at v (events j (omega arith)) known (p.passed j l) in
+            omega (arith, ints, f);
+        to = λ (j : ℕ) (l : k ≤ j) (m : j < r.steps). let f =
+            heavy v (r.step j).at known (events j m) (p.coming j l m) in omega (arith, ints, f);
       } in
       let Z : Place (point v) = omega (arith, ints) in
       let order = law.ordered k (point v) fits Z inside in
-      let falling : Falling (sides r (point v)) (r.list k) = neighbours_map (λ a b. gap r.weight (r.edge a) (r.edge b) (point v) <ℤ pos 0) (λ a b. pos 0 ≤ℤ side (r.edge b) (point v) → pos 0 <ℤ side (r.edge a) (point v)) (r.list k)
-      (λ a b ka kb g h. over_lower r.weight (r.edge a) (r.edge b) (point v) (run.rise a (law.live k a fits ka)) (run.rise b (law.live k b fits kb)) g h) order in
-      record { place = Z; inside = inside; parts = parts_at (sides r (point v)) (r.list k) i p.index falling p.above p.below }
+      let falling : Falling (sides r (point v)) (r.list k) = neighbours_map
+      (λ a b. gap r.weight (r.edge a) (r.edge b) (point v) <ℤ pos 0)
+      (λ a b. pos 0 ≤ℤ side (r.edge b) (point v) → pos 0 <ℤ side (r.edge a) (point v))
+      (r.list k)
+      (λ a b ka kb g h. over_lower r.weight (r.edge a) (r.edge b) (point v)
+      (run.rise a (law.live k a fits ka)) (run.rise b (law.live k b fits kb)) g h) order in
+      record {
+        place = Z;
+        inside = inside;
+        parts = parts_at (sides r (point v)) (r.list k) i p.index falling p.above p.below;
+      }
 
-  pub located_is : (k i : ℕ) (v : Point) → IsLocated r v k i → IsSector r (record { strip = k; index = i })
+  pub located_is : (k i : ℕ) (v : Point) → IsLocated r v k i
+      → IsSector r (record { strip = k; index = i })
   located_is k i v p = record { strip = p.fits; index = p.index }
 
   -- the point is off the edges, in the cell of its position
   pub located_point : (pts : List Point) (v : Point) (k i : ℕ) → Weight r.weight pts → Has v pts
       → ((j : ℕ) → j < r.steps → Has (r.step j).at pts)
-      → IsLocated r v k i → IsOffEdges r (point v) × (sector r (point v) ≡ record { strip = k; index = i })
+      → IsLocated r v k i → IsOffEdges r (point v)
+      × (sector r (point v) ≡ record { strip = k; index = i })
   located_point pts v k i heavy known events p =
-      let m = located_centre pts v k i heavy known events p in
-      (centre_off r run law (record { strip = k; index = i }) (point v) p.fits m, centre_cell r run law (record { strip = k; index = i }) (point v) (located_is k i v p) m)
+      let m = located_centre pts v k i heavy known events p in (
+        centre_off r run law (record { strip = k; index = i }) (point v) p.fits m,
+        centre_cell r run law (record { strip = k; index = i }) (point v) (located_is k i v p) m,
+      )
 
-  pub placed_is : (k i : ℕ) (v : Point) → IsPlaced r v k i → IsSector r (record { strip = k; index = i })
+  pub placed_is : (k i : ℕ) (v : Point) → IsPlaced r v k i
+      → IsSector r (record { strip = k; index = i })
   placed_is k i v p = located_is k i v (located r v k i p)
 
   pub placed_point : (pts : List Point) (v : Point) (k i : ℕ) → Weight r.weight pts → Has v pts
       → ((j : ℕ) → j < r.steps → Has (r.step j).at pts)
-      → IsPlaced r v k i → IsOffEdges r (point v) × (sector r (point v) ≡ record { strip = k; index = i })
-  placed_point pts v k i heavy known events p = located_point pts v k i heavy known events (located r v k i p)
+      → IsPlaced r v k i → IsOffEdges r (point v)
+      × (sector r (point v) ≡ record { strip = k; index = i })
+  placed_point pts v k i heavy known events p =
+      located_point pts v k i heavy known events (located r v k i p)

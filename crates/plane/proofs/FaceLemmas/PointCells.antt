@@ -1,4 +1,5 @@
--- Points with a position in a run over the edges of a drawing: joined and outer, by the cells of the positions alone.
+-- Points with a position in a run over the edges of a drawing: joined and outer, by the cells of
+-- the positions alone.
 -- No weight is asked for: each law takes one of the events and of the points that it speaks of.
 use Rattle.std.proofs.Common.{◌≡◌, ◌↔◌, ℕ, List, [], ◌∷◌, length, ℤ, refl, inl, inr, sym, subst}
 use Rattle.plane.specs.declared.kinds.Point.{Point}
@@ -49,13 +50,15 @@ module _ (v : ℤ) (d : Plan) (E : ℕ → Edge) (steps : List Step) (over : IsR
     pub chosen_spot : (a : Point) (k i : ℕ) → Has a more → IsLocated r a k i
         → replays.IsOffEdges swept (point a) × (sector swept (point a) ≡ spot k i)
     chosen_spot a k i h l =
-        located_point swept chosen_run chosen_law chosen.points a k i chosen.heavy (chosen.known a h) (event_known (length d.curves) E steps more chosen)
+        located_point swept chosen_run chosen_law chosen.points a k i chosen.heavy
+        (chosen.known a h) (event_known (length d.curves) E steps more chosen)
         (located_to v chosen.weight (length d.curves) E steps a k i l)
 
   pub point_off : (a : Point) (k i : ℕ) → IsLocated r a k i → IsOff d (point a)
   point_off a k i l =
       let more = a ∷ [] in
-      off_curves d (swept more) (chosen_run more) (chosen_draws more) (point a) (place_point a) (chosen_spot more a k i (inl refl) l).0
+      off_curves d (swept more) (chosen_run more) (chosen_draws more) (point a) (place_point a)
+      (chosen_spot more a k i (inl refl) l).0
 
   pub points_linked : (a b : Point) (k i l j : ℕ) → IsLocated r a k i → IsLocated r b l j
       → Joined d (point a) (point b) ↔ Linked r (spot k i) (spot l j)
@@ -64,11 +67,17 @@ module _ (v : ℤ) (d : Plan) (E : ℕ → Edge) (steps : List Step) (over : IsR
       let w = (chosen more).weight in
       let A = chosen_spot more a k i (inl refl) at_a in
       let B = chosen_spot more b l j (inr (inl refl)) at_b in
-      let f = drawn_linked d (swept more) (chosen_run more) (chosen_law more) (chosen_draws more) (point a) (point b) (place_point a) (place_point b) (point_off a k i at_a) (point_off b l j at_b) in (
+      let f = drawn_linked d (swept more) (chosen_run more) (chosen_law more) (chosen_draws more)
+      (point a) (point b) (place_point a) (place_point b) (point_off a k i at_a)
+      (point_off b l j at_b) in (
         (λ q. linked_to w v (length d.curves) E steps (spot k i) (spot l j)
-            (subst (λ (c : Sector). Linked (swept more) c (spot l j)) A.1 (subst (λ (c : Sector). Linked (swept more) (sector (swept more) (point a)) c) B.1 (f.0 q)))),
-        (λ q. f.1 (subst (λ (c : Sector). Linked (swept more) (sector (swept more) (point a)) c) (sym B.1)
-            (subst (λ (c : Sector). Linked (swept more) c (spot l j)) (sym A.1) (linked_to v w (length d.curves) E steps (spot k i) (spot l j) q)))),
+            (subst (λ (c : Sector). Linked (swept more) c (spot l j)) A.1
+            (subst (λ (c : Sector). Linked (swept more) (sector (swept more) (point a)) c) B.1
+            (f.0 q)))),
+        (λ q. f.1 (subst (λ (c : Sector). Linked (swept more) (sector (swept more) (point a)) c)
+            (sym B.1)
+            (subst (λ (c : Sector). Linked (swept more) c (spot l j)) (sym A.1)
+            (linked_to v w (length d.curves) E steps (spot k i) (spot l j) q)))),
       )
 
   pub point_outer : (a : Point) (k i : ℕ) → IsLocated r a k i
@@ -77,7 +86,10 @@ module _ (v : ℤ) (d : Plan) (E : ℕ → Edge) (steps : List Step) (over : IsR
       let more = a ∷ [] in
       let w = (chosen more).weight in
       let A = chosen_spot more a k i (inl refl) at_a in
-      let f = drawn_outer d (swept more) (chosen_run more) (chosen_law more) (chosen_draws more) (chosen more).positive (point a) (place_point a) (point_off a k i at_a) in (
-        (λ q. linked_to w v (length d.curves) E steps (spot k i) corner (subst (λ (c : Sector). Linked (swept more) c corner) A.1 (f.0 q))),
-        (λ q. f.1 (subst (λ (c : Sector). Linked (swept more) c corner) (sym A.1) (linked_to v w (length d.curves) E steps (spot k i) corner q))),
+      let f = drawn_outer d (swept more) (chosen_run more) (chosen_law more) (chosen_draws more)
+      (chosen more).positive (point a) (place_point a) (point_off a k i at_a) in (
+        (λ q. linked_to w v (length d.curves) E steps (spot k i) corner
+            (subst (λ (c : Sector). Linked (swept more) c corner) A.1 (f.0 q))),
+        (λ q. f.1 (subst (λ (c : Sector). Linked (swept more) c corner) (sym A.1)
+            (linked_to v w (length d.curves) E steps (spot k i) corner q))),
       )

@@ -25,31 +25,45 @@ value w e early v = (sweep w (point e.low) *ℤ v.n) -ℤ sweep w v
 value w e late v = sweep w v -ℤ (sweep w (point e.high) *ℤ v.n)
 
 spread : (c s a t b m n : ℤ)
-    → (c *ℤ ((s *ℤ m) +ℤ (t *ℤ n))) -ℤ ((s *ℤ a) +ℤ (t *ℤ b)) ≡ (s *ℤ ((c *ℤ m) -ℤ a)) +ℤ (t *ℤ ((c *ℤ n) -ℤ b))
+    → (c *ℤ ((s *ℤ m) +ℤ (t *ℤ n))) -ℤ ((s *ℤ a) +ℤ (t *ℤ b))
+    ≡ (s *ℤ ((c *ℤ m) -ℤ a)) +ℤ (t *ℤ ((c *ℤ n) -ℤ b))
 spread c s a t b m n =
-    ring (minus (times (at 0) (plus (times (at 1) (at 5)) (times (at 3) (at 6)))) (plus (times (at 1) (at 2)) (times (at 3) (at 4))))
-    (plus (times (at 1) (minus (times (at 0) (at 5)) (at 2))) (times (at 3) (minus (times (at 0) (at 6)) (at 4)))) (vars (c ∷ s ∷ a ∷ t ∷ b ∷ m ∷ n ∷ [])) refl
+    ring (minus (times (at 0) (plus (times (at 1) (at 5)) (times (at 3) (at 6))))
+    (plus (times (at 1) (at 2)) (times (at 3) (at 4))))
+    (plus (times (at 1) (minus (times (at 0) (at 5)) (at 2)))
+    (times (at 3) (minus (times (at 0) (at 6)) (at 4))))
+    (vars (c ∷ s ∷ a ∷ t ∷ b ∷ m ∷ n ∷ [])) refl
 
 spread_back : (c s a t b m n : ℤ)
-    → ((s *ℤ a) +ℤ (t *ℤ b)) -ℤ (c *ℤ ((s *ℤ m) +ℤ (t *ℤ n))) ≡ (s *ℤ (a -ℤ (c *ℤ m))) +ℤ (t *ℤ (b -ℤ (c *ℤ n)))
+    → ((s *ℤ a) +ℤ (t *ℤ b)) -ℤ (c *ℤ ((s *ℤ m) +ℤ (t *ℤ n)))
+    ≡ (s *ℤ (a -ℤ (c *ℤ m))) +ℤ (t *ℤ (b -ℤ (c *ℤ n)))
 spread_back c s a t b m n =
-    ring (minus (plus (times (at 1) (at 2)) (times (at 3) (at 4))) (times (at 0) (plus (times (at 1) (at 5)) (times (at 3) (at 6)))))
-    (plus (times (at 1) (minus (at 2) (times (at 0) (at 5)))) (times (at 3) (minus (at 4) (times (at 0) (at 6))))) (vars (c ∷ s ∷ a ∷ t ∷ b ∷ m ∷ n ∷ [])) refl
+    ring (minus (plus (times (at 1) (at 2)) (times (at 3) (at 4)))
+    (times (at 0) (plus (times (at 1) (at 5)) (times (at 3) (at 6)))))
+    (plus (times (at 1) (minus (at 2) (times (at 0) (at 5))))
+    (times (at 3) (minus (at 4) (times (at 0) (at 6)))))
+    (vars (c ∷ s ∷ a ∷ t ∷ b ∷ m ∷ n ∷ [])) refl
 
 spread_less : (s a t b : ℤ)
     → pos 0 -ℤ ((s *ℤ a) +ℤ (t *ℤ b)) ≡ (s *ℤ (pos 0 -ℤ a)) +ℤ (t *ℤ (pos 0 -ℤ b))
 spread_less s a t b =
     let zero = num (pos 0) in
-    ring (minus zero (plus (times (at 0) (at 1)) (times (at 2) (at 3)))) (plus (times (at 0) (minus zero (at 1))) (times (at 2) (minus zero (at 3)))) (vars (s ∷ a ∷ t ∷ b ∷ [])) refl
+    ring (minus zero (plus (times (at 0) (at 1)) (times (at 2) (at 3))))
+    (plus (times (at 0) (minus zero (at 1))) (times (at 2) (minus zero (at 3))))
+    (vars (s ∷ a ∷ t ∷ b ∷ [])) refl
 
 pub value_mix : (w : ℤ) (e : Edge) (i : Way) (s : ℤ) (p : Vector) (t : ℤ) (q : Vector)
     → value w e i (mix s p t q) ≡ (s *ℤ value w e i p) +ℤ (t *ℤ value w e i q)
 value_mix w e over s p t q = side-mix e s p t q
-value_mix w e under s p t q = ap (λ (v : ℤ). pos 0 -ℤ v) (side-mix e s p t q) ∙ spread_less s (side e p) t (side e q)
+value_mix w e under s p t q = ap (λ (v : ℤ). pos 0 -ℤ v) (side-mix e s p t q)
+    ∙ spread_less s (side e p) t (side e q)
 value_mix w e early s p t q =
-    ap (λ (v : ℤ). (sweep w (point e.low) *ℤ ((s *ℤ p.n) +ℤ (t *ℤ q.n))) -ℤ v) (sweep-mix w s p t q) ∙ spread (sweep w (point e.low)) s (sweep w p) t (sweep w q) p.n q.n
+    ap (λ (v : ℤ). (sweep w (point e.low) *ℤ ((s *ℤ p.n) +ℤ (t *ℤ q.n))) -ℤ v) (sweep-mix w s p t q)
+    ∙ spread (sweep w (point e.low)) s (sweep w p) t (sweep w q) p.n q.n
 value_mix w e late s p t q =
-    ap (λ (v : ℤ). v -ℤ (sweep w (point e.high) *ℤ ((s *ℤ p.n) +ℤ (t *ℤ q.n)))) (sweep-mix w s p t q) ∙ spread_back (sweep w (point e.high)) s (sweep w p) t (sweep w q) p.n q.n
+    ap (λ (v : ℤ). v -ℤ (sweep w (point e.high) *ℤ ((s *ℤ p.n) +ℤ (t *ℤ q.n))))
+    (sweep-mix w s p t q)
+    ∙ spread_back (sweep w (point e.high)) s (sweep w p) t (sweep w q) p.n q.n
 
 pub value_on : (w : ℤ) (e : Edge) (i : Way) (v : Vector) → On w e v → value w e i v ≤ℤ pos 0
 value_on w e over v on = let l = on.line in omega (arith, ints, l)
@@ -63,14 +77,21 @@ off_way w e z off = by_sign (side e z)
     (λ (l : side e z <ℤ pos 0). (under, omega (arith, ints, l)))
     (λ (l : side e z ≡ pos 0). by_lt_z (sweep w z) (sweep w (point e.low) *ℤ z.n)
     (λ (a : sweep w z <ℤ (sweep w (point e.low) *ℤ z.n)). (early, omega (arith, ints, a)))
-    (λ (a : (sweep w (point e.low) *ℤ z.n) ≤ℤ sweep w z). by_lt_z (sweep w (point e.high) *ℤ z.n) (sweep w z)
+    (λ (a : (sweep w (point e.low) *ℤ z.n) ≤ℤ sweep w z). by_lt_z (sweep w (point e.high) *ℤ z.n)
+    (sweep w z)
     (λ (b : (sweep w (point e.high) *ℤ z.n) <ℤ sweep w z). (late, omega (arith, ints, b)))
-    (λ (b : sweep w z ≤ℤ (sweep w (point e.high) *ℤ z.n)). absurd (off record { line = l; low = a; high = b }))))
+    (λ (b : sweep w z ≤ℤ (sweep w (point e.high) *ℤ z.n)). absurd (off record {
+      line = l;
+      low = a;
+      high = b;
+    }))))
     (λ (l : pos 0 <ℤ side e z). (over, l))
 
 positive_sum : (s a t b : ℤ) → pos 0 ≤ℤ s → pos 0 ≤ℤ t → pos 0 <ℤ (s +ℤ t) → pos 0 <ℤ a → pos 0 <ℤ b
     → pos 0 <ℤ ((s *ℤ a) +ℤ (t *ℤ b))
-positive_sum s a t b hs ht some ha hb = let x = weight_at_most s a hs ha in let y = weight_at_most t b ht hb in omega (arith, ints, x, y, some)
+positive_sum s a t b hs ht some ha hb =
+    let x = weight_at_most s a hs ha in
+    let y = weight_at_most t b ht hb in omega (arith, ints, x, y, some)
 
 -- one way at both ends: no hit
 pub way_clear : (w : ℤ) (e : Edge) (i : Way) (p q : Vector) → Place p → Place q
@@ -103,7 +124,8 @@ near_zero w e i n z d none h =
     plain (value w e i (near n z d)) n (n *ℤ value w e i z) (value w e i d) b c h
   where
     plain : (v n a d : ℤ) → v ≡ a +ℤ (pos 1 *ℤ d) → a ≡ n *ℤ pos 0 → pos 0 <ℤ d → pos 0 <ℤ v
-    plain v n a d e f l = let g : n *ℤ pos 0 ≡ pos 0 = omega (arith, ints) in omega (arith, ints, e, f, l, g)
+    plain v n a d e f l =
+        let g : n *ℤ pos 0 ≡ pos 0 = omega (arith, ints) in omega (arith, ints, e, f, l, g)
 
 -- ---- numbers large enough for all edges
 abbrev pub IsLarge : ℤ → (ℕ → Edge) → ℕ → ℤ → Vector → Type 0
@@ -124,13 +146,18 @@ large w E (suc m) d =
     let e = square_least (v late) in let e0 = e.0 in let e1 = e.1 in
     let n = k.0 in
     let positive = k.1 in
-    let top = n +ℤ (((v over *ℤ v over) +ℤ (v under *ℤ v under)) +ℤ ((v early *ℤ v early) +ℤ (v late *ℤ v late))) in
-    let at_last : (i : Way) → (pos 0 -ℤ v i) <ℤ top = last n (v over) (v under) (v early) (v late) v refl refl refl refl positive a b c e in (
+    let top = n +ℤ (((v over *ℤ v over) +ℤ (v under *ℤ v under))
+    +ℤ ((v early *ℤ v early) +ℤ (v late *ℤ v late))) in
+    let at_last : (i : Way)
+    → (pos 0 -ℤ v i) <ℤ top =
+    last n (v over) (v under) (v early) (v late) v refl refl refl refl positive a b c e in (
       top,
       omega (arith, ints, positive, a1, b1, c1, e1),
       λ (f : ℕ) (l : f < suc m) i. by_last f m l
-          (λ (h : f < m). let g = k.2 f h i in more (pos 0 -ℤ value w (E f) i d) n _ g (omega (arith, ints, a1, b1, c1, e1)))
-          (λ (h : f ≡ m). subst (λ (x : ℕ). (pos 0 -ℤ value w (E x) i d) <ℤ top) (sym h) (at_last i)),
+          (λ (h : f < m). let g = k.2 f h i in
+          more (pos 0 -ℤ value w (E f) i d) n _ g (omega (arith, ints, a1, b1, c1, e1)))
+          (λ (h : f ≡ m). subst (λ (x : ℕ). (pos 0 -ℤ value w (E x) i d) <ℤ top) (sym h)
+          (at_last i)),
     )
   where
     more : (a b c : ℤ) → a <ℤ b → pos 0 ≤ℤ c → a <ℤ (b +ℤ c)
@@ -138,7 +165,10 @@ large w E (suc m) d =
 
     last : (n a b c e : ℤ) (v : Way → ℤ) → v over ≡ a → v under ≡ b → v early ≡ c → v late ≡ e
         → pos 0 <ℤ n
-        → ((pos 0 -ℤ a) ≤ℤ (a *ℤ a)) × (pos 0 ≤ℤ (a *ℤ a)) → ((pos 0 -ℤ b) ≤ℤ (b *ℤ b)) × (pos 0 ≤ℤ (b *ℤ b)) → ((pos 0 -ℤ c) ≤ℤ (c *ℤ c)) × (pos 0 ≤ℤ (c *ℤ c)) → ((pos 0 -ℤ e) ≤ℤ (e *ℤ e)) × (pos 0 ≤ℤ (e *ℤ e))
+        → ((pos 0 -ℤ a) ≤ℤ (a *ℤ a)) × (pos 0 ≤ℤ (a *ℤ a))
+        → ((pos 0 -ℤ b) ≤ℤ (b *ℤ b)) × (pos 0 ≤ℤ (b *ℤ b))
+        → ((pos 0 -ℤ c) ≤ℤ (c *ℤ c)) × (pos 0 ≤ℤ (c *ℤ c))
+        → ((pos 0 -ℤ e) ≤ℤ (e *ℤ e)) × (pos 0 ≤ℤ (e *ℤ e))
         → (i : Way) → (pos 0 -ℤ v i) <ℤ (n +ℤ (((a *ℤ a) +ℤ (b *ℤ b)) +ℤ ((c *ℤ c) +ℤ (e *ℤ e))))
     last n a b c e v va vb vc ve h (xa, ya) (xb, yb) (xc, yc) (xe, ye) over = omega (arith, ints)
     last n a b c e v va vb vc ve h (xa, ya) (xb, yb) (xc, yc) (xe, ye) under = omega (arith, ints)

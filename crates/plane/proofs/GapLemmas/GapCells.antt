@@ -1,4 +1,5 @@
--- Closed gaps are the neighbours of the live lists, and so what lies across a cell and what touches the border.
+-- Closed gaps are the neighbours of the live lists, and so what lies across a cell and what touches
+-- the border.
 use Rattle.std.proofs.Common.{◌≡◌, ◌↔◌, ℕ, zero, suc, ◌+◌, ◌<◌, ◌≤◌, ◌⊎◌, Bool, true, cond, Option}
 use Rattle.std.proofs.Common.{Some, None, inl, inr, List, [], ◌∷◌, length, take, get_or, refl}
 use Rattle.std.proofs.Common.{arith, ap, sym, ◌∙◌, subst, ℤ}
@@ -36,7 +37,8 @@ pub pair_across : (l : Option ℕ) (xs : List ℕ) (d e : ℕ) → Has (Some d, 
     → ((l ≡ Some d) × At xs 0 e) ⊎ ((i : ℕ) × At xs i d × At xs (suc i) e)
 pair_across l [] d e (inl q) = absurd (some_none e (ap (λ (x : Sides). x.1) q))
 pair_across l [] d e (inr k) = absurd k
-pair_across l (x ∷ xs) d e (inl q) = inl (sym (ap (λ (y : Sides). y.0) q), some_same e x (ap (λ (y : Sides). y.1) q))
+pair_across l (x ∷ xs) d e (inl q) =
+    inl (sym (ap (λ (y : Sides). y.0) q), some_same e x (ap (λ (y : Sides). y.1) q))
 pair_across l (x ∷ xs) d e (inr k) = elim (pair_across (Some x) xs d e k) [
   | inl a ↦ inr (0, sym (some_same x d a.0), a.1)
   | inr b ↦ inr (suc b.0, b.1, b.2)
@@ -46,14 +48,16 @@ across_pair : (l : Option ℕ) (xs : List ℕ) (i d e : ℕ) → At xs i d → A
     → Has (Some d, Some e) (beside l xs None)
 across_pair l [] i d e a b = absurd a
 across_pair l (x ∷ []) zero d e a b = absurd b
-across_pair l (x ∷ (y ∷ xs)) zero d e a b = inr (inl (ap (λ (z : ℕ). (Some z, Some e)) a ∙ ap (λ (z : ℕ). (Some x, Some z)) b))
+across_pair l (x ∷ (y ∷ xs)) zero d e a b =
+    inr (inl (ap (λ (z : ℕ). (Some z, Some e)) a ∙ ap (λ (z : ℕ). (Some x, Some z)) b))
 across_pair l (x ∷ xs) (suc i) d e a b = inr (across_pair (Some x) xs i d e a b)
 
 pair_first : (l : Option ℕ) (xs : List ℕ) (e : ℕ) → Has (None, Some e) (beside l xs None)
     → (l ≡ None) × At xs 0 e
 pair_first l [] e (inl q) = absurd (some_none e (ap (λ (x : Sides). x.1) q))
 pair_first l [] e (inr k) = absurd k
-pair_first l (x ∷ xs) e (inl q) = (sym (ap (λ (y : Sides). y.0) q), some_same e x (ap (λ (y : Sides). y.1) q))
+pair_first l (x ∷ xs) e (inl q) =
+    (sym (ap (λ (y : Sides). y.0) q), some_same e x (ap (λ (y : Sides). y.1) q))
 pair_first l (x ∷ xs) e (inr k) = absurd (some_none x (pair_first (Some x) xs e k).0)
 
 first_pair : (xs : List ℕ) (e : ℕ) → At xs 0 e → Has (None, Some e) (beside None xs None)
@@ -88,7 +92,9 @@ module _ (vs : List Move) (fit : Fit [] vs) (end : live_from [] vs ≡ []) where
 
   closes : (l u : Option ℕ) → Closes vs l u
       → (k : ℕ) × (k ≤ length vs) × Has (l, u) (beside None (now k) None)
-  closes l u (g, h, a, b) = closed_sides (l, u) 0 [] (no_gap ∷ []) vs fit refl g h (ap (λ (o : Option ℕ). (o, g.upper)) a ∙ ap (λ (o : Option ℕ). (l, o)) b)
+  closes l u (g, h, a, b) =
+      closed_sides (l, u) 0 [] (no_gap ∷ []) vs fit refl g h (ap (λ (o : Option ℕ). (o, g.upper)) a
+      ∙ ap (λ (o : Option ℕ). (l, o)) b)
 
   closed_by : (x : Sides) → has_side x.0 x.1 ≡ true → (k : ℕ) → k ≤ length vs
       → Has x (beside None (now k) None) → Closes vs x.0 x.1
@@ -97,13 +103,15 @@ module _ (vs : List Move) (fit : Fit [] vs) (end : live_from [] vs ≡ []) where
       (g, i, ap (λ (y : Sides). y.0) q, ap (λ (y : Sides). y.1) q)
 
   pub across_closed : (d e : ℕ)
-      → Closes vs (Some d) (Some e) ↔ ((k : ℕ) × (i : ℕ) × (k ≤ length vs) × At (now k) i d × At (now k) (suc i) e)
+      → Closes vs (Some d) (Some e)
+      ↔ ((k : ℕ) × (i : ℕ) × (k ≤ length vs) × At (now k) i d × At (now k) (suc i) e)
   across_closed d e = (
     (λ c. let (k, l, h) = closes (Some d) (Some e) c in elim (pair_across None (now k) d e h) [
       | inl a ↦ absurd (some_none d (sym a.0))
       | inr b ↦ (k, b.0, l, b.1, b.2)
     ]),
-    (λ a. let (k, i, l, x, y) = a in closed_by (Some d, Some e) refl k l (across_pair None (now k) i d e x y)),
+    (λ a. let (k, i, l, x, y) = a in
+        closed_by (Some d, Some e) refl k l (across_pair None (now k) i d e x y)),
   )
 
   pub lowest_closed : (e : ℕ)
@@ -114,23 +122,40 @@ module _ (vs : List Move) (fit : Fit [] vs) (end : live_from [] vs ≡ []) where
   )
 
   pub highest_closed : (d : ℕ)
-      → Closes vs (Some d) None ↔ ((k : ℕ) × (i : ℕ) × (k ≤ length vs) × (suc i ≡ length (now k)) × At (now k) i d)
+      → Closes vs (Some d) None
+      ↔ ((k : ℕ) × (i : ℕ) × (k ≤ length vs) × (suc i ≡ length (now k)) × At (now k) i d)
   highest_closed d = (
     (λ c. let (k, l, h) = closes (Some d) None c in elim (pair_last None (now k) d h) [
       | inl a ↦ absurd (some_none d (sym a.0))
       | inr b ↦ (k, b.0, l, b.1, b.2)
     ]),
-    (λ a. let (k, i, l, q, x) = a in closed_by (Some d, None) refl k l (last_pair None (now k) i d q x)),
+    (λ a. let (k, i, l, q, x) = a in
+        closed_by (Some d, None) refl k l (last_pair None (now k) i d q x)),
   )
 
   pub new_is_closed : (g : Gap)
-      → Has g (closed_gaps vs) ↔ ((is_real g ≡ true) × (k : ℕ) × (k < length vs) × Has g (opened k (get_or (steps_from [] vs) k no_step)))
+      → Has g (closed_gaps vs)
+      ↔ ((is_real g ≡ true) × (k : ℕ) × (k < length vs)
+      × Has g (opened k (get_or (steps_from [] vs) k no_step)))
   new_is_closed g = (
     (λ h. let (r, c) = closed_new g 0 [] (no_gap ∷ []) vs h in elim c [
       | inl b ↦ absurd (not_real b r)
-      | inr o ↦ (r, o.0, o.1, subst (λ (j : ℕ). Has g (opened j (get_or (steps_from [] vs) o.0 no_step))) (from_zero o.0) o.2)
+      | inr o ↦ (
+        r,
+        o.0,
+        o.1,
+        subst (λ (j : ℕ). Has g (opened j (get_or (steps_from [] vs) o.0 no_step)))
+            (from_zero o.0) o.2,
+      )
     ]),
-    (λ a. let (r, k, l, o) = a in new_closed g 0 [] (no_gap ∷ []) vs fit end refl r (inr (k, l, subst (λ (j : ℕ). Has g (opened j (get_or (steps_from [] vs) k no_step))) (sym (from_zero k)) o))),
+    (λ a. let (r, k, l, o) = a in
+        new_closed g 0 [] (no_gap ∷ []) vs fit end refl r
+        (inr (
+          k,
+          l,
+          subst (λ (j : ℕ). Has g (opened j (get_or (steps_from [] vs) k no_step)))
+              (sym (from_zero k)) o,
+        ))),
   )
     where
       from_zero : (k : ℕ) → 0 + k ≡ k
@@ -151,13 +176,22 @@ module _ (vs : List Move) (fit : Fit [] vs) (end : live_from [] vs ≡ []) where
     cell_across : (k i d e : ℕ) → k ≤ length vs → AtBefore (r.list k) i d → At (r.list k) i e
         → Closes vs (Some d) (Some e)
     cell_across k zero d e l a b = absurd a
-    cell_across k (suc i) d e l a b = (across_closed d e).1 (k, i, l, subst (λ (xs : List ℕ). At xs i d) (same_list k l) a, subst (λ (xs : List ℕ). At xs (suc i) e) (same_list k l) b)
+    cell_across k (suc i) d e l a b =
+        (across_closed d e).1 (
+          k,
+          i,
+          l,
+          subst (λ (xs : List ℕ). At xs i d) (same_list k l) a,
+          subst (λ (xs : List ℕ). At xs (suc i) e) (same_list k l) b,
+        )
 
     pub gap_across : (g h : Half) → GapBetween vs g h → Across r g h
     gap_across (over d) (under e) c =
         let (k, i, l, a, b) = (across_closed d e).0 c in
         let n = steps_length [] vs in
-        neighbours_across r k (omega (arith, l, n)) i d e (subst (λ (xs : List ℕ). At xs i d) (sym (same_list k l)) a) (subst (λ (xs : List ℕ). At xs (suc i) e) (sym (same_list k l)) b)
+        neighbours_across r k (omega (arith, l, n)) i d e
+        (subst (λ (xs : List ℕ). At xs i d) (sym (same_list k l)) a)
+        (subst (λ (xs : List ℕ). At xs (suc i) e) (sym (same_list k l)) b)
     gap_across (over d) (over e) c = absurd c
     gap_across (under d) h c = absurd c
 
@@ -165,31 +199,51 @@ module _ (vs : List Move) (fit : Fit [] vs) (end : live_from [] vs ≡ []) where
     fits_moves c C = let l = C.strip in let n = steps_length [] vs in omega (arith, l, n)
 
     pub across_gap : (g h : Half) → Across r g h → (g ≡ h) ⊎ (GapBetween vs g h ⊎ GapBetween vs h g)
-    across_gap (over d) (under e) (c, C, a, b) = inr (inl (cell_across c.strip c.index d e (fits_moves c C) a b))
-    across_gap (under e) (over d) (c, C, a, b) = inr (inr (cell_across c.strip c.index d e (fits_moves c C) b a))
-    across_gap (under d) (under e) (c, C, a, b) = inl (ap (λ (x : ℕ). under x) (at_one (r.list c.strip) c.index d e a b))
-    across_gap (over d) (over e) (c, C, a, b) = inl (ap (λ (x : ℕ). over x) (before_one (r.list c.strip) c.index d e a b))
+    across_gap (over d) (under e) (c, C, a, b) =
+        inr (inl (cell_across c.strip c.index d e (fits_moves c C) a b))
+    across_gap (under e) (over d) (c, C, a, b) =
+        inr (inr (cell_across c.strip c.index d e (fits_moves c C) b a))
+    across_gap (under d) (under e) (c, C, a, b) =
+        inl (ap (λ (x : ℕ). under x) (at_one (r.list c.strip) c.index d e a b))
+    across_gap (over d) (over e) (c, C, a, b) =
+        inl (ap (λ (x : ℕ). over x) (before_one (r.list c.strip) c.index d e a b))
 
     pub border_touches : (h : Half) → AtBorder vs h → Touches r h
     border_touches (under e) c =
         let (k, l, a) = (lowest_closed e).0 c in
         let n = steps_length [] vs in
-        first_touches r k (omega (arith, l, n)) e (subst (λ (xs : List ℕ). At xs 0 e) (sym (same_list k l)) a)
+        first_touches r k (omega (arith, l, n)) e
+        (subst (λ (xs : List ℕ). At xs 0 e) (sym (same_list k l)) a)
     border_touches (over d) c =
         let (k, i, l, q, a) = (highest_closed d).0 c in
         let n = steps_length [] vs in
-        last_touches r k (omega (arith, l, n)) i d (q ∙ ap (λ (xs : List ℕ). length xs) (sym (same_list k l))) (subst (λ (xs : List ℕ). At xs i d) (sym (same_list k l)) a)
+        last_touches r k (omega (arith, l, n)) i d (q
+        ∙ ap (λ (xs : List ℕ). length xs) (sym (same_list k l)))
+        (subst (λ (xs : List ℕ). At xs i d) (sym (same_list k l)) a)
 
     cell_low : (k i e : ℕ) → k ≤ length vs → At (r.list k) i e → ((i ≡ 0) ⊎ (i ≡ length (r.list k)))
         → Closes vs None (Some e)
-    cell_low k i e l a (inl q) = (lowest_closed e).1 (k, l, subst (λ (xs : List ℕ). At xs 0 e) (same_list k l) (subst (λ (j : ℕ). At (r.list k) j e) q a))
+    cell_low k i e l a (inl q) =
+        (lowest_closed e).1 (
+          k,
+          l,
+          subst (λ (xs : List ℕ). At xs 0 e) (same_list k l)
+              (subst (λ (j : ℕ). At (r.list k) j e) q a),
+        )
     cell_low k i e l a (inr q) = let n = at_less (r.list k) i e a in absurd (omega (arith, n, q))
 
     cell_high : (k i d : ℕ) → k ≤ length vs → AtBefore (r.list k) i d
         → ((i ≡ 0) ⊎ (i ≡ length (r.list k))) → Closes vs (Some d) None
     cell_high k zero d l a q = absurd a
     cell_high k (suc i) d l a (inl q) = absurd (omega (arith, q))
-    cell_high k (suc i) d l a (inr q) = (highest_closed d).1 (k, i, l, q ∙ ap (λ (xs : List ℕ). length xs) (same_list k l), subst (λ (xs : List ℕ). At xs i d) (same_list k l) a)
+    cell_high k (suc i) d l a (inr q) =
+        (highest_closed d).1 (
+          k,
+          i,
+          l,
+          q ∙ ap (λ (xs : List ℕ). length xs) (same_list k l),
+          subst (λ (xs : List ℕ). At xs i d) (same_list k l) a,
+        )
 
     pub touches_border : (h : Half) → Touches r h → AtBorder vs h
     touches_border (under e) (c, C, a, b) = cell_low c.strip c.index e (fits_moves c C) a b

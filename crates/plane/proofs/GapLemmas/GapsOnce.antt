@@ -21,25 +21,34 @@ use Rattle.plane.proofs.GapLemmas.GapCells.{some_none, some_same}
 
 -- ---- one move more
 gaps_more : (k : ℕ) (now : List ℕ) (gaps : List Gap) (vs : List Move) (v : Move)
-    → gaps_from k now gaps (vs ++ (v ∷ [])) ≡ next_gaps (k + length vs) (live_from now vs) (gaps_from k now gaps vs) v
-gaps_more k now gaps [] v = let e : k ≡ k + 0 = omega arith in ap (λ (i : ℕ). next_gaps i now gaps v) e
+    → gaps_from k now gaps (vs ++ (v ∷ []))
+    ≡ next_gaps (k + length vs) (live_from now vs) (gaps_from k now gaps vs) v
+gaps_more k now gaps [] v =
+    let e : k ≡ k + 0 = omega arith in ap (λ (i : ℕ). next_gaps i now gaps v) e
 gaps_more k now gaps (u ∷ vs) v =
     let e : suc k + length vs ≡ k + suc (length vs) = omega arith in
     let s = after (step_of now u) in
     let g = next_gaps k now gaps u in
-    gaps_more (suc k) s g vs v ∙ ap (λ (i : ℕ). next_gaps i (live_from s vs) (gaps_from (suc k) s g vs) v) e
+    gaps_more (suc k) s g vs v
+    ∙ ap (λ (i : ℕ). next_gaps i (live_from s vs) (gaps_from (suc k) s g vs) v) e
 
 closed_more : (k : ℕ) (now : List ℕ) (gaps : List Gap) (vs : List Move) (v : Move)
-    → closed_from k now gaps (vs ++ (v ∷ [])) ≡ closed_from k now gaps vs ++ closed_at (gaps_from k now gaps vs) v
+    → closed_from k now gaps (vs ++ (v ∷ []))
+    ≡ closed_from k now gaps vs ++ closed_at (gaps_from k now gaps vs) v
 closed_more k now gaps [] v = append-nil (closed_at gaps v)
 closed_more k now gaps (u ∷ vs) v =
     let s = after (step_of now u) in
     let g = next_gaps k now gaps u in
-    ap (λ (gs : List Gap). closed_at gaps u ++ gs) (closed_more (suc k) s g vs v) ∙ sym (append_assoc (closed_at gaps u) (closed_from (suc k) s g vs) (closed_at (gaps_from (suc k) s g vs) v))
+    ap (λ (gs : List Gap). closed_at gaps u ++ gs) (closed_more (suc k) s g vs v)
+    ∙ sym (append_assoc (closed_at gaps u) (closed_from (suc k) s g vs)
+    (closed_at (gaps_from (suc k) s g vs) v))
 
 pub open_more : (vs : List Move) (v : Move)
     → open_gaps (vs ++ (v ∷ [])) ≡ next_gaps (length vs) (live_from [] vs) (open_gaps vs) v
-open_more vs v = let e : 0 + length vs ≡ length vs = omega arith in gaps_more 0 [] (no_gap ∷ []) vs v ∙ ap (λ (i : ℕ). next_gaps i (live_from [] vs) (open_gaps vs) v) e
+open_more vs v =
+    let e : 0 + length vs ≡ length vs = omega arith in
+    gaps_more 0 [] (no_gap ∷ []) vs v
+    ∙ ap (λ (i : ℕ). next_gaps i (live_from [] vs) (open_gaps vs) v) e
 
 pub all_closed_more : (vs : List Move) (v : Move)
     → closed_gaps (vs ++ (v ∷ [])) ≡ closed_gaps vs ++ closed_at (open_gaps vs) v
@@ -65,13 +74,18 @@ between_once k l (e ∷ es) u f h = (
     | inl q ↦ f e (inl refl) q
     | inr b ↦ f b.0 (inr b.1) b.2
   ]),
-  between_once k (Some e) es u (λ d i q. h.0 (subst (λ (x : ℕ). Has x es) (sym (some_same e d q)) i)) h.1,
+  between_once k (Some e) es u
+      (λ d i q. h.0 (subst (λ (x : ℕ). Has x es) (sym (some_same e d q)) i)) h.1,
 )
 
 -- the last edge of a list is one of its edges
 last_in : (l : Option ℕ) (es : List ℕ) (e : ℕ) → last_or l es ≡ Some e → (l ≡ Some e) ⊎ Has e es
 last_in l [] e q = inl q
-last_in l (d ∷ es) e q = elim (last_in (Some d) es e q) [ inl w ↦ inr (inl (sym (some_same d e w))) | inr h ↦ inr (inr h) ]
+last_in l (d ∷ es) e q =
+    elim (last_in (Some d) es e q) [
+      | inl w ↦ inr (inl (sym (some_same d e w)))
+      | inr h ↦ inr (inr h)
+    ]
 
 opened_once : (k : ℕ) (s : Step) → Once (after s) → Once (opened k s)
 opened_once k s h =
@@ -110,16 +124,22 @@ module _ (k : ℕ) (now : List ℕ) (gaps : List Gap) (v : Move) (d : Differ k g
 
   -- the real gaps in three parts
   parts : Once (filter is_real low ++ (filter is_real mid ++ filter is_real top))
-  parts = subst (λ (gs : List Gap). Once gs) (ap (λ (gs : List Gap). filter is_real gs) (sym (whole_three v.position v.ending gaps)) ∙ real_append low (mid ++ top) ∙ ap (λ (gs : List Gap). filter is_real low ++ gs) (real_append mid top)) d.once
+  parts = subst (λ (gs : List Gap). Once gs)
+      (ap (λ (gs : List Gap). filter is_real gs) (sym (whole_three v.position v.ending gaps))
+      ∙ real_append low (mid ++ top)
+      ∙ ap (λ (gs : List Gap). filter is_real low ++ gs) (real_append mid top)) d.once
 
   was : (g : Gap) → Has g (low ++ (mid ++ top)) → Has g gaps
   was g h = subst (λ (gs : List Gap). Has g gs) (whole_three v.position v.ending gaps) h
 
   was_low : (g : Gap) → Has g (filter is_real low) → Has g gaps × (is_real g ≡ true)
-  was_low g h = let f = has_filter is_real low g h in (was g (has_front g low (mid ++ top) f.0), f.1)
+  was_low g h =
+      let f = has_filter is_real low g h in (was g (has_front g low (mid ++ top) f.0), f.1)
 
   was_top : (g : Gap) → Has g (filter is_real top) → Has g gaps × (is_real g ≡ true)
-  was_top g h = let f = has_filter is_real top g h in (was g (has_back g low (mid ++ top) (has_back g mid top f.0)), f.1)
+  was_top g h =
+      let f = has_filter is_real top g h in
+      (was g (has_back g low (mid ++ top) (has_back g mid top f.0)), f.1)
 
   not_fresh : (g : Gap) → Has g gaps × (is_real g ≡ true) → Has g (filter is_real fresh) → ⊥
   not_fresh g a h =
@@ -133,11 +153,19 @@ module _ (k : ℕ) (now : List ℕ) (gaps : List Gap) (v : Move) (d : Differ k g
         let R = filter is_real in
         let low_once = once_front (R low) (R mid ++ R top) parts in
         let top_once = once_back (R mid) (R top) (once_back (R low) (R mid ++ R top) parts) in
-        let low_top : (g : Gap) → Has g (R low) → Has g (R top) → ⊥ = λ g a b. once_apart (R low) (R mid ++ R top) g parts a (has_back g (R mid) (R top) b) in
-        subst (λ (gs : List Gap). Once gs) (sym (real_append low (fresh ++ top) ∙ ap (λ (gs : List Gap). R low ++ gs) (real_append fresh top)))
+        let low_top : (g : Gap) → Has g (R low) → Has g (R top)
+        → ⊥ = λ g a b. once_apart (R low) (R mid ++ R top) g parts a
+        (has_back g (R mid) (R top) b) in
+        subst (λ (gs : List Gap). Once gs)
+        (sym (real_append low (fresh ++ top)
+        ∙ ap (λ (gs : List Gap). R low ++ gs) (real_append fresh top)))
         (once_append (R low) (R fresh ++ R top) low_once
-        (once_append (R fresh) (R top) (filter_once is_real fresh (opened_once k (step_of now v) o)) top_once (λ g a b. not_fresh g (was_top g b) a))
-        (λ g a b. elim (has_append g (R fresh) (R top) b) [ inl c ↦ not_fresh g (was_low g a) c | inr c ↦ low_top g a c ]));
+        (once_append (R fresh) (R top) (filter_once is_real fresh (opened_once k (step_of now v) o))
+        top_once (λ g a b. not_fresh g (was_top g b) a))
+        (λ g a b. elim (has_append g (R fresh) (R top) b) [
+          | inl c ↦ not_fresh g (was_low g a) c
+          | inr c ↦ low_top g a c
+        ]));
     early = λ g h r. elim (after_move k now gaps v g h) [
       | inl a ↦ (let l = d.early g a r in omega (arith, l))
       | inr b ↦ (let e = opened_event k (step_of now v) g b in omega (arith, e))
@@ -151,7 +179,8 @@ module _ (k : ℕ) (now : List ℕ) (gaps : List Gap) (v : Move) (d : Differ k g
       let r = (closed_was gaps v g c).1 in
       let inside = once_back (R low) (R mid ++ R top) parts in
       elim (has_append g low (fresh ++ top) h) [
-        | inl a ↦ once_apart (R low) (R mid ++ R top) g parts (filter_has is_real low g a r) (has_front g (R mid) (R top) c)
+        | inl a ↦ once_apart (R low) (R mid ++ R top) g parts (filter_has is_real low g a r)
+            (has_front g (R mid) (R top) c)
         | inr b ↦ elim (has_append g fresh top b) [
           | inl a ↦ not_fresh g (closed_was gaps v g c) (filter_has is_real fresh g a r)
           | inr a ↦ once_apart (R mid) (R top) g inside c (filter_has is_real top g a r)
@@ -162,16 +191,18 @@ module _ (k : ℕ) (now : List ℕ) (gaps : List Gap) (v : Move) (d : Differ k g
 closed_later : (k : ℕ) (now : List ℕ) (gaps : List Gap) (vs : List Move) (g : Gap)
     → Has g (closed_from k now gaps vs) → Has g gaps ⊎ (k ≤ g.event)
 closed_later k now gaps [] g h = absurd h
-closed_later k now gaps (v ∷ vs) g h = elim (has_append g (closed_at gaps v) (closed_from (suc k) (after (step_of now v)) (next_gaps k now gaps v) vs) h) [
-  | inl a ↦ inl (closed_was gaps v g a).0
-  | inr b ↦ elim (closed_later (suc k) (after (step_of now v)) (next_gaps k now gaps v) vs g b) [
-    | inl c ↦ elim (after_move k now gaps v g c) [
-      | inl w ↦ inl w
-      | inr o ↦ (let e = opened_event k (step_of now v) g o in inr (omega (arith, e)))
+closed_later k now gaps (v ∷ vs) g h =
+    elim (has_append g (closed_at gaps v)
+    (closed_from (suc k) (after (step_of now v)) (next_gaps k now gaps v) vs) h) [
+      | inl a ↦ inl (closed_was gaps v g a).0
+      | inr b ↦ elim (closed_later (suc k) (after (step_of now v)) (next_gaps k now gaps v) vs g b) [
+        | inl c ↦ elim (after_move k now gaps v g c) [
+          | inl w ↦ inl w
+          | inr o ↦ (let e = opened_event k (step_of now v) g o in inr (omega (arith, e)))
+        ]
+        | inr l ↦ inr (omega (arith, l))
+      ]
     ]
-    | inr l ↦ inr (omega (arith, l))
-  ]
-]
 
 closed_differ : (k : ℕ) (now : List ℕ) (gaps : List Gap) (vs : List Move) → Differ k gaps
     → ((j : ℕ) → j ≤ length vs → Once (live_from now (take j vs)))
@@ -183,8 +214,12 @@ closed_differ k now gaps (v ∷ vs) d o =
     let once_now : Once s = first vs (o 1 (omega arith)) in
     let mid = take (suc v.ending) (drop v.position gaps) in
     once_append (closed_at gaps v) (closed_from (suc k) s g vs)
-    (once_front (filter is_real mid) (filter is_real (drop (suc (v.position + v.ending)) gaps)) (once_back (filter is_real (take v.position gaps)) (filter is_real mid ++ filter is_real (drop (suc (v.position + v.ending)) gaps)) (parts k now gaps v d)))
-    (closed_differ (suc k) s g vs (later_differ k now gaps v d once_now) (λ j l. o (suc j) (omega (arith, l))))
+    (once_front (filter is_real mid) (filter is_real (drop (suc (v.position + v.ending)) gaps))
+    (once_back (filter is_real (take v.position gaps))
+    (filter is_real mid ++ filter is_real (drop (suc (v.position + v.ending)) gaps))
+    (parts k now gaps v d)))
+    (closed_differ (suc k) s g vs (later_differ k now gaps v d once_now)
+    (λ j l. o (suc j) (omega (arith, l))))
     (λ x a b. elim (closed_later (suc k) s g vs x b) [
       | inl c ↦ closed_gone k now gaps v d x a c
       | inr l ↦ (let w = closed_was gaps v x a in let e = d.early x w.0 w.1 in omega (arith, l, e))
@@ -196,7 +231,11 @@ closed_differ k now gaps (v ∷ vs) d o =
 
 pub closed_once : (vs : List Move) → ((k : ℕ) → k ≤ length vs → Once (live_from [] (take k vs)))
     → Once (closed_gaps vs)
-closed_once vs o = closed_differ 0 [] (no_gap ∷ []) vs (record { once = tt; early = λ g h r. absurd (unreal g h r) }) o
+closed_once vs o =
+    closed_differ 0 [] (no_gap ∷ []) vs (record {
+      once = tt;
+      early = λ g h r. absurd (unreal g h r);
+    }) o
   where
     unreal : (g : Gap) → Has g (no_gap ∷ []) → is_real g ≡ true → ⊥
     unreal g (inl q) r = subst (λ (b : Bool). cond b ⊥ (Unit {0})) (sym (ap is_real q) ∙ r) tt
@@ -208,7 +247,11 @@ lower_has : (l : Option ℕ) (xs : List ℕ) (x : Sides) (d : ℕ) → Has x (be
 lower_has l [] x d (inl q) e = inl (sym (ap (λ (y : Sides). y.0) q) ∙ e)
 lower_has l [] x d (inr n) e = absurd n
 lower_has l (y ∷ ys) x d (inl q) e = inl (sym (ap (λ (z : Sides). z.0) q) ∙ e)
-lower_has l (y ∷ ys) x d (inr h) e = elim (lower_has (Some y) ys x d h e) [ inl q ↦ inr (inl (sym (some_same y d q))) | inr k ↦ inr (inr k) ]
+lower_has l (y ∷ ys) x d (inr h) e =
+    elim (lower_has (Some y) ys x d h e) [
+      | inl q ↦ inr (inl (sym (some_same y d q)))
+      | inr k ↦ inr (inr k)
+    ]
 
 upper_has : (l : Option ℕ) (xs : List ℕ) (x : Sides) (e : ℕ) → Has x (beside l xs None)
     → x.1 ≡ Some e → Has e xs
@@ -225,7 +268,8 @@ closed_edges vs g e fit h q =
       k,
       l,
       elim q [
-        | inl a ↦ elim (lower_has None (live_from [] (take k vs)) (sides g) e i a) [ inl b ↦ absurd (some_none e (sym b)) | inr b ↦ b ]
+        | inl a ↦ elim (lower_has None (live_from [] (take k vs)) (sides g) e i a)
+            [ inl b ↦ absurd (some_none e (sym b)) | inr b ↦ b ]
         | inr a ↦ upper_has None (live_from [] (take k vs)) (sides g) e i a
       ],
     )
@@ -233,7 +277,9 @@ closed_edges vs g e fit h q =
 pub closed_event : (vs : List Move) (g : Gap) → Has g (closed_gaps vs) → g.event < length vs
 closed_event vs g h = elim (closed_new g 0 [] (no_gap ∷ []) vs h).1 [
   | inl a ↦ absurd (bare a (closed_new g 0 [] (no_gap ∷ []) vs h).0)
-  | inr a ↦ (let l = a.1 in let e = opened_event (0 + a.0) (get_or (steps_from [] vs) a.0 no_step) g a.2 in omega (arith, l, e))
+  | inr a ↦ (let l = a.1 in
+      let e = opened_event (0 + a.0) (get_or (steps_from [] vs) a.0 no_step) g a.2 in
+      omega (arith, l, e))
 ]
   where
     bare : Has g (no_gap ∷ []) → is_real g ≡ true → ⊥

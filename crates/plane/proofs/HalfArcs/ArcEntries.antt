@@ -1,4 +1,5 @@
--- A segment from inside the circle to outside, not under the chord, has a place in the tube on either side of the circle, or it goes through an end of the half arc.
+-- A segment from inside the circle to outside, not under the chord, has a place in the tube on
+-- either side of the circle, or it goes through an end of the half arc.
 use Rattle.std.proofs.Common.{◌≡◌, ℤ, pos, ◌+ℤ◌, ◌*ℤ◌, ◌-ℤ◌, ◌<ℤ◌, ◌≤ℤ◌, ◌⊎◌, inl, inr, List, []}
 use Rattle.std.proofs.Common.{◌∷◌, refl, arith, ap, sym, ◌∙◌, subst}
 use Rattle.std.proofs.lemmas.Int.{ints, by_lt_z}
@@ -44,14 +45,18 @@ outers p (b ∷ rest) = b.outer ∷ outers b.inner rest
 
 inner_rises : (c : Cap) (q p : Point) (bs : List Bay) → IsCapStrip c q p bs → Rises p (inners bs)
 inner_rises c q p [] h = tt
-inner_rises c q p (b ∷ rest) h = ((let u = h.0.up in let v = h.0.on in omega (arith, ints, u, v)), inner_rises c b.outer b.inner rest h.4)
+inner_rises c q p (b ∷ rest) h = (
+  (let u = h.0.up in let v = h.0.on in omega (arith, ints, u, v)),
+  inner_rises c b.outer b.inner rest h.4,
+)
 
 outer_rises : (c : Cap) (q p : Point) (bs : List Bay) → IsCapStrip c q p bs → Rises q (outers p bs)
 outer_rises c q p [] h = (h.1, tt)
 outer_rises c q p (b ∷ rest) h = (before h.1, outer_rises c b.outer b.inner rest h.4)
   where
     before : (q ≡ p) ⊎ IsDip q p b.outer → q.x <ℤ b.outer.x
-    before (inl e) = let k = ap (λ (v : Point). v.x) e in let u = h.0.up in omega (arith, ints, k, u)
+    before (inl e) =
+        let k = ap (λ (v : Point). v.x) e in let u = h.0.up in omega (arith, ints, k, u)
     before (inr d) = let k = d.up in let u = h.0.up in omega (arith, ints, k, u)
 
 inner_last : (c : Cap) (q p : Point) (bs : List Bay) → IsCapStrip c q p bs
@@ -83,7 +88,9 @@ tests_under z q p (b ∷ rest) h = (h.0, tests_under z b.outer b.inner rest h.1)
 inner_there : (c : Cap) (q p : Point) (bs : List Bay) (z : Vector) → Place z → IsCapStrip c q p bs
     → OnChain z p (inners bs) → InBays p bs z
 inner_there c q p [] z hz h k = absurd k
-inner_there c q p (b ∷ rest) z hz h (inl k) = inl (on_straight p b.inner b.outer z hz (let u = h.0.up in let v = h.0.on in omega (arith, ints, u, v)) k.0 k.1)
+inner_there c q p (b ∷ rest) z hz h (inl k) =
+    inl (on_straight p b.inner b.outer z hz (let u = h.0.up in let v = h.0.on in
+    omega (arith, ints, u, v)) k.0 k.1)
 inner_there c q p (b ∷ rest) z hz h (inr k) = inr (inner_there c b.outer b.inner rest z hz h.4 k)
 
 turned : (z : Vector) (p q r : Point) → InTriangle z (point p) (point q) (point r)
@@ -97,8 +104,10 @@ turned z p q r t = record {
   k_least = t.j_least;
   some = (let s = t.some in omega (arith, ints, s));
   is = record {
-    x = ap (λ (v : ℤ). z.x *ℤ v) (one t.i t.j t.k (pos 1) (pos 1) (pos 1)) ∙ t.is.x ∙ ap (λ (v : ℤ). v *ℤ z.n) (sym (one t.i t.j t.k p.x q.x r.x));
-    y = ap (λ (v : ℤ). z.y *ℤ v) (one t.i t.j t.k (pos 1) (pos 1) (pos 1)) ∙ t.is.y ∙ ap (λ (v : ℤ). v *ℤ z.n) (sym (one t.i t.j t.k p.y q.y r.y));
+    x = ap (λ (v : ℤ). z.x *ℤ v) (one t.i t.j t.k (pos 1) (pos 1) (pos 1)) ∙ t.is.x
+        ∙ ap (λ (v : ℤ). v *ℤ z.n) (sym (one t.i t.j t.k p.x q.x r.x));
+    y = ap (λ (v : ℤ). z.y *ℤ v) (one t.i t.j t.k (pos 1) (pos 1) (pos 1)) ∙ t.is.y
+        ∙ ap (λ (v : ℤ). v *ℤ z.n) (sym (one t.i t.j t.k p.y q.y r.y));
   };
 }
   where
@@ -111,10 +120,15 @@ outer_there : (c : Cap) (q p : Point) (bs : List Bay) (z : Vector) → Place z �
     → Found z q p bs ⊎ (InColumn q p z × (side (line q p) z ≡ pos 0) × (q.x <ℤ p.x))
 outer_there c q p [] z hz h (inl k) = inr (k.0, k.1, h.1)
 outer_there c q p [] z hz h (inr k) = absurd k
-outer_there c q p (b ∷ rest) z hz h (inl k) = inl (inl (turned z q b.outer p (on_straight q b.outer p z hz (outer_rises c q p (b ∷ rest) h).0 k.0 k.1)))
+outer_there c q p (b ∷ rest) z hz h (inl k) =
+    inl (inl (turned z q b.outer p
+    (on_straight q b.outer p z hz (outer_rises c q p (b ∷ rest) h).0 k.0 k.1)))
 outer_there c q p (b ∷ rest) z hz h (inr k) = elim (outer_there c b.outer b.inner rest z hz h.4 k) [
   | inl f ↦ inl (inr (found_step z p b rest f))
-  | inr e ↦ inl (inr (inl (inl (turned z b.inner b.outer p (swapped z b.outer b.inner p (on_straight b.outer b.inner p z hz e.2 e.0 e.1))))))
+  | inr e ↦ inl
+      (inr (inl (inl
+      (turned z b.inner b.outer p
+      (swapped z b.outer b.inner p (on_straight b.outer b.inner p z hz e.2 e.0 e.1))))))
 ]
   where
     swapped : (z : Vector) (p q r : Point) → InTriangle z (point p) (point q) (point r)
@@ -128,8 +142,10 @@ outer_there c q p (b ∷ rest) z hz h (inr k) = elim (outer_there c b.outer b.in
       k_least = t.k_least;
       some = (let s = t.some in omega (arith, ints, s));
       is = record {
-        x = ap (λ (v : ℤ). z.x *ℤ v) (one t.i t.j t.k (pos 1) (pos 1) (pos 1)) ∙ t.is.x ∙ ap (λ (v : ℤ). v *ℤ z.n) (sym (one t.i t.j t.k p.x q.x r.x));
-        y = ap (λ (v : ℤ). z.y *ℤ v) (one t.i t.j t.k (pos 1) (pos 1) (pos 1)) ∙ t.is.y ∙ ap (λ (v : ℤ). v *ℤ z.n) (sym (one t.i t.j t.k p.y q.y r.y));
+        x = ap (λ (v : ℤ). z.x *ℤ v) (one t.i t.j t.k (pos 1) (pos 1) (pos 1)) ∙ t.is.x
+            ∙ ap (λ (v : ℤ). v *ℤ z.n) (sym (one t.i t.j t.k p.x q.x r.x));
+        y = ap (λ (v : ℤ). z.y *ℤ v) (one t.i t.j t.k (pos 1) (pos 1) (pos 1)) ∙ t.is.y
+            ∙ ap (λ (v : ℤ). v *ℤ z.n) (sym (one t.i t.j t.k p.y q.y r.y));
       };
     }
       where
@@ -149,13 +165,18 @@ between_at p q z hz h k e =
       t_least = (let a = t.j_least in let b = t.k_least in omega (arith, ints, a, b));
       some = (let s = t.some in omega (arith, ints, s));
       is = record {
-        x = ap (λ (v : ℤ). z.x *ℤ v) (one t.i t.j t.k (pos 1) (pos 1)) ∙ t.is.x ∙ ap (λ (v : ℤ). v *ℤ z.n) (sym (one t.i t.j t.k p.x q.x));
-        y = ap (λ (v : ℤ). z.y *ℤ v) (one t.i t.j t.k (pos 1) (pos 1)) ∙ t.is.y ∙ ap (λ (v : ℤ). v *ℤ z.n) (sym (one t.i t.j t.k p.y q.y));
+        x = ap (λ (v : ℤ). z.x *ℤ v) (one t.i t.j t.k (pos 1) (pos 1)) ∙ t.is.x
+            ∙ ap (λ (v : ℤ). v *ℤ z.n) (sym (one t.i t.j t.k p.x q.x));
+        y = ap (λ (v : ℤ). z.y *ℤ v) (one t.i t.j t.k (pos 1) (pos 1)) ∙ t.is.y
+            ∙ ap (λ (v : ℤ). v *ℤ z.n) (sym (one t.i t.j t.k p.y q.y));
       };
     }
   where
     one : (i j k x y : ℤ) → (i *ℤ x) +ℤ ((j +ℤ k) *ℤ y) ≡ ((i *ℤ x) +ℤ (j *ℤ y)) +ℤ (k *ℤ y)
-    one i j k x y = ring (plus (times (at 0) (at 3)) (times (plus (at 1) (at 2)) (at 4))) (plus (plus (times (at 0) (at 3)) (times (at 1) (at 4))) (times (at 2) (at 4))) (vars (i ∷ j ∷ k ∷ x ∷ y ∷ [])) refl
+    one i j k x y =
+        ring (plus (times (at 0) (at 3)) (times (plus (at 1) (at 2)) (at 4)))
+        (plus (plus (times (at 0) (at 3)) (times (at 1) (at 4))) (times (at 2) (at 4)))
+        (vars (i ∷ j ∷ k ∷ x ∷ y ∷ [])) refl
 
 between_only : (h : HalfArc) (z : Vector) (p q : Point) → IsCap (cap h)
     → Between (seen h z) (point (seen_point h p)) (point (seen_point h q))
@@ -166,24 +187,34 @@ between_only h z p q hc b = record {
   s_least = b.s_least;
   t_least = b.t_least;
   some = b.some;
-  is = seen_only h z (mix b.s (point p) b.t (point q)) hc (subst (λ (v : Vector). Same (seen h z) v) (sym (seen-mix h b.s (point p) b.t (point q))) b.is);
+  is = seen_only h z (mix b.s (point p) b.t (point q)) hc
+      (subst (λ (v : Vector). Same (seen h z) v)
+      (sym (seen-mix h b.s (point p) b.t (point q))) b.is);
 }
 
 inner_on : (h : HalfArc) (p : Point) (bs : List Bay) (z : Vector) → IsCap (cap h) → Place z
     → Rises (seen_point h p) (inners (seen_bays h bs))
     → OnChain (seen h z) (seen_point h p) (inners (seen_bays h bs)) → OnInner z p bs
 inner_on h p [] z hc hz up k = absurd k
-inner_on h p (b ∷ rest) z hc hz up (inl k) = inl (between_only h z p b.inner hc (between_at (seen_point h p) (seen_point h b.inner) (seen h z) hz up.0 k.0 k.1))
+inner_on h p (b ∷ rest) z hc hz up (inl k) =
+    inl (between_only h z p b.inner hc
+    (between_at (seen_point h p) (seen_point h b.inner) (seen h z) hz up.0 k.0 k.1))
 inner_on h p (b ∷ rest) z hc hz up (inr k) = inr (inner_on h b.inner rest z hc hz up.1 k)
 
 outer_on : (h : HalfArc) (q p e : Point) (bs : List Bay) (z : Vector) → IsCap (cap h) → Place z
     → EndsAt p e bs → Rises (seen_point h q) (outers (seen_point h p) (seen_bays h bs))
     → OnChain (seen h z) (seen_point h q) (outers (seen_point h p) (seen_bays h bs))
     → OnOuter z q e bs
-outer_on h q p e [] z hc hz end up (inl k) = subst (λ (v : Point). Between z (point q) (point v)) end (between_only h z q p hc (between_at (seen_point h q) (seen_point h p) (seen h z) hz up.0 k.0 k.1))
+outer_on h q p e [] z hc hz end up (inl k) =
+    subst (λ (v : Point). Between z (point q) (point v)) end
+    (between_only h z q p hc
+    (between_at (seen_point h q) (seen_point h p) (seen h z) hz up.0 k.0 k.1))
 outer_on h q p e [] z hc hz end up (inr k) = absurd k
-outer_on h q p e (b ∷ rest) z hc hz end up (inl k) = inl (between_only h z q b.outer hc (between_at (seen_point h q) (seen_point h b.outer) (seen h z) hz up.0 k.0 k.1))
-outer_on h q p e (b ∷ rest) z hc hz end up (inr k) = inr (outer_on h b.outer b.inner e rest z hc hz end up.1 k)
+outer_on h q p e (b ∷ rest) z hc hz end up (inl k) =
+    inl (between_only h z q b.outer hc
+    (between_at (seen_point h q) (seen_point h b.outer) (seen h z) hz up.0 k.0 k.1))
+outer_on h q p e (b ∷ rest) z hc hz end up (inr k) =
+    inr (outer_on h b.outer b.inner e rest z hc hz end up.1 k)
 
 -- ---- the part of the segment in the slab
 abbrev AtCorner : Cap → Vector → Type 0
@@ -213,7 +244,13 @@ clip c u v hc hu hv slab uy vy out =
     (λ (l : v.x <ℤ pos 0). at_left l)
     (λ (l : pos 0 ≤ℤ v.x). by_lt_z (c.chord *ℤ v.n) v.x
     (λ (r : (c.chord *ℤ v.n) <ℤ v.x). at_right r)
-    (λ (r : v.x ≤ℤ (c.chord *ℤ v.n)). record { at = v; way = way_end u v; slab = record { low = l; high = r }; high = vy; outside = inl out }))
+    (λ (r : v.x ≤ℤ (c.chord *ℤ v.n)). record {
+      at = v;
+      way = way_end u v;
+      slab = record { low = l; high = r };
+      high = vy;
+      outside = inl out;
+    }))
   where
     ul : pos 0 ≤ℤ u.x
     ul = slab.low
@@ -238,7 +275,9 @@ clip c u v hc hu hv slab uy vy out =
           slab = record { low = zero_least _ e; high = zero_most _ _ e m };
           high = high;
           outside = by_lt_z (pos 0) z.y
-              (λ (k : pos 0 <ℤ z.y). inl (wall_high c z hc hz (ap (λ (x : ℤ). x *ℤ (z.x -ℤ (c.chord *ℤ z.n))) e ∙ omega (arith, ints)) k))
+              (λ (k : pos 0 <ℤ z.y). inl
+              (wall_high c z hc hz (ap (λ (x : ℤ). x *ℤ (z.x -ℤ (c.chord *ℤ z.n))) e
+              ∙ omega (arith, ints)) k))
               (λ (k : z.y ≤ℤ pos 0). inr (inl (e, omega (arith, ints, high, k))));
         }
       where
@@ -266,7 +305,8 @@ clip c u v hc hu hv slab uy vy out =
           slab = record { low = end_least _ _ e m; high = end_most _ _ e };
           high = high;
           outside = by_lt_z (pos 0) z.y
-              (λ (k : pos 0 <ℤ z.y). inl (wall_high c z hc hz (product_of_zero z.x (z.x -ℤ (c.chord *ℤ z.n)) e) k))
+              (λ (k : pos 0 <ℤ z.y). inl
+              (wall_high c z hc hz (product_of_zero z.x (z.x -ℤ (c.chord *ℤ z.n)) e) k))
               (λ (k : z.y ≤ℤ pos 0). inr (inr (equal _ _ e, omega (arith, ints, high, k))));
         }
       where
@@ -299,10 +339,23 @@ pub record IsThroughEnd (h : HalfArc) (p q y : Vector) : Type 0 where
 -- a place of the segment's picture
 real_of : (h : HalfArc) (u v y : Vector) → IsOnWay (seen h u) (seen h v) y
     → (x : Vector) × IsOnWay u v x × (seen h x ≡ y)
-real_of h u v y w = (mix w.s u w.t v, record { s = w.s; t = w.t; s_least = w.s_least; t_least = w.t_least; some = w.some; is = refl }, seen-mix h w.s u w.t v ∙ sym w.is)
+real_of h u v y w = (
+  mix w.s u w.t v,
+  record {
+    s = w.s;
+    t = w.t;
+    s_least = w.s_least;
+    t_least = w.t_least;
+    some = w.some;
+    is = refl;
+  },
+  seen-mix h w.s u w.t v ∙ sym w.is,
+)
 
-module _ (h : HalfArc) (b : Bay) (rest : List Bay) (t : IsTube h (b ∷ rest)) (u v : Vector) (hu : Place u) (hv : Place v)
-    (uy : pos 0 ≤ℤ bow h u) (vy : pos 0 ≤ℤ bow h v) (inside : power h u <ℤ pos 0) (outside : pos 0 <ℤ power h v) where
+module _ (h : HalfArc) (b : Bay) (rest : List Bay) (t : IsTube h (b ∷ rest)) (u v : Vector)
+    (hu : Place u) (hv : Place v)
+    (uy : pos 0 ≤ℤ bow h u) (vy : pos 0 ≤ℤ bow h v) (inside : power h u <ℤ pos 0)
+    (outside : pos 0 <ℤ power h v) where
   hc : IsCap (cap h)
   hc = tube_cap h (b ∷ rest) t
 
@@ -325,10 +378,16 @@ module _ (h : HalfArc) (b : Bay) (rest : List Bay) (t : IsTube h (b ∷ rest)) (
   shape_u = let k = shape_below h u hc inside in omega (arith, ints, k)
 
   shape_high : (z : Vector) → pos 0 <ℤ power h z → pos 0 <ℤ shape (cap h) (seen h z)
-  shape_high z k = by_lt_z (pos 0) (shape (cap h) (seen h z)) (λ l. l) (λ (l : shape (cap h) (seen h z) ≤ℤ pos 0). let m = power_most h z hc l in absurd (omega (arith, ints, k, m)))
+  shape_high z k =
+      by_lt_z (pos 0) (shape (cap h) (seen h z)) (λ l. l)
+      (λ (l : shape (cap h) (seen h z) ≤ℤ pos 0). let m = power_most h z hc l in
+      absurd (omega (arith, ints, k, m)))
 
   power_high : (z : Vector) → pos 0 <ℤ shape (cap h) (seen h z) → pos 0 <ℤ power h z
-  power_high z k = by_lt_z (pos 0) (power h z) (λ l. l) (λ (l : power h z ≤ℤ pos 0). let m = shape_most h z hc l in absurd (omega (arith, ints, k, m)))
+  power_high z k =
+      by_lt_z (pos 0) (power h z) (λ l. l)
+      (λ (l : power h z ≤ℤ pos 0). let m = shape_most h z hc l in
+      absurd (omega (arith, ints, k, m)))
 
   slab : InSlab (cap h) U
   slab = cap_slab (cap h) U hc hu uy shape_u
@@ -361,73 +420,115 @@ module _ (h : HalfArc) (b : Bay) (rest : List Bay) (t : IsTube h (b ∷ rest)) (
 
       end : (x : Vector) → seen h x ≡ W → AtCorner (cap h) W → AtEnds h x
       end x e (inl c) = inl (seen_only h x (point h.from) hc (record {
-        x = ap (λ (z : Vector). z.x *ℤ pos 1) e ∙ times_one W.x ∙ c.0 ∙ sym (product_zero (along-from h));
-        y = ap (λ (z : Vector). z.y *ℤ pos 1) e ∙ times_one W.y ∙ c.1 ∙ sym (product_zero (bow-from h));
+        x = ap (λ (z : Vector). z.x *ℤ pos 1) e ∙ times_one W.x ∙ c.0
+            ∙ sym (product_zero (along-from h));
+        y = ap (λ (z : Vector). z.y *ℤ pos 1) e ∙ times_one W.y ∙ c.1
+            ∙ sym (product_zero (bow-from h));
       }))
         where
           product_zero : {a : ℤ} → a ≡ pos 0 → a *ℤ x.n ≡ pos 0
           product_zero {a} e = ap (λ (y : ℤ). y *ℤ x.n) e ∙ omega (arith, ints)
       end x e (inr c) = inr (seen_only h x (point h.to) hc (record {
-        x = ap (λ (z : Vector). z.x *ℤ pos 1) e ∙ times_one W.x ∙ c.0 ∙ ap (λ (z : Vector). (cap h).chord *ℤ z.n) (sym e) ∙ ap (λ (y : ℤ). y *ℤ x.n) (sym (along-to h));
-        y = ap (λ (z : Vector). z.y *ℤ pos 1) e ∙ times_one W.y ∙ c.1 ∙ sym (product_zero (bow-to h));
+        x = ap (λ (z : Vector). z.x *ℤ pos 1) e ∙ times_one W.x ∙ c.0
+            ∙ ap (λ (z : Vector). (cap h).chord *ℤ z.n) (sym e)
+            ∙ ap (λ (y : ℤ). y *ℤ x.n) (sym (along-to h));
+        y = ap (λ (z : Vector). z.y *ℤ pos 1) e ∙ times_one W.y ∙ c.1
+            ∙ sym (product_zero (bow-to h));
       }))
         where
           product_zero : {a : ℤ} → a ≡ pos 0 → a *ℤ x.n ≡ pos 0
           product_zero {a} e = ap (λ (y : ℤ). y *ℤ x.n) e ∙ omega (arith, ints)
 
   part : (y : Vector) → IsOnWay U W y → IsOnWay U V y
-  part y w = subst (λ (x : Vector). IsOnWay U V x) (sym w.is) (way_mix U V U W w.s w.t w.s_least w.t_least w.some (way_start U V) k.way)
+  part y w = subst (λ (x : Vector). IsOnWay U V x) (sym w.is)
+      (way_mix U V U W w.s w.t w.s_least w.t_least w.some (way_start U V) k.way)
 
-  pub inner_entry : ((y : Vector) × IsInnerEntry h (b ∷ rest) u v y) ⊎ ((y : Vector) × IsThroughEnd h u v y)
+  pub inner_entry : ((y : Vector) × IsInnerEntry h (b ∷ rest) u v y)
+      ⊎ ((y : Vector) × IsThroughEnd h u v y)
   inner_entry = elim k.outside [
     | inr c ↦ inr (corner_end c)
-    | inl out ↦ elim (locate (cap h) U P P B hu st (from_low U slab.low) slab.high (under_fences (cap h) U P P B hc hu st uy shape_u)) [
-      | inl f ↦ inl (u, record { way = way_start u v; there = tube_only h h.from (b ∷ rest) u hc (found_first U P B f); inside = inside })
-      | inr under ↦
-          let e = inner_last (cap h) P P B st in
-          let rises = inner_rises (cap h) P P B st in
-          let m = chain_met P (seen_point h b.inner) (inners (seen_bays h rest)) U W hu hw rises
-          (from_low U slab.low) (to_high (last P (inners B)) U e slab.high) (from_low W k.slab.low) (to_high (last P (inners B)) W e k.slab.high)
-          (inner_tests NotOver U P B under) (inner_tests NotUnder W P B (over_inner (cap h) W P P B hc hw st k.high (weak out))) in
-          let x = real_of h u v m.at (part m.at m.way) in
-          let X = place_of x.0 x.1 in
-          let on = subst (λ (z : Vector). OnChain z P (inners B)) (sym x.2) m.on in
-          elim (inner_place h (b ∷ rest) x.0 t X (inner_on h h.from (b ∷ rest) x.0 hc X rises on)) [
-            | inl low ↦ inl (x.0, record { way = x.1; there = tube_only h h.from (b ∷ rest) x.0 hc (inl (inner_there (cap h) P P B (seen h x.0) X st on)); inside = low })
-            | inr end ↦ inr (x.0, record { way = x.1; end = end })
-          ]
-    ]
+    | inl out ↦ elim (locate (cap h) U P P B hu st (from_low U slab.low) slab.high
+        (under_fences (cap h) U P P B hc hu st uy shape_u)) [
+          | inl f ↦ inl (
+            u,
+            record {
+              way = way_start u v;
+              there = tube_only h h.from (b ∷ rest) u hc (found_first U P B f);
+              inside = inside;
+            },
+          )
+          | inr under ↦
+              let e = inner_last (cap h) P P B st in
+              let rises = inner_rises (cap h) P P B st in
+              let m = chain_met P (seen_point h b.inner) (inners (seen_bays h rest)) U W hu hw rises
+              (from_low U slab.low) (to_high (last P (inners B)) U e slab.high) (from_low W k.slab.low)
+              (to_high (last P (inners B)) W e k.slab.high)
+              (inner_tests NotOver U P B under)
+              (inner_tests NotUnder W P B
+              (over_inner (cap h) W P P B hc hw st k.high (weak out))) in
+              let x = real_of h u v m.at (part m.at m.way) in
+              let X = place_of x.0 x.1 in
+              let on = subst (λ (z : Vector). OnChain z P (inners B)) (sym x.2) m.on in
+              elim (inner_place h (b ∷ rest) x.0 t X (inner_on h h.from (b ∷ rest) x.0 hc X rises on)) [
+                | inl low ↦ inl (
+                  x.0,
+                  record {
+                    way = x.1;
+                    there = tube_only h h.from (b ∷ rest) x.0 hc
+                        (inl (inner_there (cap h) P P B (seen h x.0) X st on));
+                    inside = low;
+                  },
+                )
+                | inr end ↦ inr (x.0, record { way = x.1; end = end })
+              ]
+        ]
   ]
     where
       weak : pos 0 <ℤ shape (cap h) W → pos 0 ≤ℤ shape (cap h) W
       weak k = omega (arith, ints, k)
 
-  pub outer_entry : ((y : Vector) × IsOuterEntry h (b ∷ rest) u v y) ⊎ ((y : Vector) × IsThroughEnd h u v y)
+  pub outer_entry : ((y : Vector) × IsOuterEntry h (b ∷ rest) u v y)
+      ⊎ ((y : Vector) × IsThroughEnd h u v y)
   outer_entry = elim k.outside [
     | inr c ↦ inr (corner_end c)
     | inl out ↦ elim (chain_split W P (outers P B) hw (outer_rises (cap h) P P B st)) [
       | inl under ↦
           let x = real_of h u v W k.way in
-          let w = strip_all (cap h) W P (seen_bay h b) (seen_bays h rest) hw st (from_low W k.slab.low) k.slab.high (over_inner (cap h) W P P B hc hw st k.high (weak out)) (tests_under W P P B under) in
+          let w = strip_all (cap h) W P (seen_bay h b) (seen_bays h rest) hw st
+          (from_low W k.slab.low) k.slab.high
+          (over_inner (cap h) W P P B hc hw st k.high (weak out)) (tests_under W P P B under) in
           inl (
             x.0,
             record {
               way = x.1;
-              there = tube_only h h.from (b ∷ rest) x.0 hc (subst (λ (z : Vector). InTube P B z) (sym x.2) w);
-              outside = power_high x.0 (subst (λ (z : Vector). pos 0 <ℤ shape (cap h) z) (sym x.2) out);
+              there = tube_only h h.from (b ∷ rest) x.0 hc
+                  (subst (λ (z : Vector). InTube P B z) (sym x.2) w);
+              outside = power_high x.0
+                  (subst (λ (z : Vector). pos 0 <ℤ shape (cap h) z) (sym x.2) out);
             },
           )
       | inr over ↦
           let e = outer_last (cap h) P P B st in
           let rises = outer_rises (cap h) P P B st in
-          let m = chain_met P (seen_point h b.outer) (outers (seen_point h b.inner) (seen_bays h rest)) U W hu hw rises
-          (from_low U slab.low) (to_high (last P (outers P B)) U e slab.high) (from_low W k.slab.low) (to_high (last P (outers P B)) W e k.slab.high)
+          let m = chain_met P (seen_point h b.outer)
+          (outers (seen_point h b.inner) (seen_bays h rest)) U W hu hw rises
+          (from_low U slab.low) (to_high (last P (outers P B)) U e slab.high)
+          (from_low W k.slab.low) (to_high (last P (outers P B)) W e k.slab.high)
           (under_tests U P P B (under_fences (cap h) U P P B hc hu st uy shape_u)) over in
           let x = real_of h u v m.at (part m.at m.way) in
           let X = place_of x.0 x.1 in
           let on = subst (λ (z : Vector). OnChain z P (outers P B)) (sym x.2) m.on in
-          elim (outer_place h (b ∷ rest) x.0 t X (outer_on h h.from h.from h.to (b ∷ rest) x.0 hc X (ends_at h.to h.from b rest t.ends) rises on)) [
-            | inl high ↦ inl (x.0, record { way = x.1; there = tube_only h h.from (b ∷ rest) x.0 hc (there (seen h x.0) X on); outside = high })
+          elim (outer_place h (b ∷ rest) x.0 t X
+          (outer_on h h.from h.from h.to (b ∷ rest) x.0 hc X
+          (ends_at h.to h.from b rest t.ends) rises on)) [
+            | inl high ↦ inl (
+              x.0,
+              record {
+                way = x.1;
+                there = tube_only h h.from (b ∷ rest) x.0 hc (there (seen h x.0) X on);
+                outside = high;
+              },
+            )
             | inr end ↦ inr (x.0, record { way = x.1; end = end })
           ]
     ]

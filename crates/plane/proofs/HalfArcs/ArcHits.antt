@@ -1,4 +1,5 @@
--- A segment hits a half arc in the words of means of its ends exactly where it does so in the words of places on a straight.
+-- A segment hits a half arc in the words of means of its ends exactly where it does so in the words
+-- of places on a straight.
 use Rattle.std.proofs.Common.{◌↔◌}
 use Rattle.plane.specs.Forms.Vectors.{Vector, Place}
 use Rattle.plane.specs.Rule.HalfArcs.{HalfArc, HitsHalfArc}

@@ -4,7 +4,8 @@ use Rattle.plane.specs.Forms.Vectors.{Vector, Place, Between}
 use Rattle.plane.specs.Rule.HalfArcs.{HalfArc}
 use Rattle.plane.specs.Rule.HalfArcs.{power, bow}
 
--- the segment from p to q hits the half arc: u is not outside and v not inside, both on the arc's side of the chord
+-- the segment from p to q hits the half arc: u is not outside and v not inside, both on the arc's
+-- side of the chord
 pub record HitsArc (h : HalfArc) (p q : Vector) : Type 0 where
   pub u : Vector
   pub v : Vector

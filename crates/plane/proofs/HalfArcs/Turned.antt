@@ -1,4 +1,5 @@
--- A half arc from its other end has the same circle, the same side of its chord, and is hit by the same segments.
+-- A half arc from its other end has the same circle, the same side of its chord, and is hit by the
+-- same segments.
 use Rattle.std.proofs.Common.{◌≡◌, ◌⊎◌, inl, inr, ℤ, pos, ◌≤ℤ◌, ap, sym, ◌∙◌, subst}
 use Rattle.plane.specs.Forms.Vectors.{Vector, Place}
 use Rattle.plane.specs.Forms.Arcs.{HalfArc, power, bow}

@@ -1,4 +1,5 @@
--- Labels that match along a list: its parts, its two ends, the labels of the places in it, and what a step makes of it.
+-- Labels that match along a list: its parts, its two ends, the labels of the places in it, and what
+-- a step makes of it.
 -- No run appears here; the laws by moments and the laws by numbers both stand on these.
 use Rattle.std.proofs.Common.{◌≡◌, ℕ, zero, suc, ◌+◌, ◌≤◌, List, [], ◌∷◌, ◌++◌, length, refl, arith}
 use Rattle.std.proofs.Common.{ap, sym, subst}
@@ -61,5 +62,8 @@ module _ (lab : Labels) where
       let low = match_front 0 0 s.below (s.ending ++ s.above) all in
       let rest = match_back 0 0 s.below (s.ending ++ s.above) all in
       let high = match_back l 0 s.ending s.above rest in
-      let top : Match lab (first_label lab s.above 0) s.above 0 = subst (λ (x : ℕ). Match lab x s.above 0) (match_lowest (last_label lab l s.ending) 0 s.above high) high in
-      match_append 0 l 0 s.below (s.starting ++ s.above) low (match_append l (first_label lab s.above 0) 0 s.starting s.above new top)
+      let top : Match lab (first_label lab s.above 0) s.above 0 = subst
+      (λ (x : ℕ). Match lab x s.above 0)
+      (match_lowest (last_label lab l s.ending) 0 s.above high) high in
+      match_append 0 l 0 s.below (s.starting ++ s.above) low
+      (match_append l (first_label lab s.above 0) 0 s.starting s.above new top)

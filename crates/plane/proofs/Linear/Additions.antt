@@ -40,14 +40,24 @@ half_arc_drawn : (low high from to third : Point) (line : ℕ) → IsInside low 
     → IsInside low high to → IsInside low high third
     → (cross from to third ≡ pos 0 → ⊥) → IsDrawn low high (half_arc from to third line)
 half_arc_drawn low high from to third line f t r n =
-    record { from = f; to = t; third = r; distinct = differ_first from to third n; straight = no_straight _; bent = λ e. n }
+    record {
+      from = f;
+      to = t;
+      third = r;
+      distinct = differ_first from to third n;
+      straight = no_straight _;
+      bent = λ e. n;
+    }
 
 pub arc_drawn : (low high start on end : Point) (line_on line_end : ℕ) → IsInside low high start
     → IsInside low high on → IsInside low high end
-    → (cross start on end ≡ pos 0 → ⊥) → All (IsDrawn low high) (half_arc start on end line_on ∷ half_arc on end start line_end ∷ [])
+    → (cross start on end ≡ pos 0 → ⊥)
+    → All (IsDrawn low high) (half_arc start on end line_on ∷ half_arc on end start line_end
+    ∷ [])
 arc_drawn low high start on end line_on line_end s o e n =
     let first = half_arc start on end line_on in
     let second = half_arc on end start line_end in
     let turned : cross on end start ≡ pos 0 → ⊥ = λ z. n (sym (cross-round start on end) ∙ z) in
-    All-cons (IsDrawn low high) first (second ∷ []) (half_arc_drawn low high start on end line_on s o e n)
+    All-cons (IsDrawn low high) first (second ∷ [])
+    (half_arc_drawn low high start on end line_on s o e n)
     (all_one (IsDrawn low high) second (half_arc_drawn low high on end start line_end o e s turned))

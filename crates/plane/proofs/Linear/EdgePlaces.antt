@@ -15,10 +15,13 @@ use Rattle.plane.proofs.Linear.Straights.{straight_between, between_straight}
 pub side-turn : (e : Edge) (z : Vector) → side e z ≡ turn (point e.low) (point e.high) z
 unfolding side
 side-turn e z =
-    let LX = at 0 in let LY = at 1 in let HX = at 2 in let HY = at 3 in let X = at 4 in let Y = at 5 in let N = at 6 in
+    let LX = at 0 in
+    let LY = at 1 in
+    let HX = at 2 in let HY = at 3 in let X = at 4 in let Y = at 5 in let N = at 6 in
     let one = num (pos 1) in
     let d : Expr → Expr → Expr → Expr → Expr = λ a m b n. minus (times a n) (times b m) in
-    ring (SIDE LX LY HX HY X Y N) (minus (times (d HX one LX one) (d Y N LY one)) (times (d HY one LY one) (d X N LX one)))
+    ring (SIDE LX LY HX HY X Y N)
+    (minus (times (d HX one LX one) (d Y N LY one)) (times (d HY one LY one) (d X N LX one)))
     (vars (e.low.x ∷ e.low.y ∷ e.high.x ∷ e.high.y ∷ z.x ∷ z.y ∷ z.n ∷ [])) refl
 
 pub side-cross : (e : Edge) (p : Point) → side e (point p) ≡ cross e.low e.high p
@@ -31,7 +34,8 @@ place_point p = omega (arith, ints)
 pub on_line : (e : Edge) (z : Vector) → OnStraight e z → side e z ≡ pos 0
 on_line e z h = side-turn e z ∙ h.line
 
--- a place of t that is on the line of s, as a mean of t's ends: its weights balance the sides of the ends
+-- a place of t that is on the line of s, as a mean of t's ends: its weights balance the sides of
+-- the ends
 pub record IsBalanced (s t : Edge) (z : Vector) : Type 0 where
   pub i : ℤ
   pub j : ℤ
@@ -57,7 +61,8 @@ balanced s t z Z on_s on_t =
       j_least = b.t_least;
       some = b.some;
       is = b.is;
-      zero = sym (side-mix s b.s (point t.low) b.t (point t.high)) ∙ cancel_zero z.n (side s m) Z (sym e ∙ f);
+      zero = sym (side-mix s b.s (point t.low) b.t (point t.high))
+          ∙ cancel_zero z.n (side s m) Z (sym e ∙ f);
     }
 
 -- a mean of the ends is on the edge

@@ -29,8 +29,10 @@ bounds (p ∷ pts) =
       omega (arith, ints, least, low, high),
       (
         (omega (arith, ints, least, low), omega (arith, ints, least, high)),
-        each_map (λ q. ((pos 0 -ℤ n) ≤ℤ q.y) × (q.y ≤ℤ n)) (λ q. ((pos 0 -ℤ top) ≤ℤ q.y) × (q.y ≤ℤ top)) pts
-            (λ q h. let x = h.0 in let y = h.1 in (omega (arith, ints, x, low, high), omega (arith, ints, y, low, high))) b.2,
+        each_map (λ q. ((pos 0 -ℤ n) ≤ℤ q.y) × (q.y ≤ℤ n))
+            (λ q. ((pos 0 -ℤ top) ≤ℤ q.y) × (q.y ≤ℤ top)) pts
+            (λ q h. let x = h.0 in let y = h.1 in
+            (omega (arith, ints, x, low, high), omega (arith, ints, y, low, high))) b.2,
       ),
     )
 
@@ -40,5 +42,9 @@ some_weight pts =
     let b = bounds pts in
     let n = b.0 in
     let least = b.1 in
-    let w = (n +ℤ n) +ℤ pos 1 in
-    (w, omega (arith, ints, least), weight_from_spread w (pos 0 -ℤ n) n pts (omega (arith, ints, least)) (omega (arith, ints)) b.2)
+    let w = (n +ℤ n) +ℤ pos 1 in (
+      w,
+      omega (arith, ints, least),
+      weight_from_spread w (pos 0 -ℤ n) n pts
+          (omega (arith, ints, least)) (omega (arith, ints)) b.2,
+    )

@@ -12,12 +12,16 @@ use Rattle.plane.proofs.Covers.HalfArcPlaces.{same_least}
 use Rattle.plane.proofs.Covers.StraightCovers.{on_flat, flat_on}
 
 pub linear-mean : (a b c : ℤ) (i : ℤ) (p : Vector) (j : ℤ) (q : Vector) (k : ℤ) (r : Vector)
-    → linear a b c (mean i p j q k r) ≡ ((i *ℤ linear a b c p) +ℤ (j *ℤ linear a b c q)) +ℤ (k *ℤ linear a b c r)
+    → linear a b c (mean i p j q k r) ≡ ((i *ℤ linear a b c p) +ℤ (j *ℤ linear a b c q))
+    +ℤ (k *ℤ linear a b c r)
 unfolding linear
 linear-mean a b c i p j q k r =
-    let F : Expr → Expr → Expr → Expr = λ x y n. plus (plus (times (at 0) x) (times (at 1) y)) (times (at 2) n) in
-    let m : Expr → Expr → Expr → Expr = λ p q r. plus (plus (times (at 3) p) (times (at 4) q)) (times (at 5) r) in
-    ring (F (m (at 6) (at 9) (at 12)) (m (at 7) (at 10) (at 13)) (m (at 8) (at 11) (at 14))) (m (F (at 6) (at 7) (at 8)) (F (at 9) (at 10) (at 11)) (F (at 12) (at 13) (at 14)))
+    let F : Expr → Expr → Expr
+    → Expr = λ x y n. plus (plus (times (at 0) x) (times (at 1) y)) (times (at 2) n) in
+    let m : Expr → Expr → Expr
+    → Expr = λ p q r. plus (plus (times (at 3) p) (times (at 4) q)) (times (at 5) r) in
+    ring (F (m (at 6) (at 9) (at 12)) (m (at 7) (at 10) (at 13)) (m (at 8) (at 11) (at 14)))
+    (m (F (at 6) (at 7) (at 8)) (F (at 9) (at 10) (at 11)) (F (at 12) (at 13) (at 14)))
     (vars (a ∷ b ∷ c ∷ i ∷ j ∷ k ∷ p.x ∷ p.y ∷ p.n ∷ q.x ∷ q.y ∷ q.n ∷ r.x ∷ r.y ∷ r.n ∷ [])) refl
 
 pub side-mean : (e : Edge) (i : ℤ) (p : Vector) (j : ℤ) (q : Vector) (k : ℤ) (r : Vector)
@@ -25,9 +29,12 @@ pub side-mean : (e : Edge) (i : ℤ) (p : Vector) (j : ℤ) (q : Vector) (k : �
 unfolding side
 side-mean e i p j q k r =
     let F : Expr → Expr → Expr → Expr = SIDE (at 12) (at 13) (at 14) (at 15) in
-    let m : Expr → Expr → Expr → Expr = λ p q r. plus (plus (times (at 0) p) (times (at 1) q)) (times (at 2) r) in
-    ring (F (m (at 3) (at 6) (at 9)) (m (at 4) (at 7) (at 10)) (m (at 5) (at 8) (at 11))) (m (F (at 3) (at 4) (at 5)) (F (at 6) (at 7) (at 8)) (F (at 9) (at 10) (at 11)))
-    (vars (i ∷ j ∷ k ∷ p.x ∷ p.y ∷ p.n ∷ q.x ∷ q.y ∷ q.n ∷ r.x ∷ r.y ∷ r.n ∷ e.low.x ∷ e.low.y ∷ e.high.x ∷ e.high.y ∷ [])) refl
+    let m : Expr → Expr → Expr
+    → Expr = λ p q r. plus (plus (times (at 0) p) (times (at 1) q)) (times (at 2) r) in
+    ring (F (m (at 3) (at 6) (at 9)) (m (at 4) (at 7) (at 10)) (m (at 5) (at 8) (at 11)))
+    (m (F (at 3) (at 4) (at 5)) (F (at 6) (at 7) (at 8)) (F (at 9) (at 10) (at 11)))
+    (vars (i ∷ j ∷ k ∷ p.x ∷ p.y ∷ p.n ∷ q.x ∷ q.y ∷ q.n ∷ r.x ∷ r.y ∷ r.n ∷ e.low.x ∷ e.low.y
+    ∷ e.high.x ∷ e.high.y ∷ [])) refl
 
 pub mean_place : (i : ℤ) (p : Vector) (j : ℤ) (q : Vector) (k : ℤ) (r : Vector) → Place p → Place q
     → Place r → pos 0 ≤ℤ i → pos 0 ≤ℤ j → pos 0 ≤ℤ k → pos 0 <ℤ ((i +ℤ j) +ℤ k)
@@ -48,7 +55,8 @@ side_in_triangle e z p q r Z P Q R h a b c =
     let v = product_nonnegative h.j (side e q) h.j_least b in
     let w = product_nonnegative h.k (side e r) h.k_least c in
     let s = side-mean e h.i p h.j q h.k r in
-    same_least z.n m.n (side e m) (side e z) Z M (sym (side_same e z m h.is)) (omega (arith, ints, u, v, w, s))
+    same_least z.n m.n (side e m) (side e z) Z M (sym (side_same e z m h.is))
+    (omega (arith, ints, u, v, w, s))
 
 pub flat_is : (z a b : Vector) → Place z → Place a → Place b
     → InTriangle z a b b ↔ IsOnStraight a b z

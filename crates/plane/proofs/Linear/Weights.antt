@@ -16,9 +16,11 @@ weighs : (w l h : ℤ) (a b : Point) → pos 0 <ℤ w → (h -ℤ l) <ℤ w → 
 unfolding sweep
 weighs w l h a b hw spread al bh ah bl (inl k) =
     let p = weight_at_most w (b.x -ℤ a.x) (omega (arith, ints, hw)) (omega (arith, ints, k)) in
-    let e = ring (times (at 0) (minus (at 2) (at 1))) (minus (times (at 0) (at 2)) (times (at 0) (at 1))) (vars (w ∷ a.x ∷ b.x ∷ [])) refl in
+    let e = ring (times (at 0) (minus (at 2) (at 1)))
+    (minus (times (at 0) (at 2)) (times (at 0) (at 1))) (vars (w ∷ a.x ∷ b.x ∷ [])) refl in
     omega (arith, ints, p, e, spread, ah, bl)
-weighs w l h a b hw spread al bh ah bl (inr k) = let x = ap (λ c. w *ℤ c) k.0 in let y = k.1 in omega (arith, ints, x, y)
+weighs w l h a b hw spread al bh ah bl (inr k) =
+    let x = ap (λ c. w *ℤ c) k.0 in let y = k.1 in omega (arith, ints, x, y)
 
 -- a number greater than the spread of y is a weight
 pub weight_from_spread : (w l h : ℤ) (pts : List Point) → pos 0 <ℤ w → (h -ℤ l) <ℤ w

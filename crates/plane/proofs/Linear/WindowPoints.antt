@@ -19,4 +19,7 @@ inside_near low high p q n h k =
 pub nearer : (p q : Point) → AreNear (2 ^ 40) p q → AreNear (2 ^ 41) p q
 nearer p q h =
     let a = h.x.above in let b = h.x.below in let c = h.y.above in let d = h.y.below in
-    record { x = record { above = omega (arith, ints, a); below = omega (arith, ints, b) }; y = record { above = omega (arith, ints, c); below = omega (arith, ints, d) } }
+    record {
+      x = record { above = omega (arith, ints, a); below = omega (arith, ints, b) };
+      y = record { above = omega (arith, ints, c); below = omega (arith, ints, d) };
+    }

@@ -24,4 +24,5 @@ pub pairs_at : {X : Type 0} (R : X → X → Type 0) (xs : List X) (i j : ℕ) (
 pairs_at R [] i j x h k l = absurd (omega (arith, l))
 pairs_at R (y ∷ ys) i zero x h k l = absurd (omega (arith, k))
 pairs_at R (y ∷ ys) zero (suc j) x h k l = each_at (R y) ys j x h.0 (omega (arith, l))
-pairs_at R (y ∷ ys) (suc i) (suc j) x h k l = pairs_at R ys i j x h.1 (omega (arith, k)) (omega (arith, l))
+pairs_at R (y ∷ ys) (suc i) (suc j) x h k l =
+    pairs_at R ys i j x h.1 (omega (arith, k)) (omega (arith, l))

@@ -15,7 +15,10 @@ each_from_all P (x ∷ xs) h = (All-head P x xs h, each_from_all P xs (All-tail 
 pub contains_from_has : {X : Type 0} (x : X) (xs : List X) → Has x xs → Contains xs x
 contains_from_has x [] h = absurd h
 contains_from_has x (y ∷ ys) (inl e) = (zero, omega arith, sym e)
-contains_from_has x (y ∷ ys) (inr h) = let (k, l, e) = contains_from_has x ys h in (suc k, omega (arith, l), e)
+contains_from_has x (y ∷ ys) (inr h) =
+    let (k, l, e) = contains_from_has x ys h in (suc k, omega (arith, l), e)
 
 pub has_from_contains : {X : Type 0} (x : X) (xs : List X) → Contains xs x → Has x xs
-has_from_contains x xs h = All-contains (λ y. Has y xs) xs x (all_from_each (λ y. Has y xs) xs (each_from (λ y. Has y xs) xs (λ y k. k))) h
+has_from_contains x xs h =
+    All-contains (λ y. Has y xs) xs x
+    (all_from_each (λ y. Has y xs) xs (each_from (λ y. Has y xs) xs (λ y k. k))) h

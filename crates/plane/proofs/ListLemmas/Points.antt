@@ -15,8 +15,11 @@ point_eq p q a b = λ i. record { x = a i; y = b i }
 pub decides_equal : (p q : Point) (r : Bool) → r ≡ (int_eq p.x q.x && int_eq p.y q.y)
     → Decides r (p ≡ q)
 decides_equal p q r e = (
-  (λ h. let both = and_parts (int_eq p.x q.x) (int_eq p.y q.y) (sym e ∙ h) in point_eq p q ((Decides-int_eq p.x q.x).0 both.0) ((Decides-int_eq p.y q.y).0 both.1)),
-  (λ h. e ∙ and_from (int_eq p.x q.x) (int_eq p.y q.y) ((Decides-int_eq p.x q.x).1 (ap (λ (r : Point). r.x) h)) ((Decides-int_eq p.y q.y).1 (ap (λ (r : Point). r.y) h))),
+  (λ h. let both = and_parts (int_eq p.x q.x) (int_eq p.y q.y) (sym e ∙ h) in
+      point_eq p q ((Decides-int_eq p.x q.x).0 both.0) ((Decides-int_eq p.y q.y).0 both.1)),
+  (λ h. e ∙ and_from (int_eq p.x q.x) (int_eq p.y q.y)
+      ((Decides-int_eq p.x q.x).1 (ap (λ (r : Point). r.x) h))
+      ((Decides-int_eq p.y q.y).1 (ap (λ (r : Point). r.y) h))),
 )
 
 -- of two different points the one or the other comes first

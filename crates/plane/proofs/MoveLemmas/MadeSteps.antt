@@ -1,5 +1,6 @@
 -- Moves make the steps of a replay: by lists, by numbers, and the latest first.
--- What holds of a front part: no edge is live twice, live edges have begun and not ended, and nothing is left at the end.
+-- What holds of a front part: no edge is live twice, live edges have begun and not ended, and
+-- nothing is left at the end.
 use Rattle.std.proofs.Common.{◌≡◌, ℕ, zero, suc, ◌<◌, ◌≤◌, inl, inr, List, [], ◌∷◌, ◌++◌, length}
 use Rattle.std.proofs.Common.{take, get_or, refl, arith, ap, sym, ◌∙◌, subst}
 use Rattle.std.proofs.lemmas.Int.{ints}
@@ -39,7 +40,8 @@ list_is now [] (suc k) h = absurd (omega (arith, h))
 list_is now (v ∷ vs) (suc k) h = list_is (after (step_of now v)) vs k (omega (arith, h))
 
 pub step_is : (now : List ℕ) (vs : List Move) (k : ℕ) → k < length vs
-    → get_or (steps_from now vs) k no_step ≡ step_of (live_from now (take k vs)) (get_or vs k no_move)
+    → get_or (steps_from now vs) k no_step
+    ≡ step_of (live_from now (take k vs)) (get_or vs k no_move)
 step_is now [] k h = absurd (omega (arith, h))
 step_is now (v ∷ vs) zero h = refl
 step_is now (v ∷ vs) (suc k) h = step_is (after (step_of now v)) vs k (omega (arith, h))
@@ -55,7 +57,8 @@ live_more now (u ∷ vs) v = live_more (after (step_of now u)) vs v
 pub steps_more : (now : List ℕ) (vs : List Move) (v : Move)
     → steps_from now (vs ++ (v ∷ [])) ≡ steps_from now vs ++ (step_of (live_from now vs) v ∷ [])
 steps_more now [] v = refl
-steps_more now (u ∷ vs) v = ap (λ (steps : List Step). step_of now u ∷ steps) (steps_more (after (step_of now u)) vs v)
+steps_more now (u ∷ vs) v =
+    ap (λ (steps : List Step). step_of now u ∷ steps) (steps_more (after (step_of now u)) vs v)
 
 pub steps_length : (now : List ℕ) (vs : List Move) → length (steps_from now vs) ≡ length vs
 steps_length now [] = refl
@@ -65,7 +68,9 @@ steps_length now (v ∷ vs) = ap (λ (n : ℕ). suc n) (steps_length (after (ste
 pub replayed : (m : ℕ) (E : ℕ → Edge) (done : List Step) (vs : List Move) → Replayed m E done
     → AreGood m E done vs → Replayed m E (made done vs)
 replayed m E done [] h g = h
-replayed m E done (v ∷ vs) h g = replayed m E (step_of (live done) v ∷ done) vs (sym (before-step_at v.at (live done) v.position v.ending v.starting), g.0.good, h) g.1
+replayed m E done (v ∷ vs) h g =
+    replayed m E (step_of (live done) v ∷ done) vs
+    (sym (before-step_at v.at (live done) v.position v.ending v.starting), g.0.good, h) g.1
 
 pub never : (p : Point) → Before p p → ⊥
 never p (inl l) = omega (arith, ints, l)
@@ -105,9 +110,11 @@ module _ (m : ℕ) (E : ℕ → Edge) (edges : (e : ℕ) → e < m → Before (E
   front_once (s ∷ done) h r =
       let old : Once (before s) = subst (λ (xs : List ℕ). Once xs) h.0 (front_once done h.2 r.2) in
       let rest = once_back s.below (s.ending ++ s.above) old in
-      let was : (e : ℕ) → Has e (before s) → Has e (live done) = λ e i. subst (λ (xs : List ℕ). Has e xs) (sym h.0) i in
+      let was : (e : ℕ) → Has e (before s)
+      → Has e (live done) = λ e i. subst (λ (xs : List ℕ). Has e xs) (sym h.0) i in
       once_append s.below (s.starting ++ s.above) (once_front s.below (s.ending ++ s.above) old)
-      (once_append s.starting s.above r.0 (once_back s.ending s.above rest) (λ e a b. new s done e h r a (was e (has_above_before s e b))))
+      (once_append s.starting s.above r.0 (once_back s.ending s.above rest)
+      (λ e a b. new s done e h r a (was e (has_above_before s e b))))
       (λ e a b. elim (has_append e s.starting s.above b) [
         | inl i ↦ new s done e h r i (was e (has_below_before s e a))
         | inr i ↦ once_apart s.below (s.ending ++ s.above) e old a (has_back e s.ending s.above i)
@@ -115,7 +122,8 @@ module _ (m : ℕ) (E : ℕ → Edge) (edges : (e : ℕ) → e < m → Before (E
 
   -- so there is room for it in m places
   pub front_room : (done : List Step) → Replayed m E done → Risen done → length (live done) ≤ m
-  front_room done h r = room m (live done) (front_once done h r) (λ e k. (live_started m E done e h k).0)
+  front_room done h r =
+      room m (live done) (front_once done h r) (λ e k. (live_started m E done e h k).0)
 
   -- an edge whose high end is done is not live
   pub front_ended : (done : List Step) (e : ℕ) → Replayed m E done → Risen done → Has e (live done)
@@ -128,14 +136,17 @@ module _ (m : ℕ) (E : ℕ → Edge) (edges : (e : ℕ) → e < m → Before (E
       let kept : Has e (before s) → (Has e s.ending → ⊥) → ⊥ =
       λ b out. elim i [
         | inl w ↦ out (h.1.ending_all e st.0 (q ∙ ap (λ (u : Step). u.at) w))
-        | inr w ↦ front_ended done e h.2 r.2 (subst (λ (xs : List ℕ). Has e xs) (sym h.0) b) (t, w, q)
+        | inr w ↦ front_ended done e h.2 r.2 (subst (λ (xs : List ℕ). Has e xs) (sym h.0) b)
+            (t, w, q)
       ] in
       elim (has_three e s.below s.starting s.above a) [
-        | inl b ↦ kept (has_below_before s e b) (λ k. once_apart s.below (s.ending ++ s.above) e old b (has_front e s.ending s.above k))
+        | inl b ↦ kept (has_below_before s e b)
+            (λ k. once_apart s.below (s.ending ++ s.above) e old b (has_front e s.ending s.above k))
         | inr b ↦ elim b [
           | inl k ↦
               let o = h.1.starting_only e k in
-              let low : Before s.at t.at = subst (λ (p : Point). Before p t.at) o.1 (subst (λ (p : Point). Before (E e).low p) q (edges e o.0)) in
+              let low : Before s.at t.at = subst (λ (p : Point). Before p t.at) o.1
+              (subst (λ (p : Point). Before (E e).low p) q (edges e o.0)) in
               elim i [
                 | inl w ↦ never s.at (subst (λ (u : Step). Before s.at u.at) w low)
                 | inr w ↦ crossed s.at t.at low (r.1 t w)
@@ -147,7 +158,8 @@ module _ (m : ℕ) (E : ℕ → Edge) (edges : (e : ℕ) → e < m → Before (E
   -- where all ends are done nothing is live
   pub front_empty : (done : List Step) → Replayed m E done → Risen done
       → ((e : ℕ) → e < m → AtSome (E e).high done) → live done ≡ []
-  front_empty done h r all = none (live done) (λ e k. front_ended done e h r k (all e (live_started m E done e h k).0))
+  front_empty done h r all =
+      none (live done) (λ e k. front_ended done e h r k (all e (live_started m E done e h k).0))
     where
       none : (xs : List ℕ) → ((e : ℕ) → Has e xs → ⊥) → xs ≡ []
       none [] f = refl

@@ -23,7 +23,8 @@ pub run_repeats_none : (m : ℕ) (E : ℕ → Edge) (vs : List Move) (k : ℕ) �
 run_repeats_none m E vs k run l =
     let n = steps_length [] vs in
     let (done, todo, c) = cut_at (steps_from [] vs) k (omega (arith, l, n)) in
-    subst (λ (xs : List ℕ). Once xs) (c.now ∙ list_is [] vs k l) (run_once m E done todo (subst (λ (steps : List Step). Run m E steps) (sym c.whole) run))
+    subst (λ (xs : List ℕ). Once xs) (c.now ∙ list_is [] vs k l)
+    (run_once m E done todo (subst (λ (steps : List Step). Run m E steps) (sym c.whole) run))
 
 pub fit_more : (now : List ℕ) (vs : List Move) (v : Move) → Fit now vs
     → (v.position + v.ending) ≤ length (live_from now vs) → Fit now (vs ++ (v ∷ []))
@@ -35,4 +36,5 @@ pub run_known : (m : ℕ) (E : ℕ → Edge) (vs : List Move) (k e : ℕ) → Ru
 run_known m E vs k e run l h =
     let n = steps_length [] vs in
     let (done, todo, c) = cut_at (steps_from [] vs) k (omega (arith, l, n)) in
-    (run_started m E done todo (subst (λ (steps : List Step). Run m E steps) (sym c.whole) run) e (subst (λ (xs : List ℕ). Has e xs) (sym (c.now ∙ list_is [] vs k l)) h)).0
+    (run_started m E done todo (subst (λ (steps : List Step). Run m E steps) (sym c.whole) run) e
+    (subst (λ (xs : List ℕ). Has e xs) (sym (c.now ∙ list_is [] vs k l)) h)).0

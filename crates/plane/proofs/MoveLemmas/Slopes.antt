@@ -20,10 +20,17 @@ way w p a = ((w *ℤ a.x) +ℤ a.y) -ℤ ((w *ℤ p.x) +ℤ p.y)
 turns-sum : (w : ℤ) (p a b c : Point)
     → way w p b *ℤ cross p a c ≡ (way w p a *ℤ cross p b c) +ℤ (way w p c *ℤ cross p a b)
 turns-sum w p a b c =
-    let PX = at 0 in let PY = at 1 in let AX = at 2 in let AY = at 3 in let BX = at 4 in let BY = at 5 in let CX = at 6 in let CY = at 7 in let W = at 8 in
+    let PX = at 0 in
+    let PY = at 1 in
+    let AX = at 2 in
+    let AY = at 3 in
+    let BX = at 4 in let BY = at 5 in let CX = at 6 in let CY = at 7 in let W = at 8 in
     let WAY : Expr → Expr → Expr = λ x y. minus (plus (times W x) y) (plus (times W PX) PY) in
-    let CROSS : Expr → Expr → Expr → Expr → Expr = λ x y u v. minus (times (minus x PX) (minus v PY)) (times (minus y PY) (minus u PX)) in
-    ring (times (WAY BX BY) (CROSS AX AY CX CY)) (plus (times (WAY AX AY) (CROSS BX BY CX CY)) (times (WAY CX CY) (CROSS AX AY BX BY)))
+    let CROSS : Expr → Expr → Expr → Expr
+    → Expr = λ x y u v. minus (times (minus x PX) (minus v PY))
+    (times (minus y PY) (minus u PX)) in
+    ring (times (WAY BX BY) (CROSS AX AY CX CY))
+    (plus (times (WAY AX AY) (CROSS BX BY CX CY)) (times (WAY CX CY) (CROSS AX AY BX BY)))
     (vars (p.x ∷ p.y ∷ a.x ∷ a.y ∷ b.x ∷ b.y ∷ c.x ∷ c.y ∷ w ∷ [])) refl
 
 -- the signs of such a sum
@@ -63,12 +70,14 @@ module _ (p a b c : Point) (ha : Before p a) (hb : Before p b) (hc : Before p c)
       → ((pos 0 <ℤ cross p a b) ⊎ (pos 0 <ℤ cross p b c)) → pos 0 <ℤ cross p a c
   turns_left x y s =
       let (w, ra, rb, rc) = ways in
-      sum_sign (way w p a) (way w p b) (way w p c) (cross p a b) (cross p b c) (cross p a c) ra rb rc (turns-sum w p a b c) x y s
+      sum_sign (way w p a) (way w p b) (way w p c) (cross p a b) (cross p b c)
+      (cross p a c) ra rb rc (turns-sum w p a b c) x y s
 
   turns_none : cross p a b ≡ pos 0 → cross p b c ≡ pos 0 → cross p a c ≡ pos 0
   turns_none x y =
       let (w, ra, rb, rc) = ways in
-      sum_zero (way w p a) (way w p b) (way w p c) (cross p a b) (cross p b c) (cross p a c) rb (turns-sum w p a b c) x y
+      sum_zero (way w p a) (way w p b) (way w p c) (cross p a b) (cross p b c) (cross p a c) rb
+      (turns-sum w p a b c) x y
 
 -- an edge that starts at p and goes on from there
 abbrev pub StartsAt : (ℕ → Edge) → Point → ℕ → Type 0
@@ -83,7 +92,10 @@ turn_there E p v e s = ap (λ (q : Point). cross q (E e).high v) s.0
 
 pub slope_never : (E : ℕ → Edge) (p : Point) (a : ℕ) → StartsAt E p a → BySlope E a a → ⊥
 slope_never E p a s (inl l) =
-    let z = ring (minus (times (minus (at 2) (at 0)) (minus (at 3) (at 1))) (times (minus (at 3) (at 1)) (minus (at 2) (at 0)))) (num (pos 0)) (vars ((E a).low.x ∷ (E a).low.y ∷ (E a).high.x ∷ (E a).high.y ∷ [])) refl in
+    let z = ring
+    (minus (times (minus (at 2) (at 0)) (minus (at 3) (at 1)))
+    (times (minus (at 3) (at 1)) (minus (at 2) (at 0)))) (num (pos 0))
+    (vars ((E a).low.x ∷ (E a).low.y ∷ (E a).high.x ∷ (E a).high.y ∷ [])) refl in
     omega (arith, ints, l, z)
 slope_never E p a s (inr l) = let k = l.1 in omega (arith, k)
 
@@ -105,15 +117,25 @@ slope_trans E p a b c sa sb sc h k = both h k
         → pos 0 <ℤ turn_at E a (E c).high
     left x y s =
         subst (λ (z : ℤ). pos 0 <ℤ z) (sym ac)
-        (turns_left p (E a).high (E b).high (E c).high (from_there E p a sa) (from_there E p b sb) (from_there E p c sc)
+        (turns_left p (E a).high (E b).high (E c).high (from_there E p a sa) (from_there E p b sb)
+        (from_there E p c sc)
         (subst (λ (z : ℤ). pos 0 ≤ℤ z) ab x) (subst (λ (z : ℤ). pos 0 ≤ℤ z) bc y)
-        (elim s [ inl l ↦ inl (subst (λ (z : ℤ). pos 0 <ℤ z) ab l) | inr l ↦ inr (subst (λ (z : ℤ). pos 0 <ℤ z) bc l) ]))
+        (elim s [
+          | inl l ↦ inl (subst (λ (z : ℤ). pos 0 <ℤ z) ab l)
+          | inr l ↦ inr (subst (λ (z : ℤ). pos 0 <ℤ z) bc l)
+        ]))
 
     both : BySlope E a b → BySlope E b c → BySlope E a c
     both (inl x) (inl y) = inl (left (omega (arith, ints, x)) (omega (arith, ints, y)) (inl x))
-    both (inl x) (inr y) = let z = y.0 in inl (left (omega (arith, ints, x)) (omega (arith, ints, z)) (inl x))
-    both (inr x) (inl y) = let z = x.0 in inl (left (omega (arith, ints, z)) (omega (arith, ints, y)) (inr y))
+    both (inl x) (inr y) =
+        let z = y.0 in inl (left (omega (arith, ints, x)) (omega (arith, ints, z)) (inl x))
+    both (inr x) (inl y) =
+        let z = x.0 in inl (left (omega (arith, ints, z)) (omega (arith, ints, y)) (inr y))
     both (inr x) (inr y) =
         let l = x.1 in
         let r = y.1 in
-        inr (ac ∙ turns_none p (E a).high (E b).high (E c).high (from_there E p a sa) (from_there E p b sb) (from_there E p c sc) (sym ab ∙ x.0) (sym bc ∙ y.0), omega (arith, l, r))
+        inr (
+          ac ∙ turns_none p (E a).high (E b).high (E c).high (from_there E p a sa)
+              (from_there E p b sb) (from_there E p c sc) (sym ab ∙ x.0) (sym bc ∙ y.0),
+          omega (arith, l, r),
+        )

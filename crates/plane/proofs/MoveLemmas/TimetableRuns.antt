@@ -1,4 +1,5 @@
--- Good moves of a timetable are a complete run; a move is good by tests at its position alone, and good moves go on one by one.
+-- Good moves of a timetable are a complete run; a move is good by tests at its position alone, and
+-- good moves go on one by one.
 use Rattle.std.proofs.Common.{◌≡◌, ℕ, zero, suc, ◌+◌, ◌<◌, ◌≤◌, ◌⊎◌, inl, inr, List, [], ◌∷◌, ◌++◌}
 use Rattle.std.proofs.Common.{map, length, take, drop, get_or, refl, arith, ap, sym, ◌∙◌, subst}
 use Rattle.std.proofs.lemmas.List.{length-take-le, length-drop, take-append-drop, length-map}
@@ -34,15 +35,21 @@ good_fit m E done (v ∷ vs) h = (h.0.fits, good_fit m E (step_of (live done) v 
 pub good_risen : (m : ℕ) (E : ℕ → Edge) (done : List Step) (vs : List Move) → Risen done
     → AreGood m E done vs → Risen (made done vs)
 good_risen m E done [] r h = r
-good_risen m E done (v ∷ vs) r h = good_risen m E (step_of (live done) v ∷ done) vs (h.0.once, h.0.later, r) h.1
+good_risen m E done (v ∷ vs) r h =
+    good_risen m E (step_of (live done) v ∷ done) vs (h.0.once, h.0.later, r) h.1
 
 -- ---- the live list of good moves
 module _ (m : ℕ) (E : ℕ → Edge) (vs : List Move) (good : AreGood m E [] vs) where
   pub good_known : (e : ℕ) → Has e (live_from [] vs) → (e < m) × AtSome (E e).low (made [] vs)
-  good_known e k = live_started m E (made [] vs) e (replayed m E [] vs tt good) (subst (λ (xs : List ℕ). Has e xs) (sym (live_made [] vs)) k)
+  good_known e k =
+      live_started m E (made [] vs) e (replayed m E [] vs tt good)
+      (subst (λ (xs : List ℕ). Has e xs) (sym (live_made [] vs)) k)
 
   pub good_once : ((e : ℕ) → e < m → Before (E e).low (E e).high) → Once (live_from [] vs)
-  good_once edges = subst (λ (xs : List ℕ). Once xs) (live_made [] vs) (front_once m E edges (made [] vs) (replayed m E [] vs tt good) (good_risen m E [] vs tt good))
+  good_once edges =
+      subst (λ (xs : List ℕ). Once xs) (live_made [] vs)
+      (front_once m E edges (made [] vs) (replayed m E [] vs tt good)
+      (good_risen m E [] vs tt good))
 
   pub good_room : ((e : ℕ) → e < m → Before (E e).low (E e).high) → length (live_from [] vs) ≤ m
   good_room edges = room m (live_from [] vs) (good_once edges) (λ e k. (good_known e k).0)
@@ -56,13 +63,15 @@ place_of v = v.at
 
 steps_points : (now : List ℕ) (vs : List Move) → map point_at (steps_from now vs) ≡ map place_of vs
 steps_points now [] = refl
-steps_points now (v ∷ vs) = ap (λ (ps : List Point). v.at ∷ ps) (steps_points (after (step_of now v)) vs)
+steps_points now (v ∷ vs) =
+    ap (λ (ps : List Point). v.at ∷ ps) (steps_points (after (step_of now v)) vs)
 
 moves_points : (table : List Timed) (ps : List ℕ) → length ps ≡ length table
     → map place_of (moves_at table ps) ≡ map point_of table
 moves_points [] ps e = refl
 moves_points (t ∷ table) [] e = absurd (omega (arith, e))
-moves_points (t ∷ table) (p ∷ ps) e = ap (λ (qs : List Point). t.at ∷ qs) (moves_points table ps (omega (arith, e)))
+moves_points (t ∷ table) (p ∷ ps) e =
+    ap (λ (qs : List Point). t.at ∷ qs) (moves_points table ps (omega (arith, e)))
 
 at_some : (p : Point) (steps : List Step) → Has p (map point_at steps) → AtSome p steps
 at_some p [] h = absurd h
@@ -92,7 +101,8 @@ made_has s done (v ∷ vs) (inl e) = kept s (step_of (live done) v ∷ done) vs 
 made_has s done (v ∷ vs) (inr h) = made_has s (step_of (live done) v ∷ done) vs h
 
 -- ---- a complete run
-module _ (m : ℕ) (E : ℕ → Edge) (table : List Timed) (ps : List ℕ) (is : IsTimetable m E table) (size : length ps ≡ length table) where
+module _ (m : ℕ) (E : ℕ → Edge) (table : List Timed) (ps : List ℕ) (is : IsTimetable m E table)
+    (size : length ps ≡ length table) where
   abbrev vs : List Move
   vs = moves_at table ps
 
@@ -111,44 +121,60 @@ module _ (m : ℕ) (E : ℕ → Edge) (table : List Timed) (ps : List ℕ) (is :
   pub timetable_run : AreGood m E [] vs → Run m E steps
   timetable_run good =
       let front = replayed m E [] vs tt good in
-      let nothing = front_empty m E is.events.edges (made [] vs) front (good_risen m E [] vs tt good) (λ e l. at_made (E e).high (is.events.ends e l).1) in
+      let nothing = front_empty m E is.events.edges (made [] vs) front
+      (good_risen m E [] vs tt good) (λ e l. at_made (E e).high (is.events.ends e l).1) in
       record {
-        replays = subst (λ (xs : List Step). IsReplay m E [] xs) (all_made vs) (replays m E (made [] vs) [] front nothing);
-        rises = steps_rise steps (subst (λ (qs : List Point). Neighbours Before qs) (sym points) is.events.rises);
-        ends = λ e l. (at_step (E e).low (is.events.ends e l).0, at_step (E e).high (is.events.ends e l).1);
-        events = λ s h. is.events.events s.at (subst (λ (qs : List Point). Has s.at qs) points (has_point s steps h));
+        replays = subst (λ (xs : List Step). IsReplay m E [] xs) (all_made vs)
+            (replays m E (made [] vs) [] front nothing);
+        rises = steps_rise steps
+            (subst (λ (qs : List Point). Neighbours Before qs) (sym points) is.events.rises);
+        ends = λ e l. (
+          at_step (E e).low (is.events.ends e l).0,
+          at_step (E e).high (is.events.ends e l).1,
+        );
+        events = λ s h. is.events.events s.at
+            (subst (λ (qs : List Point). Has s.at qs) points (has_point s steps h));
         edges = is.events.edges;
       }
 
 -- ---- a move that passes its tests is good
 once_block : (now : List ℕ) (p n : ℕ) → Once now → Once (take n (drop p now))
 once_block now p n h =
-    let later = once_back (take p now) (drop p now) (subst (λ (xs : List ℕ). Once xs) (sym (take-append-drop p now)) h) in
-    once_front (take n (drop p now)) (drop n (drop p now)) (subst (λ (xs : List ℕ). Once xs) (sym (take-append-drop n (drop p now))) later)
+    let later = once_back (take p now) (drop p now)
+    (subst (λ (xs : List ℕ). Once xs) (sym (take-append-drop p now)) h) in
+    once_front (take n (drop p now)) (drop n (drop p now))
+    (subst (λ (xs : List ℕ). Once xs) (sym (take-append-drop n (drop p now))) later)
 
 has_block : (now : List ℕ) (p n e : ℕ) → Has e (take n (drop p now)) → Has e now
 has_block now p n e h =
     subst (λ (xs : List ℕ). Has e xs) (take-append-drop p now) (has_back e (take p now) (drop p now)
-    (subst (λ (xs : List ℕ). Has e xs) (take-append-drop n (drop p now)) (has_front e (take n (drop p now)) (drop n (drop p now)) h)))
+    (subst (λ (xs : List ℕ). Has e xs) (take-append-drop n (drop p now))
+    (has_front e (take n (drop p now)) (drop n (drop p now)) h)))
 
 block_length : (now : List ℕ) (p n : ℕ) → (p + n) ≤ length now → length (take n (drop p now)) ≡ n
-block_length now p n h = length-take-le n (drop p now) (let l = length-drop p now in omega (arith, h, l))
+block_length now p n h =
+    length-take-le n (drop p now) (let l = length-drop p now in omega (arith, h, l))
 
 pub passes_good : (m : ℕ) (E : ℕ → Edge) (done : List Step) (t : Timed) (p : ℕ)
     → ((e : ℕ) → e < m → Before (E e).low (E e).high) → Replayed m E done → Risen done
-    → IsTimed m E t → ((s : Step) → Has s done → Before s.at t.at) → PassesAt E (live done) t p → IsGood m E done (move_at t p)
+    → IsTimed m E t → ((s : Step) → Has s done → Before s.at t.at) → PassesAt E (live done) t p
+    → IsGood m E done (move_at t p)
 passes_good m E done t p edges h r is later test =
     let now = live done in
     let n = length t.ending in
     let once = front_once m E edges done h r in
     let block = test.block in
     let long = block_length now p n block in
-    let ends : (e : ℕ) → Has e (take n (drop p now)) → (e < m) × ((E e).high ≡ t.at) = λ e k. ((live_started m E done e h (has_block now p n e k)).0, test.ends e k) in
+    let ends : (e : ℕ) → Has e (take n (drop p now))
+    → (e < m) × ((E e).high ≡ t.at) =
+    λ e k. ((live_started m E done e h (has_block now p n e k)).0, test.ends e k) in
     record {
       fits = block;
       good = good_step_by_turns m E t.at now p n t.starting (omega (arith, block)) ends
-          (whole m E t (take n (drop p now)) is (once_block now p n once) ends (omega (arith, long))) (once_block now p n once)
-          (λ e k. (is.starting e).0 k) (λ e l q. (is.starting e).1 (l, q)) test.slopes test.below test.above;
+          (whole m E t (take n (drop p now)) is (once_block now p n once) ends
+          (omega (arith, long))) (once_block now p n once)
+          (λ e k. (is.starting e).0 k) (λ e l q. (is.starting e).1 (l, q)) test.slopes test.below
+          test.above;
       once = starting_once m E edges t is;
       later = later;
     }
@@ -169,7 +195,9 @@ first_points q [] k d h l i = absurd (omega (arith, l))
 first_points q (x ∷ qs) zero d h l i = absurd i
 first_points q (x ∷ qs) (suc k) d h l (inl e) =
     subst (λ (y : Point). Before y (get_or qs k d)) (sym e)
-    (first_before Before (λ p. Unit {0}) (λ p u b. never p b) (λ p y r a b c n o. before_trans p y r n o) x (get_or qs k d) qs (λ z j. tt) h (has_at qs k d (omega (arith, l))))
+    (first_before Before (λ p. Unit {0}) (λ p u b. never p b)
+    (λ p y r a b c n o. before_trans p y r n o) x (get_or qs k d) qs (λ z j. tt) h
+    (has_at qs k d (omega (arith, l))))
 first_points q (x ∷ qs) (suc k) d h l (inr i) = first_points q qs k d h.1 (omega (arith, l)) i
 
 map_take : (us : List Move) (k : ℕ) → map place_of (take k us) ≡ take k (map place_of us)
@@ -196,15 +224,18 @@ pub moved_at : (table : List Timed) (ps : List ℕ) (k : ℕ) → length ps ≡ 
 moved_at [] ps k e l = absurd (omega (arith, l))
 moved_at (t ∷ table) [] k e l = absurd (omega (arith, e))
 moved_at (t ∷ table) (p ∷ ps) zero e l = refl
-moved_at (t ∷ table) (p ∷ ps) (suc k) e l = moved_at table ps k (omega (arith, e)) (omega (arith, l))
+moved_at (t ∷ table) (p ∷ ps) (suc k) e l =
+    moved_at table ps k (omega (arith, e)) (omega (arith, l))
 
 pub moves_length : (table : List Timed) (ps : List ℕ) → length ps ≡ length table
     → length (moves_at table ps) ≡ length table
 moves_length [] ps e = refl
 moves_length (t ∷ table) [] e = absurd (omega (arith, e))
-moves_length (t ∷ table) (p ∷ ps) e = ap (λ (n : ℕ). suc n) (moves_length table ps (omega (arith, e)))
+moves_length (t ∷ table) (p ∷ ps) e =
+    ap (λ (n : ℕ). suc n) (moves_length table ps (omega (arith, e)))
 
-module _ (m : ℕ) (E : ℕ → Edge) (table : List Timed) (ps : List ℕ) (is : IsTimetable m E table) (size : length ps ≡ length table) (k : ℕ) (l : k < length table)
+module _ (m : ℕ) (E : ℕ → Edge) (table : List Timed) (ps : List ℕ) (is : IsTimetable m E table)
+    (size : length ps ≡ length table) (k : ℕ) (l : k < length table)
     (good : AreGood m E [] (take k (moves_at table ps))) where
   abbrev front : List Move
   front = take k (moves_at table ps)
@@ -216,10 +247,14 @@ module _ (m : ℕ) (E : ℕ → Edge) (table : List Timed) (ps : List ℕ) (is :
   passed s h = elim (from_made s [] front h) [
     | inl i ↦ absurd i
     | inr i ↦ (
-        let q = steps_points [] front ∙ map_take (moves_at table ps) k ∙ ap (λ (ys : List Point). take k ys) (moves_points table ps size) in
-        let there = subst (λ (ys : List Point). Has s.at ys) q (has_point s (steps_from [] front) i) in
+        let q = steps_points [] front ∙ map_take (moves_at table ps) k
+        ∙ ap (λ (ys : List Point). take k ys) (moves_points table ps size) in
+        let there = subst (λ (ys : List Point). Has s.at ys) q
+        (has_point s (steps_from [] front) i) in
         let n = length-map table point_of in
-        subst (λ (y : Point). Before s.at y) (map_at table k l) (first_points s.at (map point_of table) k no_event.at is.events.rises (omega (arith, l, n)) there))
+        subst (λ (y : Point). Before s.at y) (map_at table k l)
+        (first_points s.at (map point_of table) k no_event.at is.events.rises
+        (omega (arith, l, n)) there))
   ]
 
   pub table_goes_on : PassesAt E (live_from [] front) next (get_or ps k 0)
@@ -227,7 +262,12 @@ module _ (m : ℕ) (E : ℕ → Edge) (table : List Timed) (ps : List ℕ) (is :
   table_goes_on test =
       let e = live_made [] front in
       let here = subst (λ (now : List ℕ). PassesAt E now next (get_or ps k 0)) (sym e) test in
-      let one = passes_good m E (made [] front) next (get_or ps k 0) is.events.edges (replayed m E [] front tt good) (good_risen m E [] front tt good) (timed_at m E table k l is.timed) passed here in
-      let more = good_more m E [] front (get_or (moves_at table ps) k no_move) good (subst (λ (v : Move). IsGood m E (made [] front) v) (sym (moved_at table ps k size l)) one) in
+      let one = passes_good m E (made [] front) next (get_or ps k 0) is.events.edges
+      (replayed m E [] front tt good) (good_risen m E [] front tt good)
+      (timed_at m E table k l is.timed) passed here in
+      let more = good_more m E [] front (get_or (moves_at table ps) k no_move) good
+      (subst (λ (v : Move). IsGood m E (made [] front) v)
+      (sym (moved_at table ps k size l)) one) in
       let n = moves_length table ps size in
-      subst (λ (vs : List Move). AreGood m E [] vs) (sym (take-suc (moves_at table ps) k no_move (omega (arith, l, n)))) more
+      subst (λ (vs : List Move). AreGood m E [] vs)
+      (sym (take-suc (moves_at table ps) k no_move (omega (arith, l, n)))) more

@@ -25,7 +25,10 @@ triangle_to t z h =
       j_least = h.b_least;
       k_least = h.c_least;
       some = h.some;
-      is = record { x = ap (λ (n : ℤ). z.x *ℤ n) (omega (arith, ints)) ∙ h.is.x; y = ap (λ (n : ℤ). z.y *ℤ n) (omega (arith, ints)) ∙ h.is.y };
+      is = record {
+        x = ap (λ (n : ℤ). z.x *ℤ n) (omega (arith, ints)) ∙ h.is.x;
+        y = ap (λ (n : ℤ). z.y *ℤ n) (omega (arith, ints)) ∙ h.is.y;
+      };
     }
 
 pub triangle_from : (t : Tile) (z : Vector) → arcs.InTriangle z (point t.a) (point t.b) (point t.c)
@@ -38,7 +41,10 @@ triangle_from t z h = record {
   b_least = h.j_least;
   c_least = h.k_least;
   some = h.some;
-  is = record { x = ap (λ (n : ℤ). z.x *ℤ n) (omega (arith, ints)) ∙ h.is.x; y = ap (λ (n : ℤ). z.y *ℤ n) (omega (arith, ints)) ∙ h.is.y };
+  is = record {
+    x = ap (λ (n : ℤ). z.x *ℤ n) (omega (arith, ints)) ∙ h.is.x;
+    y = ap (λ (n : ℤ). z.y *ℤ n) (omega (arith, ints)) ∙ h.is.y;
+  };
 }
 
 -- the first two corners in the other order
@@ -55,8 +61,10 @@ swapped z p q r h =
       k_least = h.k_least;
       some = omega (arith, ints, s);
       is = record {
-        x = ap (λ (n : ℤ). z.x *ℤ n) (omega (arith, ints)) ∙ h.is.x ∙ ap (λ (n : ℤ). n *ℤ z.n) (omega (arith, ints));
-        y = ap (λ (n : ℤ). z.y *ℤ n) (omega (arith, ints)) ∙ h.is.y ∙ ap (λ (n : ℤ). n *ℤ z.n) (omega (arith, ints));
+        x = ap (λ (n : ℤ). z.x *ℤ n) (omega (arith, ints)) ∙ h.is.x
+            ∙ ap (λ (n : ℤ). n *ℤ z.n) (omega (arith, ints));
+        y = ap (λ (n : ℤ). z.y *ℤ n) (omega (arith, ints)) ∙ h.is.y
+            ∙ ap (λ (n : ℤ). n *ℤ z.n) (omega (arith, ints));
       };
     }
 
@@ -67,7 +75,9 @@ strips_to : (b : Bay) (bs : List Bay) (z : Vector) → InSomeTile (strips b.inne
     → arcs.InBays b.inner bs z ⊎ arcs.InGaps (b ∷ bs) z
 strips_to b [] z s = absurd s.1
 strips_to b (d ∷ bs) z s = elim s.1 [
-  | inl e ↦ inr (inl (swapped z b.outer b.inner d.outer (triangle_to _ z (subst (λ (t : Tile). here.InTile t z) e s.2))))
+  | inl e ↦ inr
+      (inl (swapped z b.outer b.inner d.outer
+      (triangle_to _ z (subst (λ (t : Tile). here.InTile t z) e s.2))))
   | inr m ↦ elim m [
     | inl e ↦ inl (inl (triangle_to _ z (subst (λ (t : Tile). here.InTile t z) e s.2)))
     | inr n ↦ elim (strips_to d bs z (s.0, n, s.2)) [ inl x ↦ inl (inr x) | inr x ↦ inr (inr x) ]
@@ -77,13 +87,22 @@ strips_to b (d ∷ bs) z s = elim s.1 [
 bays_from : (b : Bay) (bs : List Bay) (z : Vector) → arcs.InBays b.inner bs z
     → InSomeTile (strips b.inner b.outer bs) z
 bays_from b [] z h = absurd h
-bays_from b (d ∷ bs) z (inl h) = (record { a = b.inner; b = d.inner; c = d.outer }, inr (inl refl), triangle_from _ z h)
+bays_from b (d ∷ bs) z (inl h) =
+    (record { a = b.inner; b = d.inner; c = d.outer }, inr (inl refl), triangle_from _ z h)
 bays_from b (d ∷ bs) z (inr h) = let s = bays_from d bs z h in (s.0, inr (inr s.1), s.2)
 
 gaps_from : (b : Bay) (bs : List Bay) (z : Vector) → arcs.InGaps (b ∷ bs) z
     → InSomeTile (strips b.inner b.outer bs) z
 gaps_from b [] z h = absurd h
-gaps_from b (d ∷ bs) z (inl h) = (record { a = b.outer; b = b.inner; c = d.outer }, inl refl, triangle_from _ z (swapped z b.inner b.outer d.outer h))
+gaps_from b (d ∷ bs) z (inl h) = (
+  record {
+    a = b.outer;
+    b = b.inner;
+    c = d.outer;
+  },
+  inl refl,
+  triangle_from _ z (swapped z b.inner b.outer d.outer h),
+)
 gaps_from b (d ∷ bs) z (inr h) = let s = gaps_from d bs z h in (s.0, inr (inr s.1), s.2)
 
 -- a place of the list of triangles is in the tube
@@ -97,7 +116,8 @@ tiles_in_tube a b bs z s = elim s.1 [
 -- and back
 pub tube_in_tiles : (a : Point) (b : Bay) (bs : List Bay) (z : Vector) → arcs.InTube a (b ∷ bs) z
     → InSomeTile (tiles a ((b ∷ bs))) z
-tube_in_tiles a b bs z (inl (inl h)) = (record { a = a; b = b.inner; c = b.outer }, inl refl, triangle_from _ z h)
+tube_in_tiles a b bs z (inl (inl h)) =
+    (record { a = a; b = b.inner; c = b.outer }, inl refl, triangle_from _ z h)
 tube_in_tiles a b bs z (inl (inr h)) = more _ _ z (bays_from b bs z h)
 tube_in_tiles a b bs z (inr h) = more _ _ z (gaps_from b bs z h)
 
@@ -106,20 +126,34 @@ pub outward_side : (h : HalfArc) (p q z : Point)
     → arcs.outward h p q z ≡ (pos 0 -ℤ bend h) *ℤ side (arrow p q) (point z)
 unfolding arcs.outward side
 outward_side h p q z =
-    ring (minus (num (pos 0)) (times (at 6) (minus (times (minus (at 2) (at 0)) (minus (at 5) (at 1))) (times (minus (at 3) (at 1)) (minus (at 4) (at 0))))))
-    (times (minus (num (pos 0)) (at 6)) (minus (times (minus (at 2) (at 0)) (minus (at 5) (times (at 1) (num (pos 1))))) (times (minus (at 3) (at 1)) (minus (at 4) (times (at 0) (num (pos 1)))))))
+    ring (minus (num (pos 0))
+    (times (at 6)
+    (minus (times (minus (at 2) (at 0)) (minus (at 5) (at 1)))
+    (times (minus (at 3) (at 1)) (minus (at 4) (at 0))))))
+    (times (minus (num (pos 0)) (at 6))
+    (minus (times (minus (at 2) (at 0)) (minus (at 5) (times (at 1) (num (pos 1)))))
+    (times (minus (at 3) (at 1)) (minus (at 4) (times (at 0) (num (pos 1)))))))
     (vars (p.x ∷ p.y ∷ q.x ∷ q.y ∷ z.x ∷ z.y ∷ bend h ∷ [])) refl
 
 outward_left : (h : HalfArc) (p q z : Point) → bend h <ℤ pos 0 → pos 0 <ℤ arcs.outward h p q z
     → pos 0 <ℤ side (arrow p q) (point z)
-outward_left h p q z b l = positive_factor (pos 0 -ℤ bend h) (side (arrow p q) (point z)) (omega (arith, ints, b)) (let e = outward_side h p q z in omega (arith, ints, e, l))
+outward_left h p q z b l =
+    positive_factor (pos 0 -ℤ bend h) (side (arrow p q) (point z)) (omega (arith, ints, b))
+    (let e = outward_side h p q z in omega (arith, ints, e, l))
 
 pub outward_swap : (h : HalfArc) (p q z : Point)
     → arcs.outward h p z q ≡ pos 0 -ℤ arcs.outward h p q z
 unfolding arcs.outward
 outward_swap h p q z =
-    ring (minus (num (pos 0)) (times (at 6) (minus (times (minus (at 4) (at 0)) (minus (at 3) (at 1))) (times (minus (at 5) (at 1)) (minus (at 2) (at 0))))))
-    (minus (num (pos 0)) (minus (num (pos 0)) (times (at 6) (minus (times (minus (at 2) (at 0)) (minus (at 5) (at 1))) (times (minus (at 3) (at 1)) (minus (at 4) (at 0)))))))
+    ring (minus (num (pos 0))
+    (times (at 6)
+    (minus (times (minus (at 4) (at 0)) (minus (at 3) (at 1)))
+    (times (minus (at 5) (at 1)) (minus (at 2) (at 0))))))
+    (minus (num (pos 0))
+    (minus (num (pos 0))
+    (times (at 6)
+    (minus (times (minus (at 2) (at 0)) (minus (at 5) (at 1)))
+    (times (minus (at 3) (at 1)) (minus (at 4) (at 0)))))))
     (vars (p.x ∷ p.y ∷ q.x ∷ q.y ∷ z.x ∷ z.y ∷ bend h ∷ [])) refl
 
 strips_left : (h : HalfArc) (b : Bay) (bs : List Bay) → bend h <ℤ pos 0 → arcs.AreBays h b.inner bs
@@ -127,9 +161,14 @@ strips_left : (h : HalfArc) (b : Bay) (bs : List Bay) → bend h <ℤ pos 0 → 
 strips_left h b [] l are next = tt
 strips_left h b (d ∷ bs) l are next =
     let u = next.0.under in
-    let e = outward_swap h b.outer b.inner d.outer in
-    (outward_left h b.outer b.inner d.outer l (omega (arith, ints, u, e)), (outward_left h b.inner d.inner d.outer l are.0.over, strips_left h d bs l are.1 next.1))
+    let e = outward_swap h b.outer b.inner d.outer in (
+      outward_left h b.outer b.inner d.outer l (omega (arith, ints, u, e)),
+      (outward_left h b.inner d.inner d.outer l are.0.over, strips_left h d bs l are.1 next.1),
+    )
 
 pub tiles_left : (h : HalfArc) (b : Bay) (bs : List Bay) → bend h <ℤ pos 0 → arcs.IsTube h (b ∷ bs)
     → Each (λ t. IsLeftTile t) (tiles h.from ((b ∷ bs)))
-tiles_left h b bs l tube = (outward_left h h.from b.inner b.outer l tube.are_bays.0.over, strips_left h b bs l tube.are_bays.1 tube.are_next)
+tiles_left h b bs l tube = (
+  outward_left h h.from b.inner b.outer l tube.are_bays.0.over,
+  strips_left h b bs l tube.are_bays.1 tube.are_next,
+)

@@ -14,7 +14,8 @@ use Rattle.plane.proofs.Caps.CapTriangles.{triangle_least, side-turned}
 side-back : (p q : Point) (z : Vector) → side (line q p) z ≡ pos 0 -ℤ side (line p q) z
 unfolding side
 side-back p q z =
-    ring (SIDE (at 2) (at 3) (at 0) (at 1) (at 4) (at 5) (at 6)) (minus (num (pos 0)) (SIDE (at 0) (at 1) (at 2) (at 3) (at 4) (at 5) (at 6)))
+    ring (SIDE (at 2) (at 3) (at 0) (at 1) (at 4) (at 5) (at 6))
+    (minus (num (pos 0)) (SIDE (at 0) (at 1) (at 2) (at 3) (at 4) (at 5) (at 6)))
     (vars (p.x ∷ p.y ∷ q.x ∷ q.y ∷ z.x ∷ z.y ∷ z.n ∷ [])) refl
 
 -- the place is on or left of each side of the triangle p q m
@@ -32,9 +33,12 @@ triangle_sides p q m z hz d t =
     let e = side-turned p q m in
     let f = side-turned q m p in
     record {
-      first = triangle_least (line p q) z p q m hz t (zero_least _ (side-low (line p q))) (zero_least _ (side-high (line p q))) (omega (arith, ints, d));
-      second = triangle_least (line q m) z p q m hz t (omega (arith, ints, d, e)) (zero_least _ (side-low (line q m))) (zero_least _ (side-high (line q m)));
-      third = triangle_least (line m p) z p q m hz t (zero_least _ (side-high (line m p))) (omega (arith, ints, d, e, f)) (zero_least _ (side-low (line m p)));
+      first = triangle_least (line p q) z p q m hz t (zero_least _ (side-low (line p q)))
+          (zero_least _ (side-high (line p q))) (omega (arith, ints, d));
+      second = triangle_least (line q m) z p q m hz t (omega (arith, ints, d, e))
+          (zero_least _ (side-low (line q m))) (zero_least _ (side-high (line q m)));
+      third = triangle_least (line m p) z p q m hz t (zero_least _ (side-high (line m p)))
+          (omega (arith, ints, d, e, f)) (zero_least _ (side-low (line m p)));
     }
 
 pub sides_triangle : (p q m : Point) (z : Vector) → Place z → pos 0 <ℤ side (line p q) (point m)
@@ -56,7 +60,12 @@ triangle_swapped z p q r t = record {
   j_least = t.k_least;
   k_least = t.j_least;
   some = (let s = t.some in omega (arith, ints, s));
-  is = record { x = moved z.x (t.i *ℤ p.n) (t.j *ℤ q.n) (t.k *ℤ r.n) (t.i *ℤ p.x) (t.j *ℤ q.x) (t.k *ℤ r.x) t.is.x; y = moved z.y (t.i *ℤ p.n) (t.j *ℤ q.n) (t.k *ℤ r.n) (t.i *ℤ p.y) (t.j *ℤ q.y) (t.k *ℤ r.y) t.is.y };
+  is = record {
+    x = moved z.x (t.i *ℤ p.n) (t.j *ℤ q.n) (t.k *ℤ r.n) (t.i *ℤ p.x) (t.j *ℤ q.x)
+        (t.k *ℤ r.x) t.is.x;
+    y = moved z.y (t.i *ℤ p.n) (t.j *ℤ q.n) (t.k *ℤ r.n) (t.i *ℤ p.y) (t.j *ℤ q.y)
+        (t.k *ℤ r.y) t.is.y;
+  };
 }
   where
     moved : (x a b c d e f : ℤ) → x *ℤ ((a +ℤ b) +ℤ c) ≡ ((d +ℤ e) +ℤ f) *ℤ z.n

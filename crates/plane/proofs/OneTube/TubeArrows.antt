@@ -23,11 +23,17 @@ clash_back h p q e l = let x = ap (λ (v : Point). A h v) e in omega (arith, int
 
 low_after : (h : HalfArc) (p u : Point) (ks : List Bay) (e : Edge) → AreBays h p ks
     → Has e (fence p u ks) → A h p ≤ℤ A h e.low
-low_after h p u [] e are (inl m) = subst (λ (f : Edge). A h p ≤ℤ A h f.low) (sym m) (omega (arith, ints))
+low_after h p u [] e are (inl m) =
+    subst (λ (f : Edge). A h p ≤ℤ A h f.low) (sym m) (omega (arith, ints))
 low_after h p u [] e are (inr m) = absurd m
-low_after h p u (k ∷ ks) e are (inl m) = subst (λ (f : Edge). A h p ≤ℤ A h f.low) (sym m) (omega (arith, ints))
-low_after h p u (k ∷ ks) e are (inr (inl m)) = let up = are.0.up in subst (λ (f : Edge). A h p ≤ℤ A h f.low) (sym m) (omega (arith, ints, up))
-low_after h p u (k ∷ ks) e are (inr (inr m)) = let up = are.0.up in let on = are.0.on in let l = low_after h k.inner k.outer ks e are.1 m in omega (arith, ints, up, on, l)
+low_after h p u (k ∷ ks) e are (inl m) =
+    subst (λ (f : Edge). A h p ≤ℤ A h f.low) (sym m) (omega (arith, ints))
+low_after h p u (k ∷ ks) e are (inr (inl m)) =
+    let up = are.0.up in subst (λ (f : Edge). A h p ≤ℤ A h f.low) (sym m) (omega (arith, ints, up))
+low_after h p u (k ∷ ks) e are (inr (inr m)) =
+    let up = are.0.up in
+    let on = are.0.on in
+    let l = low_after h k.inner k.outer ks e are.1 m in omega (arith, ints, up, on, l)
 
 abbrev IsHigh : HalfArc → Point → Point → Edge → Type 0
 IsHigh h p u e = (e.high ≡ u) ⊎ (A h p <ℤ A h e.high)
@@ -36,7 +42,10 @@ high_after : (h : HalfArc) (p u : Point) (ks : List Bay) (e : Edge) → AreBays 
     → Has e (fence p u ks) → IsHigh h p u e
 high_after h p u [] e are (inl m) = inl (ap (λ (f : Edge). f.high) m)
 high_after h p u [] e are (inr m) = absurd m
-high_after h p u (k ∷ ks) e are (inl m) = let up = are.0.up in let on = are.0.on in inr (subst (λ (f : Edge). A h p <ℤ A h f.high) (sym m) (omega (arith, ints, up, on)))
+high_after h p u (k ∷ ks) e are (inl m) =
+    let up = are.0.up in
+    let on = are.0.on in
+    inr (subst (λ (f : Edge). A h p <ℤ A h f.high) (sym m) (omega (arith, ints, up, on)))
 high_after h p u (k ∷ ks) e are (inr (inl m)) = inl (ap (λ (f : Edge). f.high) m)
 high_after h p u (k ∷ ks) e are (inr (inr m)) = later (high_after h k.inner k.outer ks e are.1 m)
   where
@@ -51,22 +60,29 @@ starts_one h p u [] e f are (inl m) (inl n) q = m ∙ sym n
 starts_one h p u [] e f are (inl m) (inr n) q = absurd n
 starts_one h p u [] e f are (inr m) n q = absurd m
 starts_one h p u (k ∷ ks) e f are (inl m) (inl n) q = m ∙ sym n
-starts_one h p u (k ∷ ks) e f are (inl m) (inr (inl n)) q = absurd (clash h p k.outer (sym (ap (λ (x : Edge). x.low) m) ∙ q ∙ ap (λ (x : Edge). x.low) n) are.0.up)
+starts_one h p u (k ∷ ks) e f are (inl m) (inr (inl n)) q =
+    absurd (clash h p k.outer (sym (ap (λ (x : Edge). x.low) m) ∙ q
+    ∙ ap (λ (x : Edge). x.low) n) are.0.up)
 starts_one h p u (k ∷ ks) e f are (inl m) (inr (inr n)) q =
     let up = are.0.up in let on = are.0.on in let l = low_after h k.inner k.outer ks f are.1 n in
     absurd (clash h p f.low (sym (ap (λ (x : Edge). x.low) m) ∙ q) (omega (arith, ints, up, on, l)))
-starts_one h p u (k ∷ ks) e f are (inr (inl m)) (inl n) q = absurd (clash_back h k.outer p (sym (ap (λ (x : Edge). x.low) m) ∙ q ∙ ap (λ (x : Edge). x.low) n) are.0.up)
+starts_one h p u (k ∷ ks) e f are (inr (inl m)) (inl n) q =
+    absurd (clash_back h k.outer p (sym (ap (λ (x : Edge). x.low) m) ∙ q
+    ∙ ap (λ (x : Edge). x.low) n) are.0.up)
 starts_one h p u (k ∷ ks) e f are (inr (inl m)) (inr (inl n)) q = m ∙ sym n
 starts_one h p u (k ∷ ks) e f are (inr (inl m)) (inr (inr n)) q =
     let on = are.0.on in let l = low_after h k.inner k.outer ks f are.1 n in
-    absurd (clash h k.outer f.low (sym (ap (λ (x : Edge). x.low) m) ∙ q) (omega (arith, ints, on, l)))
+    absurd (clash h k.outer f.low (sym (ap (λ (x : Edge). x.low) m) ∙ q)
+    (omega (arith, ints, on, l)))
 starts_one h p u (k ∷ ks) e f are (inr (inr m)) (inl n) q =
     let up = are.0.up in let on = are.0.on in let l = low_after h k.inner k.outer ks e are.1 m in
     absurd (clash_back h e.low p (q ∙ ap (λ (x : Edge). x.low) n) (omega (arith, ints, up, on, l)))
 starts_one h p u (k ∷ ks) e f are (inr (inr m)) (inr (inl n)) q =
     let on = are.0.on in let l = low_after h k.inner k.outer ks e are.1 m in
-    absurd (clash_back h e.low k.outer (q ∙ ap (λ (x : Edge). x.low) n) (omega (arith, ints, on, l)))
-starts_one h p u (k ∷ ks) e f are (inr (inr m)) (inr (inr n)) q = starts_one h k.inner k.outer ks e f are.1 m n q
+    absurd (clash_back h e.low k.outer (q ∙ ap (λ (x : Edge). x.low) n)
+    (omega (arith, ints, on, l)))
+starts_one h p u (k ∷ ks) e f are (inr (inr m)) (inr (inr n)) q =
+    starts_one h k.inner k.outer ks e f are.1 m n q
 
 -- ---- and one arrives
 -- the high end of a later bound is neither u nor the next inner corner
@@ -76,8 +92,14 @@ not_first : (h : HalfArc) (p u : Point) (k : Bay) (ks : List Bay) (e : Edge) →
 not_first h p u k ks e l are m =
     let up = are.0.up in let on = are.0.on in
     elim (high_after h k.inner k.outer ks e are.1 m) [
-      | inl x ↦ (λ y. clash h k.outer k.inner (sym x ∙ y) on, λ y. clash_back h k.outer u (sym x ∙ y) (omega (arith, ints, l, up)))
-      | inr x ↦ (λ y. clash_back h e.high k.inner y x, λ y. clash_back h e.high u y (omega (arith, ints, l, up, on, x)))
+      | inl x ↦ (
+        λ y. clash h k.outer k.inner (sym x ∙ y) on,
+        λ y. clash_back h k.outer u (sym x ∙ y) (omega (arith, ints, l, up)),
+      )
+      | inr x ↦ (
+        λ y. clash_back h e.high k.inner y x,
+        λ y. clash_back h e.high u y (omega (arith, ints, l, up, on, x)),
+      )
     ]
 
 pub arrives_one : (h : HalfArc) (p u : Point) (ks : List Bay) (e f : Edge) → A h u ≤ℤ A h p
@@ -88,16 +110,23 @@ arrives_one h p u [] e f l are (inr m) n q = absurd m
 arrives_one h p u (k ∷ ks) e f l are (inl m) (inl n) q = m ∙ sym n
 arrives_one h p u (k ∷ ks) e f l are (inl m) (inr (inl n)) q =
     let up = are.0.up in let on = are.0.on in
-    absurd (clash_back h k.inner u (sym (ap (λ (x : Edge). x.high) m) ∙ q ∙ ap (λ (x : Edge). x.high) n) (omega (arith, ints, l, up, on)))
-arrives_one h p u (k ∷ ks) e f l are (inl m) (inr (inr n)) q = absurd ((not_first h p u k ks f l are n).0 (sym q ∙ ap (λ (x : Edge). x.high) m))
+    absurd (clash_back h k.inner u (sym (ap (λ (x : Edge). x.high) m) ∙ q
+    ∙ ap (λ (x : Edge). x.high) n) (omega (arith, ints, l, up, on)))
+arrives_one h p u (k ∷ ks) e f l are (inl m) (inr (inr n)) q =
+    absurd ((not_first h p u k ks f l are n).0 (sym q ∙ ap (λ (x : Edge). x.high) m))
 arrives_one h p u (k ∷ ks) e f l are (inr (inl m)) (inl n) q =
     let up = are.0.up in let on = are.0.on in
-    absurd (clash h u k.inner (sym (ap (λ (x : Edge). x.high) m) ∙ q ∙ ap (λ (x : Edge). x.high) n) (omega (arith, ints, l, up, on)))
+    absurd (clash h u k.inner (sym (ap (λ (x : Edge). x.high) m) ∙ q ∙ ap (λ (x : Edge). x.high) n)
+    (omega (arith, ints, l, up, on)))
 arrives_one h p u (k ∷ ks) e f l are (inr (inl m)) (inr (inl n)) q = m ∙ sym n
-arrives_one h p u (k ∷ ks) e f l are (inr (inl m)) (inr (inr n)) q = absurd ((not_first h p u k ks f l are n).1 (sym q ∙ ap (λ (x : Edge). x.high) m))
-arrives_one h p u (k ∷ ks) e f l are (inr (inr m)) (inl n) q = absurd ((not_first h p u k ks e l are m).0 (q ∙ ap (λ (x : Edge). x.high) n))
-arrives_one h p u (k ∷ ks) e f l are (inr (inr m)) (inr (inl n)) q = absurd ((not_first h p u k ks e l are m).1 (q ∙ ap (λ (x : Edge). x.high) n))
-arrives_one h p u (k ∷ ks) e f l are (inr (inr m)) (inr (inr n)) q = let on = are.0.on in arrives_one h k.inner k.outer ks e f (omega (arith, ints, on)) are.1 m n q
+arrives_one h p u (k ∷ ks) e f l are (inr (inl m)) (inr (inr n)) q =
+    absurd ((not_first h p u k ks f l are n).1 (sym q ∙ ap (λ (x : Edge). x.high) m))
+arrives_one h p u (k ∷ ks) e f l are (inr (inr m)) (inl n) q =
+    absurd ((not_first h p u k ks e l are m).0 (q ∙ ap (λ (x : Edge). x.high) n))
+arrives_one h p u (k ∷ ks) e f l are (inr (inr m)) (inr (inl n)) q =
+    absurd ((not_first h p u k ks e l are m).1 (q ∙ ap (λ (x : Edge). x.high) n))
+arrives_one h p u (k ∷ ks) e f l are (inr (inr m)) (inr (inr n)) q =
+    let on = are.0.on in arrives_one h k.inner k.outer ks e f (omega (arith, ints, on)) are.1 m n q
 
 -- ---- half-edges as arrows
 pub origin_way : (E : ℕ → Edge) (g : Half) → origin E g ≡ (way E g).low

@@ -1,4 +1,5 @@
--- Of a tube: a segment that hits its half arc has a place in it, and keeps its side where it does not hit.
+-- Of a tube: a segment that hits its half arc has a place in it, and keeps its side where it does
+-- not hit.
 use Rattle.std.proofs.Common.{◌≡◌, ℤ, pos, ◌+ℤ◌, ◌*ℤ◌, ◌<ℤ◌, ◌≤ℤ◌, List, [], ◌∷◌, refl, arith, ap}
 use Rattle.std.proofs.Common.{◌∙◌, subst, sym}
 use Rattle.std.proofs.lemmas.Int.{ints}
@@ -26,10 +27,15 @@ between_mix : (p q u v : Vector) (s t : ℤ) → Place p → Place q → Place u
 between_mix p q u v s t hp hq hu hv bu bv hs ht some = record {
   s = i;
   t = j;
-  s_least = sum_least _ _ (weight s mv.n u.n bu.s hs hmv hu bu.s_least) (weight t mu.n v.n bv.s ht hmu hv bv.s_least);
-  t_least = sum_least _ _ (weight s mv.n u.n bu.t hs hmv hu bu.t_least) (weight t mu.n v.n bv.t ht hmu hv bv.t_least);
+  s_least = sum_least _ _ (weight s mv.n u.n bu.s hs hmv hu bu.s_least)
+      (weight t mu.n v.n bv.s ht hmu hv bv.s_least);
+  t_least = sum_least _ _ (weight s mv.n u.n bu.t hs hmv hu bu.t_least)
+      (weight t mu.n v.n bv.t ht hmu hv bv.t_least);
   some = total;
-  is = record { x = across (mix s u t v).x (mix i p j q).x (mix s u t v).n (mix i p j q).n ex en; y = across (mix s u t v).y (mix i p j q).y (mix s u t v).n (mix i p j q).n ey en };
+  is = record {
+    x = across (mix s u t v).x (mix i p j q).x (mix s u t v).n (mix i p j q).n ex en;
+    y = across (mix s u t v).y (mix i p j q).y (mix s u t v).n (mix i p j q).n ey en;
+  };
 }
   where
     mu : Vector
@@ -60,18 +66,26 @@ between_mix p q u v s t hp hq hu hv bu bv hs ht some = record {
         → pos 0 ≤ℤ (a *ℤ ((b *ℤ c) *ℤ d))
     weight a b c d ha hb hc hd =
         let bc = product_positive b c hb hc in
-        product_nonnegative a ((b *ℤ c) *ℤ d) ha (product_nonnegative (b *ℤ c) d (omega (arith, ints, bc)) hd)
+        product_nonnegative a ((b *ℤ c) *ℤ d) ha
+        (product_nonnegative (b *ℤ c) d (omega (arith, ints, bc)) hd)
 
     heavy : (a b c d : ℤ) → pos 0 ≤ℤ a → pos 0 <ℤ b → pos 0 <ℤ c → pos 0 <ℤ d
         → a ≤ℤ (a *ℤ ((b *ℤ c) *ℤ d))
-    heavy a b c d ha hb hc hd = weight_at_most a ((b *ℤ c) *ℤ d) ha (product_positive (b *ℤ c) d (product_positive b c hb hc) hd)
+    heavy a b c d ha hb hc hd =
+        weight_at_most a ((b *ℤ c) *ℤ d) ha
+        (product_positive (b *ℤ c) d (product_positive b c hb hc) hd)
 
     total : pos 0 <ℤ (i +ℤ j)
     total =
         let a = heavy s mv.n u.n (bu.s +ℤ bu.t) hs hmv hu bu.some in
         let b = heavy t mu.n v.n (bv.s +ℤ bv.t) ht hmu hv bv.some in
-        let e = ring (plus (plus (times (at 0) (times (times (at 1) (at 2)) (at 3))) (times (at 5) (times (times (at 6) (at 7)) (at 8)))) (plus (times (at 0) (times (times (at 1) (at 2)) (at 4))) (times (at 5) (times (times (at 6) (at 7)) (at 9)))))
-        (plus (times (at 0) (times (times (at 1) (at 2)) (plus (at 3) (at 4)))) (times (at 5) (times (times (at 6) (at 7)) (plus (at 8) (at 9)))))
+        let e = ring
+        (plus (plus (times (at 0) (times (times (at 1) (at 2)) (at 3)))
+        (times (at 5) (times (times (at 6) (at 7)) (at 8))))
+        (plus (times (at 0) (times (times (at 1) (at 2)) (at 4)))
+        (times (at 5) (times (times (at 6) (at 7)) (at 9)))))
+        (plus (times (at 0) (times (times (at 1) (at 2)) (plus (at 3) (at 4))))
+        (times (at 5) (times (times (at 6) (at 7)) (plus (at 8) (at 9)))))
         (vars (s ∷ mv.n ∷ u.n ∷ bu.s ∷ bu.t ∷ t ∷ mu.n ∷ v.n ∷ bv.s ∷ bv.t ∷ [])) refl in
         positive_sum _ _ _ e a b some
       where
@@ -81,13 +95,26 @@ between_mix p q u v s t hp hq hu hv bu bv hs ht some = record {
     -- one entry: u m = x(mu) n where u is that place
     entry : (s t m n un vn us ut vs vt x y ux vx : ℤ) → ux *ℤ m ≡ ((us *ℤ x) +ℤ (ut *ℤ y)) *ℤ un
         → vx *ℤ n ≡ ((vs *ℤ x) +ℤ (vt *ℤ y)) *ℤ vn
-        → (((s *ℤ ((n *ℤ un) *ℤ us)) +ℤ (t *ℤ ((m *ℤ vn) *ℤ vs))) *ℤ x) +ℤ (((s *ℤ ((n *ℤ un) *ℤ ut)) +ℤ (t *ℤ ((m *ℤ vn) *ℤ vt))) *ℤ y) ≡ (m *ℤ n) *ℤ ((s *ℤ ux) +ℤ (t *ℤ vx))
+        → (((s *ℤ ((n *ℤ un) *ℤ us)) +ℤ (t *ℤ ((m *ℤ vn) *ℤ vs))) *ℤ x)
+        +ℤ (((s *ℤ ((n *ℤ un) *ℤ ut)) +ℤ (t *ℤ ((m *ℤ vn) *ℤ vt))) *ℤ y)
+        ≡ (m *ℤ n) *ℤ ((s *ℤ ux) +ℤ (t *ℤ vx))
     entry s t m n un vn us ut vs vt x y ux vx e f =
-        let S = at 0 in let T = at 1 in let M = at 2 in let N = at 3 in let UN = at 4 in let VN = at 5 in let US = at 6 in let UT = at 7 in let VS = at 8 in let VT = at 9 in let X = at 10 in let Y = at 11 in
-        let i1 = ring (plus (times (plus (times S (times (times N UN) US)) (times T (times (times M VN) VS))) X) (times (plus (times S (times (times N UN) UT)) (times T (times (times M VN) VT))) Y))
-        (plus (times (times S N) (times (plus (times US X) (times UT Y)) UN)) (times (times T M) (times (plus (times VS X) (times VT Y)) VN)))
+        let S = at 0 in
+        let T = at 1 in
+        let M = at 2 in
+        let N = at 3 in
+        let UN = at 4 in
+        let VN = at 5 in
+        let US = at 6 in
+        let UT = at 7 in let VS = at 8 in let VT = at 9 in let X = at 10 in let Y = at 11 in
+        let i1 = ring
+        (plus (times (plus (times S (times (times N UN) US)) (times T (times (times M VN) VS)))
+        X) (times (plus (times S (times (times N UN) UT)) (times T (times (times M VN) VT))) Y))
+        (plus (times (times S N) (times (plus (times US X) (times UT Y)) UN))
+        (times (times T M) (times (plus (times VS X) (times VT Y)) VN)))
         (vars (s ∷ t ∷ m ∷ n ∷ un ∷ vn ∷ us ∷ ut ∷ vs ∷ vt ∷ x ∷ y ∷ [])) refl in
-        let i2 = ring (times (times M N) (plus (times S (at 4)) (times T (at 5)))) (plus (times (times S N) (times (at 4) M)) (times (times T M) (times (at 5) N)))
+        let i2 = ring (times (times M N) (plus (times S (at 4)) (times T (at 5))))
+        (plus (times (times S N) (times (at 4) M)) (times (times T M) (times (at 5) N)))
         (vars (s ∷ t ∷ m ∷ n ∷ ux ∷ vx ∷ [])) refl in
         let g = ap (λ (w : ℤ). (s *ℤ n) *ℤ w) e in
         let h = ap (λ (w : ℤ). (t *ℤ m) *ℤ w) f in
@@ -106,12 +133,14 @@ between_mix p q u v s t hp hq hu hv bu bv hs ht some = record {
     comm a b = ring (times (at 0) (at 1)) (times (at 1) (at 0)) (vars (a ∷ b ∷ [])) refl
 
     en : (mix i p j q).n ≡ k *ℤ (mix s u t v).n
-    en = entry s t mu.n mv.n u.n v.n bu.s bu.t bv.s bv.t p.n q.n u.n v.n (comm u.n mu.n) (comm v.n mv.n)
+    en = entry s t mu.n mv.n u.n v.n bu.s bu.t bv.s bv.t p.n q.n u.n v.n (comm u.n mu.n)
+        (comm v.n mv.n)
 
     across : (x y n m : ℤ) → y ≡ k *ℤ x → m ≡ k *ℤ n → x *ℤ m ≡ y *ℤ n
     across x y n m e f =
         ap (λ (w : ℤ). x *ℤ w) f
-        ∙ ring (times (at 0) (times (at 1) (at 2))) (times (times (at 1) (at 0)) (at 2)) (vars (x ∷ k ∷ n ∷ [])) refl
+        ∙ ring (times (at 0) (times (at 1) (at 2))) (times (times (at 1) (at 0)) (at 2))
+        (vars (x ∷ k ∷ n ∷ [])) refl
         ∙ ap (λ (w : ℤ). w *ℤ n) (sym e)
 
 -- ---- a segment that hits
@@ -120,13 +149,20 @@ pub tube_covers : (h : HalfArc) (bs : List Bay) (p q : Vector) → IsTube h bs �
 tube_covers h [] p q t hp hq k = absurd t.some
 tube_covers h (b ∷ rest) p q t hp hq k =
     let hc = tube_cap h (b ∷ rest) t in
-    let r = strip_cover (cap h) (seen_point h h.from) (record { outer = seen_point h b.outer; inner = seen_point h b.inner }) (seen_bays h rest) (seen h k.u) (seen h k.v) hc (tube_strip h b rest t) (along-from h) k.u_place k.v_place
+    let r = strip_cover (cap h) (seen_point h h.from) (record {
+      outer = seen_point h b.outer;
+      inner = seen_point h b.inner;
+    }) (seen_bays h rest) (seen h k.u) (seen h k.v) hc
+    (tube_strip h b rest t) (along-from h) k.u_place k.v_place
     k.u_away k.v_away (shape_most h k.u hc k.u_in) (shape_least h k.v hc k.v_out) in
     record {
       z = mix r.s k.u r.t k.v;
       place = mix_place r.s k.u r.t k.v k.u_place k.v_place r.s_least r.t_least r.some;
-      between = between_mix p q k.u k.v r.s r.t hp hq k.u_place k.v_place k.u_between k.v_between r.s_least r.t_least r.some;
-      there = tube_only h h.from (b ∷ rest) (mix r.s k.u r.t k.v) hc (subst (λ (z : Vector). InTube (seen_point h h.from) (seen_bays h (b ∷ rest)) z) (sym (seen-mix h r.s k.u r.t k.v)) r.there);
+      between = between_mix p q k.u k.v r.s r.t hp hq k.u_place k.v_place k.u_between k.v_between
+          r.s_least r.t_least r.some;
+      there = tube_only h h.from (b ∷ rest) (mix r.s k.u r.t k.v) hc
+          (subst (λ (z : Vector). InTube (seen_point h h.from) (seen_bays h (b ∷ rest)) z)
+          (sym (seen-mix h r.s k.u r.t k.v)) r.there);
     }
 
 -- ---- a segment that does not hit
@@ -134,7 +170,8 @@ pub tube_keeps_sign : (h : HalfArc) (bs : List Bay) (p q : Vector) → IsTube h 
     → InTube h.from bs p → InTube h.from bs q → (HitsArc h p q → ⊥) → SameSign h p q
 tube_keeps_sign h [] p q t hp hq ip iq miss = absurd t.some
 tube_keeps_sign h (b ∷ rest) p q t hp hq ip iq miss =
-    sign_kept h p q (tube_cap h (b ∷ rest) t) hp hq (in_tube_over h b rest p t hp ip) (in_tube_over h b rest q t hq iq) miss
+    sign_kept h p q (tube_cap h (b ∷ rest) t) hp hq (in_tube_over h b rest p t hp ip)
+    (in_tube_over h b rest q t hq iq) miss
 
 -- ---- the region between the chains
 pub tube_region : (h : HalfArc) (bs : List Bay) (z : Vector) → IsTube h bs → Place z
@@ -157,15 +194,21 @@ region_tube h (b ∷ rest) z t hz r =
     let l = r.slab.low in
     let e = ap (λ (x : ℤ). x *ℤ z.n) (along-from h) in
     tube_only h h.from (b ∷ rest) z (tube_cap h (b ∷ rest) t)
-    (strip_all (cap h) (seen h z) (seen_point h h.from) (record { outer = seen_point h b.outer; inner = seen_point h b.inner }) (seen_bays h rest) hz (tube_strip h b rest t) (omega (arith, ints, e, l)) r.slab.high r.over r.under)
+    (strip_all (cap h) (seen h z) (seen_point h h.from) (record {
+      outer = seen_point h b.outer;
+      inner = seen_point h b.inner;
+    }) (seen_bays h rest) hz (tube_strip h b rest t)
+    (omega (arith, ints, e, l)) r.slab.high r.over r.under)
 
 -- in the tube, what is not inside is not under the chord's line, and what is outside is over it
 pub tube_away : (h : HalfArc) (bs : List Bay) (z : Vector) → IsTube h bs → Place z
     → InTube h.from bs z → pos 0 ≤ℤ power h z → pos 0 ≤ℤ bow h z
 tube_away h [] z t hz k l = absurd t.some
-tube_away h (b ∷ rest) z t hz k l = over_away h z (tube_cap h (b ∷ rest) t) (in_tube_over h b rest z t hz k) l
+tube_away h (b ∷ rest) z t hz k l =
+    over_away h z (tube_cap h (b ∷ rest) t) (in_tube_over h b rest z t hz k) l
 
 pub tube_high : (h : HalfArc) (bs : List Bay) (z : Vector) → IsTube h bs → Place z
     → InTube h.from bs z → pos 0 <ℤ power h z → pos 0 <ℤ bow h z
 tube_high h [] z t hz k l = absurd t.some
-tube_high h (b ∷ rest) z t hz k l = outside_high h z (tube_cap h (b ∷ rest) t) (in_tube_over h b rest z t hz k) l
+tube_high h (b ∷ rest) z t hz k l =
+    outside_high h z (tube_cap h (b ∷ rest) t) (in_tube_over h b rest z t hz k) l

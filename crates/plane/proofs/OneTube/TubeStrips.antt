@@ -1,4 +1,5 @@
--- A tube is a strip on its half arc's picture, and all its corners are over the circle's lower part.
+-- A tube is a strip on its half arc's picture, and all its corners are over the circle's lower
+-- part.
 use Rattle.std.proofs.Common.{◌≡◌, ℤ, pos, ◌<ℤ◌, ◌≤ℤ◌, ◌⊎◌, inl, inr, List, [], ◌∷◌, refl, arith}
 use Rattle.std.proofs.Common.{ap, ◌∙◌, subst, sym}
 use Rattle.std.proofs.lemmas.Int.{ints}
@@ -32,7 +33,13 @@ pub record IsRest (h : HalfArc) (p : Point) (b : Bay) (rest : List Bay) : Type 0
 
 pub rest_of : (h : HalfArc) (p : Point) (b d : Bay) (rest : List Bay) → IsRest h p b (d ∷ rest)
     → IsRest h b.inner d rest
-rest_of h p b d rest r = record { are_bays = r.are_bays.1; are_next = r.are_next.1; ends = r.ends; inside = r.inside.1; last_clear = r.last_clear }
+rest_of h p b d rest r = record {
+  are_bays = r.are_bays.1;
+  are_next = r.are_next.1;
+  ends = r.ends;
+  inside = r.inside.1;
+  last_clear = r.last_clear;
+}
 
 along_end : (h : HalfArc) (v : Point) → v ≡ h.to → along h (point v) ≡ chord h
 along_end h v e = ap (λ (u : Point). along h (point u)) e ∙ along-to h
@@ -74,11 +81,17 @@ from_over h hc =
     let e = along-from h in
     let g = bow-from h in
     let l = hc.chord in
-    record { slab = slab_point h h.from (omega (arith, ints, e)) (omega (arith, ints, e, l)); over = inr (omega (arith, ints, g)) }
+    record {
+      slab = slab_point h h.from (omega (arith, ints, e)) (omega (arith, ints, e, l));
+      over = inr (omega (arith, ints, g));
+    }
 
 inner_over : (h : HalfArc) (v : Point) → IsCap (cap h) → pos 0 ≤ℤ along h (point v)
     → along h (point v) ≤ℤ chord h → (power h (point v) <ℤ pos 0) ⊎ (v ≡ h.to) → Corner h v
-inner_over h v hc a b (inl k) = record { slab = slab_point h v a b; over = inl (shape_below h (point v) hc k) }
+inner_over h v hc a b (inl k) = record {
+  slab = slab_point h v a b;
+  over = inl (shape_below h (point v) hc k);
+}
 inner_over h v hc a b (inr e) =
     let g = ap (λ (u : Point). bow h (point u)) e in
     let z = bow-to h in
@@ -97,7 +110,8 @@ arch : (h : HalfArc) (p : Point) (b : Bay) → IsCap (cap h) → IsBay h p b
 arch h p b hc k = record {
   up = k.up;
   on = k.on;
-  over = subst (λ (z : ℤ). pos 0 <ℤ z) (sym (side-seen h p b.inner b.outer)) (product_positive (chord h) (outward h p b.inner b.outer) hc.chord k.over);
+  over = subst (λ (z : ℤ). pos 0 <ℤ z) (sym (side-seen h p b.inner b.outer))
+      (product_positive (chord h) (outward h p b.inner b.outer) hc.chord k.over);
 }
 
 outer_over : (h : HalfArc) (p : Point) (b : Bay) → IsCap (cap h) → IsBay h p b
@@ -107,8 +121,14 @@ outer_over h p b hc k a l op ov =
     let u = k.up in
     let v = k.on in
     let one : pos 0 <ℤ pos 1 = omega (arith, ints) in
-    raised_over (cap h) (seen_point h p) (seen_point h b.inner) (point (seen_point h b.outer)) hc one (omega (arith, ints, u, v)) record { low = omega (arith, ints, u); high = omega (arith, ints, v) }
-    (slab_point h b.outer (omega (arith, ints, a, u)) (omega (arith, ints, v, l))) op ov (arch h p b hc k).over
+    raised_over (cap h) (seen_point h p) (seen_point h b.inner)
+    (point (seen_point h b.outer)) hc one
+    (omega (arith, ints, u, v)) record {
+      low = omega (arith, ints, u);
+      high = omega (arith, ints, v);
+    }
+    (slab_point h b.outer (omega (arith, ints, a, u)) (omega (arith, ints, v, l))) op ov
+    (arch h p b hc k).over
 
 -- all corners, along the bays
 abbrev pub AreOver : HalfArc → Point → List Bay → Type 0
@@ -121,21 +141,30 @@ first_over h p (b ∷ rest) o = o.0
 
 next_low : (h : HalfArc) (p : Point) (b : Bay) (rest : List Bay) → IsRest h p b rest
     → pos 0 ≤ℤ along h (point p) → pos 0 ≤ℤ along h (point b.inner)
-next_low h p b rest r a = let u = r.are_bays.0.up in let v = r.are_bays.0.on in omega (arith, ints, a, u, v)
+next_low h p b rest r a =
+    let u = r.are_bays.0.up in let v = r.are_bays.0.on in omega (arith, ints, a, u, v)
 
 next_over : (h : HalfArc) (p : Point) (b : Bay) (rest : List Bay) → IsCap (cap h)
     → IsRest h p b rest → pos 0 ≤ℤ along h (point p) → Corner h b.inner
-next_over h p b rest hc r a = inner_over h b.inner hc (next_low h p b rest r a) (before_end h p b rest r) r.inside.0
+next_over h p b rest hc r a =
+    inner_over h b.inner hc (next_low h p b rest r a) (before_end h p b rest r) r.inside.0
 
 between_over : (h : HalfArc) (p : Point) (b : Bay) (rest : List Bay) → IsCap (cap h)
     → IsRest h p b rest → pos 0 ≤ℤ along h (point p) → Corner h p → Corner h b.outer
-between_over h p b rest hc r a op = outer_over h p b hc r.are_bays.0 a (before_end h p b rest r) op (next_over h p b rest hc r a)
+between_over h p b rest hc r a op =
+    outer_over h p b hc r.are_bays.0 a (before_end h p b rest r) op (next_over h p b rest hc r a)
 
 corners_over : (h : HalfArc) (p : Point) (b : Bay) (rest : List Bay) → IsCap (cap h)
     → IsRest h p b rest → pos 0 ≤ℤ along h (point p) → Corner h p → AreOver h p (b ∷ rest)
 corners_over h p b [] hc r a op = (op, (between_over h p b [] hc r a op, next_over h p b [] hc r a))
-corners_over h p b (d ∷ rest) hc r a op =
-    (op, (between_over h p b (d ∷ rest) hc r a op, corners_over h b.inner d rest hc (rest_of h p b d rest r) (next_low h p b (d ∷ rest) r a) (next_over h p b (d ∷ rest) hc r a)))
+corners_over h p b (d ∷ rest) hc r a op = (
+  op,
+  (
+    between_over h p b (d ∷ rest) hc r a op,
+    corners_over h b.inner d rest hc (rest_of h p b d rest r) (next_low h p b (d ∷ rest) r a)
+        (next_over h p b (d ∷ rest) hc r a),
+  ),
+)
 
 -- ---- the tube is a strip
 outer_high : (h : HalfArc) (v : Point) → IsCap (cap h) → Corner h v → pos 0 ≤ℤ power h (point v)
@@ -147,7 +176,8 @@ dip : (h : HalfArc) (b d : Bay) → IsCap (cap h) → AreNext h b d
     → IsDip (seen_point h b.outer) (seen_point h b.inner) (seen_point h d.outer)
 dip h b d hc n l = record {
   up = l;
-  under = subst (λ (z : ℤ). z <ℤ pos 0) (sym (side-seen h b.outer d.outer b.inner)) (times_below (chord h) (outward h b.outer d.outer b.inner) hc.chord n.under);
+  under = subst (λ (z : ℤ). z <ℤ pos 0) (sym (side-seen h b.outer d.outer b.inner))
+      (times_below (chord h) (outward h b.outer d.outer b.inner) hc.chord n.under);
 }
 
 bay_high : (h : HalfArc) (p : Point) (b : Bay) (rest : List Bay) → IsCap (cap h) → IsRest h p b rest
@@ -156,7 +186,9 @@ bay_high h p b rest hc r o = outer_high h b.outer hc o.1.0 (outer_least h p b re
 
 strip_from : (h : HalfArc) (q p : Point) (b : Bay) (rest : List Bay) → IsCap (cap h)
     → IsRest h p b rest → AreOver h p (b ∷ rest) → shape (cap h) (point (seen_point h p)) ≤ℤ pos 0
-    → (seen_point h q ≡ seen_point h p) ⊎ IsDip (seen_point h q) (seen_point h p) (seen_point h b.outer) → IsFence (cap h) (seen_point h q) (seen_point h b.outer)
+    → (seen_point h q ≡ seen_point h p)
+    ⊎ IsDip (seen_point h q) (seen_point h p) (seen_point h b.outer)
+    → IsFence (cap h) (seen_point h q) (seen_point h b.outer)
     → IsCapStrip (cap h) (seen_point h q) (seen_point h p) (seen_bays h (b ∷ rest))
 strip_from h q p b [] hc r o low join f = (
   arch h p b hc r.are_bays.0,
@@ -166,7 +198,8 @@ strip_from h q p b [] hc r o low join f = (
   (
     along_end h b.inner r.ends,
     r.are_bays.0.on,
-    subst (λ (v : Point). IsFence (cap h) (seen_point h b.outer) (seen_point h v)) (sym r.ends) (fence_last h b.outer hc (bay_high h p b [] hc r o) r.last_clear),
+    subst (λ (v : Point). IsFence (cap h) (seen_point h b.outer) (seen_point h v)) (sym r.ends)
+        (fence_last h b.outer hc (bay_high h p b [] hc r o) r.last_clear),
     inner_most h b.inner hc r.inside.0,
   ),
 )
@@ -176,8 +209,10 @@ strip_from h q p b (d ∷ rest) hc r o low join f =
       join,
       f,
       low,
-      strip_from h b.outer b.inner d rest hc s o.1.1 (inner_most h b.inner hc r.inside.0) (inr (dip h b d hc r.are_next.0 r.are_bays.0.on))
-          (fence_next h b d hc (bay_high h p b (d ∷ rest) hc r o) (bay_high h b.inner d rest hc s o.1.1) r.are_next.0),
+      strip_from h b.outer b.inner d rest hc s o.1.1 (inner_most h b.inner hc r.inside.0)
+          (inr (dip h b d hc r.are_next.0 r.are_bays.0.on))
+          (fence_next h b d hc (bay_high h p b (d ∷ rest) hc r o)
+          (bay_high h b.inner d rest hc s o.1.1) r.are_next.0),
     )
 
 -- ---- a tube
@@ -186,13 +221,20 @@ tube_cap h bs t = cap_is h t.circle t.facing
 
 pub tube_rest : (h : HalfArc) (b : Bay) (rest : List Bay) → IsTube h (b ∷ rest)
     → IsRest h h.from b rest
-tube_rest h b rest t = record { are_bays = t.are_bays; are_next = t.are_next; ends = t.ends; inside = t.inside; last_clear = t.last_clear }
+tube_rest h b rest t = record {
+  are_bays = t.are_bays;
+  are_next = t.are_next;
+  ends = t.ends;
+  inside = t.inside;
+  last_clear = t.last_clear;
+}
 
 pub tube_over : (h : HalfArc) (b : Bay) (rest : List Bay) → IsTube h (b ∷ rest)
     → AreOver h h.from (b ∷ rest)
 tube_over h b rest t =
     let hc = tube_cap h (b ∷ rest) t in
-    corners_over h h.from b rest hc (tube_rest h b rest t) (let e = along-from h in omega (arith, ints, e)) (from_over h hc)
+    corners_over h h.from b rest hc (tube_rest h b rest t) (let e = along-from h in
+    omega (arith, ints, e)) (from_over h hc)
 
 pub tube_strip : (h : HalfArc) (b : Bay) (rest : List Bay) → IsTube h (b ∷ rest)
     → IsCapStrip (cap h) (seen_point h h.from) (seen_point h h.from) (seen_bays h (b ∷ rest))
@@ -201,8 +243,10 @@ tube_strip h b rest t =
     let r = tube_rest h b rest t in
     let o = tube_over h b rest t in
     let e = power-from h in
-    strip_from h h.from h.from b rest hc r o (shape_most h (point h.from) hc (omega (arith, ints, e))) (inl refl)
-    (fence_first h b.outer hc (outer_high h b.outer hc o.1.0 (outer_least h h.from b rest r)) t.first_clear)
+    strip_from h h.from h.from b rest hc r o
+    (shape_most h (point h.from) hc (omega (arith, ints, e))) (inl refl)
+    (fence_first h b.outer hc (outer_high h b.outer hc o.1.0 (outer_least h h.from b rest r))
+    t.first_clear)
 
 -- a place of the tube is over the circle's lower part
 bays_over : (h : HalfArc) (p : Point) (bs : List Bay) (z : Vector) → IsCap (cap h) → Place z
@@ -210,7 +254,9 @@ bays_over : (h : HalfArc) (p : Point) (bs : List Bay) (z : Vector) → IsCap (ca
 bays_over h p [] z hc hz o k = absurd k
 bays_over h p (b ∷ rest) z hc hz o (inl k) =
     let one : pos 0 <ℤ pos 1 = omega (arith, ints) in
-    over_triangle (cap h) (seen h z) (seen h (point p)) (seen h (point b.inner)) (seen h (point b.outer)) hc hz one one one o.0 (first_over h b.inner rest o.1.1) o.1.0 (triangle_seen h z (point p) (point b.inner) (point b.outer) k)
+    over_triangle (cap h) (seen h z) (seen h (point p)) (seen h (point b.inner))
+    (seen h (point b.outer)) hc hz one one one o.0 (first_over h b.inner rest o.1.1) o.1.0
+    (triangle_seen h z (point p) (point b.inner) (point b.outer) k)
 bays_over h p (b ∷ rest) z hc hz o (inr k) = bays_over h b.inner rest z hc hz o.1.1 k
 
 gaps_over : (h : HalfArc) (p : Point) (bs : List Bay) (z : Vector) → IsCap (cap h) → Place z
@@ -219,10 +265,14 @@ gaps_over h p [] z hc hz o k = absurd k
 gaps_over h p (b ∷ []) z hc hz o k = absurd k
 gaps_over h p (b ∷ (d ∷ rest)) z hc hz o (inl k) =
     let one : pos 0 <ℤ pos 1 = omega (arith, ints) in
-    over_triangle (cap h) (seen h z) (seen h (point b.inner)) (seen h (point b.outer)) (seen h (point d.outer)) hc hz one one one o.1.1.0 o.1.0 o.1.1.1.0 (triangle_seen h z (point b.inner) (point b.outer) (point d.outer) k)
+    over_triangle (cap h) (seen h z) (seen h (point b.inner)) (seen h (point b.outer))
+    (seen h (point d.outer)) hc hz one one one o.1.1.0 o.1.0 o.1.1.1.0
+    (triangle_seen h z (point b.inner) (point b.outer) (point d.outer) k)
 gaps_over h p (b ∷ (d ∷ rest)) z hc hz o (inr k) = gaps_over h b.inner (d ∷ rest) z hc hz o.1.1 k
 
 pub in_tube_over : (h : HalfArc) (b : Bay) (rest : List Bay) (z : Vector) → IsTube h (b ∷ rest)
     → Place z → InTube h.from (b ∷ rest) z → IsOver (cap h) (seen h z)
-in_tube_over h b rest z t hz (inl k) = bays_over h h.from (b ∷ rest) z (tube_cap h (b ∷ rest) t) hz (tube_over h b rest t) k
-in_tube_over h b rest z t hz (inr k) = gaps_over h h.from (b ∷ rest) z (tube_cap h (b ∷ rest) t) hz (tube_over h b rest t) k
+in_tube_over h b rest z t hz (inl k) =
+    bays_over h h.from (b ∷ rest) z (tube_cap h (b ∷ rest) t) hz (tube_over h b rest t) k
+in_tube_over h b rest z t hz (inr k) =
+    gaps_over h h.from (b ∷ rest) z (tube_cap h (b ∷ rest) t) hz (tube_over h b rest t) k

@@ -30,13 +30,15 @@ split [] k = refl
 split (d ∷ ks) k = refl
 
 pub split_bays : (left : Bool) (a : Point) (b : Bay) (bs : List Bay)
-    → first_bay (bays_from left a (b ∷ bs)) ∷ later_bays (bays_from left a (b ∷ bs)) ≡ bays_from left a (b ∷ bs)
+    → first_bay (bays_from left a (b ∷ bs)) ∷ later_bays (bays_from left a (b ∷ bs))
+    ≡ bays_from left a (b ∷ bs)
 split_bays false a b bs = refl
 split_bays true a b bs = split (backward b.inner bs) (record { outer = b.outer; inner = a })
 
 -- the last corner is the other end
 pub turned_tip : (left : Bool) (a e : Point) (b : Bay) (bs : List Bay) → last_inner a (b ∷ bs) ≡ e
-    → tip (first_bay (bays_from left a (b ∷ bs))) (later_bays (bays_from left a (b ∷ bs))) ≡ cond left a e
+    → tip (first_bay (bays_from left a (b ∷ bs))) (later_bays (bays_from left a (b ∷ bs)))
+    ≡ cond left a e
 turned_tip false a e b bs q = sym (last_inner_tip a b bs) ∙ q
 turned_tip true a e b bs q =
     sym (last_inner_tip e (first_bay (backward a (b ∷ bs))) (later_bays (backward a (b ∷ bs))))
@@ -46,13 +48,19 @@ turned_tip true a e b bs q =
 -- the triangles hold the places of the tube
 pub turned_places : (left : Bool) (a e : Point) (b : Bay) (bs : List Bay) (z : Vector)
     → last_inner a (b ∷ bs) ≡ e
-    → InSomeTile (tiles (start left a e) (first_bay (bays_from left a (b ∷ bs)) ∷ later_bays (bays_from left a (b ∷ bs)))) z ↔ InTube a (b ∷ bs) z
-turned_places false a e b bs z q = ((λ k. tiles_in_tube a b bs z k), (λ k. tube_in_tiles a b bs z k))
+    → InSomeTile
+    (tiles (start left a e) (first_bay (bays_from left a (b ∷ bs))
+    ∷ later_bays (bays_from left a (b ∷ bs)))) z ↔ InTube a (b ∷ bs) z
+turned_places false a e b bs z q =
+    ((λ k. tiles_in_tube a b bs z k), (λ k. tube_in_tiles a b bs z k))
 turned_places true a e b bs z q =
     let ks = backward a (b ∷ bs) in
     let s = split_bays true a b bs in (
-      (λ k. backward_tube e a (b ∷ bs) z q (subst (λ (xs : List Bay). InTube e xs z) s (tiles_in_tube e (first_bay ks) (later_bays ks) z k))),
-      (λ k. tube_in_tiles e (first_bay ks) (later_bays ks) z (subst (λ (xs : List Bay). InTube e xs z) (sym s) (tube_backward e a (b ∷ bs) z q k))),
+      (λ k. backward_tube e a (b ∷ bs) z q
+          (subst (λ (xs : List Bay). InTube e xs z) s
+          (tiles_in_tube e (first_bay ks) (later_bays ks) z k))),
+      (λ k. tube_in_tiles e (first_bay ks) (later_bays ks) z
+          (subst (λ (xs : List Bay). InTube e xs z) (sym s) (tube_backward e a (b ∷ bs) z q k))),
     )
 
 -- ---- the triangles turn left
@@ -63,8 +71,11 @@ below (negsuc n) l e = omega (arith, ints)
 
 pub turned_left : (h : HalfArc) (b : Bay) (bs : List Bay) (left : Bool)
     → is_positive (bend h) ≡ left → IsTube h (b ∷ bs) → last_inner h.from (b ∷ bs) ≡ h.to
-    → Each (λ t. IsLeftTile t) (tiles (start left h.from h.to) (first_bay (bays_from left h.from (b ∷ bs)) ∷ later_bays (bays_from left h.from (b ∷ bs))))
+    → Each (λ t. IsLeftTile t)
+    (tiles (start left h.from h.to) (first_bay (bays_from left h.from (b ∷ bs))
+    ∷ later_bays (bays_from left h.from (b ∷ bs))))
 turned_left h b bs false e t q = tiles_left h b bs (below (bend h) t.circle e) t
 turned_left h b bs true e t q =
-    subst (λ (ks : List Bay). Each (λ t. IsLeftTile t) (tiles h.to ks)) (sym (split_bays true h.from b bs))
+    subst (λ (ks : List Bay). Each (λ t. IsLeftTile t) (tiles h.to ks))
+    (sym (split_bays true h.from b bs))
     (backward_left h h.to h.from b bs (is_true (bend h) e) q t.are_bays t.are_next)

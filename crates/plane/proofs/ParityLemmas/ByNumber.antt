@@ -30,8 +30,10 @@ other_number a b n = by_test (same_number a b) (λ h. absurd (n (number_is a b h
 
 pub is_among : (xs : List ℕ) (e : ℕ) → Has e xs → among xs e ≡ true
 is_among [] e k = absurd k
-is_among (x ∷ xs) e (inl q) = ap (λ b. either b (among xs e)) (subst (λ n. same_number n e ≡ true) q (number_self e))
-is_among (x ∷ xs) e (inr k) = ap (λ b. either (same_number x e) b) (is_among xs e k) ∙ either_true (same_number x e)
+is_among (x ∷ xs) e (inl q) =
+    ap (λ b. either b (among xs e)) (subst (λ n. same_number n e ≡ true) q (number_self e))
+is_among (x ∷ xs) e (inr k) = ap (λ b. either (same_number x e) b) (is_among xs e k)
+    ∙ either_true (same_number x e)
   where
     either_true : (b : Bool) → either b true ≡ true
     either_true true = refl
@@ -39,7 +41,8 @@ is_among (x ∷ xs) e (inr k) = ap (λ b. either (same_number x e) b) (is_among 
 
 pub not_among : (xs : List ℕ) (e : ℕ) → (Has e xs → ⊥) → among xs e ≡ false
 not_among [] e n = refl
-not_among (x ∷ xs) e n = ap (λ b. either b (among xs e)) (other_number x e (λ q. n (inl (sym q)))) ∙ not_among xs e (λ k. n (inr k))
+not_among (x ∷ xs) e n = ap (λ b. either b (among xs e)) (other_number x e (λ q. n (inl (sym q))))
+    ∙ not_among xs e (λ k. n (inr k))
 
 number_below : (m e : ℕ) → Has e (numbers_below m) → e < m
 number_below zero e k = absurd k
@@ -56,7 +59,9 @@ numbers_none : (m : ℕ) (p : ℕ → Bool) → ((e : ℕ) → e < m → p e ≡
 numbers_none m p h = parity_none p (numbers_below m) (λ e k. h e (number_below m e k))
 
 lower : (x m : ℕ) → x < suc m → (x ≡ m → ⊥) → x < m
-lower x m l n = by_lt_z (pos x) (pos m) (λ (k : pos x <ℤ pos m). omega (arith, ints, k)) (λ (k : pos m ≤ℤ pos x). absurd (n (omega (arith, ints, l, k))))
+lower x m l n =
+    by_lt_z (pos x) (pos m) (λ (k : pos x <ℤ pos m). omega (arith, ints, k))
+    (λ (k : pos m ≤ℤ pos x). absurd (n (omega (arith, ints, l, k))))
 
 -- one number
 single : (m x : ℕ) (f : ℕ → Bool) → x < m
@@ -66,11 +71,15 @@ single (suc m) x f l = by_test (same_number x m)
     (λ h.
     let q = number_is x m h in
     ap (λ b. differ (both b (f m)) (parity (λ e. both (same_number x e) (f e)) (numbers_below m))) h
-    ∙ ap (λ b. differ (f m) b) (numbers_none m (λ e. both (same_number x e) (f e)) (λ e k. ap (λ b. both b (f e)) (other_number x e (λ r. omega (arith, q, r, k)))))
+    ∙ ap (λ b. differ (f m) b)
+    (numbers_none m (λ e. both (same_number x e) (f e))
+    (λ e k. ap (λ b. both b (f e)) (other_number x e (λ r. omega (arith, q, r, k)))))
     ∙ differ_false (f m) ∙ ap f (sym q))
     (λ h.
     ap (λ b. differ (both b (f m)) (parity (λ e. both (same_number x e) (f e)) (numbers_below m))) h
-    ∙ single m x f (lower x m l (λ q. not_both (sym (number_self m) ∙ subst (λ n. same_number n m ≡ false) q h))))
+    ∙ single m x f
+    (lower x m l
+    (λ q. not_both (sym (number_self m) ∙ subst (λ n. same_number n m ≡ false) q h))))
 
 split_one : (s t f : Bool) → (s ≡ true → t ≡ false)
     → both (either s t) f ≡ differ (both s f) (both t f)
@@ -82,10 +91,14 @@ pub members : (m : ℕ) (xs : List ℕ) (f : ℕ → Bool) → Once xs → ((e :
     → parity (λ e. both (among xs e) (f e)) (numbers_below m) ≡ parity f xs
 members m [] f once below = numbers_none m (λ e. both (among [] e) (f e)) (λ e k. refl)
 members m (x ∷ xs) f once below =
-    numbers_map m (λ e. both (among (x ∷ xs) e) (f e)) (λ e. differ (both (same_number x e) (f e)) (both (among xs e) (f e)))
-    (λ e k. split_one (same_number x e) (among xs e) (f e) (λ h. not_among xs e (λ i. once.0 (subst (λ n. Has n xs) (sym (number_is x e h)) i))))
-    ∙ parity_differ (λ e. both (same_number x e) (f e)) (λ e. both (among xs e) (f e)) (numbers_below m)
-    ∙ ap (λ b. differ b (parity (λ e. both (among xs e) (f e)) (numbers_below m))) (single m x f (below x (inl refl)))
+    numbers_map m (λ e. both (among (x ∷ xs) e) (f e))
+    (λ e. differ (both (same_number x e) (f e)) (both (among xs e) (f e)))
+    (λ e k. split_one (same_number x e) (among xs e) (f e)
+    (λ h. not_among xs e (λ i. once.0 (subst (λ n. Has n xs) (sym (number_is x e h)) i))))
+    ∙ parity_differ (λ e. both (same_number x e) (f e)) (λ e. both (among xs e) (f e))
+    (numbers_below m)
+    ∙ ap (λ b. differ b (parity (λ e. both (among xs e) (f e)) (numbers_below m)))
+    (single m x f (below x (inl refl)))
     ∙ ap (λ b. differ (f x) b) (members m xs f once.1 (λ e k. below e (inr k)))
 
 -- ---- the chosen edges as a list

@@ -1,4 +1,5 @@
--- The test of one edge in the words of "inside": the place is strictly below it and between the x of its ends.
+-- The test of one edge in the words of "inside": the place is strictly below it and between the x
+-- of its ends.
 -- A triangle is worked as an example.
 use Rattle.std.proofs.Common.{◌≡◌, ◌↔◌, true, false, pos, ◌-ℤ◌, ◌*ℤ◌, ◌<ℤ◌, ◌≤ℤ◌, List, [], ◌∷◌}
 use Rattle.std.proofs.Common.{refl, arith, ap, ◌∙◌}
@@ -24,15 +25,22 @@ crosses_is z e = (
       let x = is_false ((e.low.x *ℤ z.n) -ℤ z.x) (flip_true _ a.0) in
       let y = is_true ((e.high.x *ℤ z.n) -ℤ z.x) b.0 in
       let u = is_true (pos 0 -ℤ side e z) b.1 in
-      record { from = omega (arith, ints, x); to = omega (arith, ints, y); under = omega (arith, ints, u) },
+      record {
+        from = omega (arith, ints, x);
+        to = omega (arith, ints, y);
+        under = omega (arith, ints, u);
+      },
   λ h.
       let x = h.from in let y = h.to in let u = h.under in
-      ap (λ t. both (flip t) (both (is_right e.high z) (is_under e z))) (not_positive ((e.low.x *ℤ z.n) -ℤ z.x) (omega (arith, ints, x)))
-      ∙ ap (λ t. both t (is_under e z)) (positive_is ((e.high.x *ℤ z.n) -ℤ z.x) (omega (arith, ints, y)))
+      ap (λ t. both (flip t) (both (is_right e.high z) (is_under e z)))
+      (not_positive ((e.low.x *ℤ z.n) -ℤ z.x) (omega (arith, ints, x)))
+      ∙ ap (λ t. both t (is_under e z))
+      (positive_is ((e.high.x *ℤ z.n) -ℤ z.x) (omega (arith, ints, y)))
       ∙ positive_is (pos 0 -ℤ side e z) (omega (arith, ints, u)),
 )
 
--- the triangle (0, 0), (4, 0), (2, 3): the place (2, 1) is inside, (2, 4) and (5, 1) are not; so is (1 / 2, 1 / 2) inside and (1 / 2, 2) not
+-- the triangle (0, 0), (4, 0), (2, 3): the place (2, 1) is inside, (2, 4) and (5, 1) are not; so is
+-- (1 / 2, 1 / 2) inside and (1 / 2, 2) not
 triangle : List Edge
 triangle =
     record { low = record { x = pos 0; y = pos 0 }; high = record { x = pos 4; y = pos 0 } }

@@ -1,4 +1,5 @@
--- Where each point is the end of an even number of edges, the counts along the vertical and along the sweep line have one
+-- Where each point is the end of an even number of edges, the counts along the vertical and along
+-- the sweep line have one
 -- parity.
 -- Each end in the wedge between the two lines counts as often as its point has edges.
 use Rattle.std.proofs.Common.{◌≡◌, ℕ, suc, ◌+◌, Bool, true, false, ℤ, pos, ◌-ℤ◌, ◌<ℤ◌, inl, inr}
@@ -64,17 +65,20 @@ both_differ false b c = refl
 pub parity_map : {X : Type 0} (p q : X → Bool) (xs : List X) → ((x : X) → Has x xs → p x ≡ q x)
     → parity p xs ≡ parity q xs
 parity_map p q [] h = refl
-parity_map p q (x ∷ xs) h = ap (λ b. differ b (parity p xs)) (h x (inl refl)) ∙ ap (λ b. differ (q x) b) (parity_map p q xs (λ y k. h y (inr k)))
+parity_map p q (x ∷ xs) h = ap (λ b. differ b (parity p xs)) (h x (inl refl))
+    ∙ ap (λ b. differ (q x) b) (parity_map p q xs (λ y k. h y (inr k)))
 
 pub parity_none : {X : Type 0} (p : X → Bool) (xs : List X) → ((x : X) → Has x xs → p x ≡ false)
     → parity p xs ≡ false
 parity_none p [] h = refl
-parity_none p (x ∷ xs) h = ap (λ b. differ b (parity p xs)) (h x (inl refl)) ∙ parity_none p xs (λ y k. h y (inr k))
+parity_none p (x ∷ xs) h = ap (λ b. differ b (parity p xs)) (h x (inl refl))
+    ∙ parity_none p xs (λ y k. h y (inr k))
 
 pub parity_differ : {X : Type 0} (p q : X → Bool) (xs : List X)
     → parity (λ x. differ (p x) (q x)) xs ≡ differ (parity p xs) (parity q xs)
 parity_differ p q [] = refl
-parity_differ p q (x ∷ xs) = ap (λ b. differ (differ (p x) (q x)) b) (parity_differ p q xs) ∙ differ_four (p x) (q x) (parity p xs) (parity q xs)
+parity_differ p q (x ∷ xs) = ap (λ b. differ (differ (p x) (q x)) b) (parity_differ p q xs)
+    ∙ differ_four (p x) (q x) (parity p xs) (parity q xs)
 
 pub parity_both : {X : Type 0} (c : Bool) (p : X → Bool) (xs : List X)
     → parity (λ x. both c (p x)) xs ≡ both c (parity p xs)
@@ -90,7 +94,8 @@ differ_assoc false b c = refl
 pub parity_append : {X : Type 0} (p : X → Bool) (xs ys : List X)
     → parity p (xs ++ ys) ≡ differ (parity p xs) (parity p ys)
 parity_append p [] ys = refl
-parity_append p (x ∷ xs) ys = ap (λ b. differ (p x) b) (parity_append p xs ys) ∙ differ_assoc (p x) (parity p xs) (parity p ys)
+parity_append p (x ∷ xs) ys = ap (λ b. differ (p x) b) (parity_append p xs ys)
+    ∙ differ_assoc (p x) (parity p xs) (parity p ys)
 
 -- the parity of a count
 abbrev pub Counted : Bool → ℕ → Type 0
@@ -154,7 +159,8 @@ whole_self a = ap (λ b. both (flip b) (flip b)) (zero_not (a -ℤ a) (omega (ar
 
 pub same_is : (p q : Point) → same_point p q ≡ true → p ≡ q
 unfolding same_point
-same_is p q h = let k = both_true _ _ h in point_eq p q (whole_is p.x q.x k.0) (whole_is p.y q.y k.1)
+same_is p q h =
+    let k = both_true _ _ h in point_eq p q (whole_is p.x q.x k.0) (whole_is p.y q.y k.1)
 
 pub same_self : (p : Point) → same_point p p ≡ true
 unfolding same_point
@@ -179,19 +185,25 @@ covered xs even f [] = parity_none (λ x. both (f x) false) xs (λ x k. both_fal
 covered xs even f (p ∷ ps) =
     let g : Point → Bool = λ x. both (both (f x) (flip (among_points ps x))) (same_point p x) in
     let c : Bool = both (f p) (flip (among_points ps p)) in
-    parity_map (λ x. both (f x) (among_points (p ∷ ps) x)) (λ x. differ (g x) (both (f x) (among_points ps x))) xs (λ x k. split_either (f x) (same_point p x) (among_points ps x))
+    parity_map (λ x. both (f x) (among_points (p ∷ ps) x))
+    (λ x. differ (g x) (both (f x) (among_points ps x))) xs
+    (λ x k. split_either (f x) (same_point p x) (among_points ps x))
     ∙ parity_differ g (λ x. both (f x) (among_points ps x)) xs
     ∙ ap (λ b. differ (parity g xs) b) (covered xs even f ps)
     ∙ differ_false (parity g xs)
-    ∙ parity_map g (λ x. both c (same_point p x)) xs (λ x k. both_when (both (f x) (flip (among_points ps x))) c (same_point p x) (λ s. ap (λ y. both (f y) (flip (among_points ps y))) (sym (same_is p x s))))
+    ∙ parity_map g (λ x. both c (same_point p x)) xs
+    (λ x k. both_when (both (f x) (flip (among_points ps x))) c (same_point p x)
+    (λ s. ap (λ y. both (f y) (flip (among_points ps y))) (sym (same_is p x s))))
     ∙ parity_both c (same_point p) xs
     ∙ ap (λ b. both c b) (even p)
     ∙ both_false c
 
 is_among : (xs : List Point) (x : Point) → Has x xs → among_points xs x ≡ true
 is_among [] x k = absurd k
-is_among (y ∷ ys) x (inl e) = ap (λ b. either b (among_points ys x)) (subst (λ q. same_point q x ≡ true) e (same_self x))
-is_among (y ∷ ys) x (inr k) = ap (λ b. either (same_point y x) b) (is_among ys x k) ∙ either_true (same_point y x)
+is_among (y ∷ ys) x (inl e) =
+    ap (λ b. either b (among_points ys x)) (subst (λ q. same_point q x ≡ true) e (same_self x))
+is_among (y ∷ ys) x (inr k) = ap (λ b. either (same_point y x) b) (is_among ys x k)
+    ∙ either_true (same_point y x)
   where
     either_true : (b : Bool) → either b true ≡ true
     either_true true = refl
@@ -204,14 +216,16 @@ both_right false = refl
 pub even_any : (xs : List Point) → ((p : Point) → parity (same_point p) xs ≡ false)
     → (f : Point → Bool) → parity f xs ≡ false
 even_any xs even f =
-    parity_map f (λ x. both (f x) (among_points xs x)) xs (λ x k. sym (ap (λ b. both (f x) b) (is_among xs x k) ∙ both_right (f x)))
+    parity_map f (λ x. both (f x) (among_points xs x)) xs
+    (λ x k. sym (ap (λ b. both (f x) b) (is_among xs x k) ∙ both_right (f x)))
     ∙ covered xs even f xs
 
 -- ---- the two counts
 pub parity_ends : (f : Point → Bool) (es : List Edge)
     → parity f (ends_of es) ≡ parity (λ e. differ (f e.low) (f e.high)) es
 parity_ends f [] = refl
-parity_ends f (e ∷ es) = differ_assoc (f e.low) (f e.high) (parity f (ends_of es)) ∙ ap (λ b. differ (differ (f e.low) (f e.high)) b) (parity_ends f es)
+parity_ends f (e ∷ es) = differ_assoc (f e.low) (f e.high) (parity f (ends_of es))
+    ∙ ap (λ b. differ (differ (f e.low) (f e.high)) b) (parity_ends f es)
 
 -- what is asked of an edge
 pub record Plain (w : ℤ) (z : Vector) (e : Edge) : Type 0 where
@@ -222,9 +236,11 @@ pub record Plain (w : ℤ) (z : Vector) (e : Edge) : Type 0 where
 pub crossings_agree : (w : ℤ) (z : Vector) (es : List Edge) → Place z
     → ((e : Edge) → Has e es → Plain w z e) → EvenEnds es
     → parity (crosses_vertical z) es ≡ parity (crosses_sweep w z) es
-crossings_agree w z es hz plain even = differ_equal (parity (crosses_vertical z) es) (parity (crosses_sweep w z) es)
+crossings_agree w z es hz plain even =
+    differ_equal (parity (crosses_vertical z) es) (parity (crosses_sweep w z) es)
     (sym (parity_differ (crosses_vertical z) (crosses_sweep w z) es)
-    ∙ parity_map (λ e. differ (crosses_vertical z e) (crosses_sweep w z e)) (λ e. differ (in_wedge w z e.low) (in_wedge w z e.high)) es
+    ∙ parity_map (λ e. differ (crosses_vertical z e) (crosses_sweep w z e))
+    (λ e. differ (in_wedge w z e.low) (in_wedge w z e.high)) es
     (λ e k. let p = plain e k in wedge_law w z e hz p.rises p.up p.off)
     ∙ sym (parity_ends (in_wedge w z) es)
     ∙ even_any (ends_of es) even (in_wedge w z))

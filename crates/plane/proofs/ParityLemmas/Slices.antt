@@ -1,4 +1,5 @@
--- Parities over a list of edges and over the same edges by number, and the number of edges with an end in a point.
+-- Parities over a list of edges and over the same edges by number, and the number of edges with an
+-- end in a point.
 -- The cells on the two sides of a chosen edge have different parities.
 use Rattle.std.proofs.Common.{◌≡◌, ℕ, zero, suc, ◌<◌, Bool, true, false, List, [], ◌∷◌, ◌++◌}
 use Rattle.std.proofs.Common.{length, get_or, refl, ap, sym, ◌∙◌}
@@ -28,16 +29,19 @@ swap_first false false c = refl
 numbers_first : (f : ℕ → Bool) (n : ℕ)
     → parity f (numbers_below (suc n)) ≡ differ (f 0) (parity (λ e. f (suc e)) (numbers_below n))
 numbers_first f zero = refl
-numbers_first f (suc n) = ap (λ b. differ (f (suc n)) b) (numbers_first f n) ∙ swap_first (f (suc n)) (f 0) (parity (λ e. f (suc e)) (numbers_below n))
+numbers_first f (suc n) = ap (λ b. differ (f (suc n)) b) (numbers_first f n)
+    ∙ swap_first (f (suc n)) (f 0) (parity (λ e. f (suc e)) (numbers_below n))
 
 numbered : (p : Edge → Bool) (es : List Edge) (d : Edge)
     → parity p es ≡ parity (λ e. p (get_or es e d)) (numbers_below (length es))
 numbered p [] d = refl
-numbered p (x ∷ es) d = ap (λ b. differ (p x) b) (numbered p es d) ∙ sym (numbers_first (λ e. p (get_or (x ∷ es) e d)) (length es))
+numbered p (x ∷ es) d = ap (λ b. differ (p x) b) (numbered p es d)
+    ∙ sym (numbers_first (λ e. p (get_or (x ∷ es) e d)) (length es))
 
 pub listed_parity : (p : Edge → Bool) (es : List Edge) (d : Edge)
     → parity p es ≡ parity p (listed es d)
-listed_parity p es d = numbered p es d ∙ sym (chosen_parity (λ e. true) (length es) (λ e. get_or es e d) p)
+listed_parity p es d = numbered p es d
+    ∙ sym (chosen_parity (λ e. true) (length es) (λ e. get_or es e d) p)
 
 pub listed_even : (es : List Edge) (d : Edge) → EvenEnds es → EvenEnds (listed es d)
 listed_even es d even p =
@@ -48,24 +52,29 @@ listed_even es d even p =
 
 -- ---- each point is an end of an even number of edges
 no_loop : (p : Point) (e : Edge) → (e.low ≡ e.high → ⊥)
-    → differ (same_point p e.low) (same_point p e.high) ≡ either (same_point p e.low) (same_point p e.high)
+    → differ (same_point p e.low) (same_point p e.high)
+    ≡ either (same_point p e.low) (same_point p e.high)
 no_loop p e n = by_test (same_point p e.low)
     (λ h. by_test (same_point p e.high)
     (λ k. absurd (n (sym (same_is p e.low h) ∙ same_is p e.high k)))
-    (λ k. ap (λ b. differ b (same_point p e.high)) h ∙ ap (λ b. differ true b) k ∙ sym (ap (λ b. either b (same_point p e.high)) h)))
-    (λ h. ap (λ b. differ b (same_point p e.high)) h ∙ sym (ap (λ b. either b (same_point p e.high)) h))
+    (λ k. ap (λ b. differ b (same_point p e.high)) h ∙ ap (λ b. differ true b) k
+    ∙ sym (ap (λ b. either b (same_point p e.high)) h)))
+    (λ h. ap (λ b. differ b (same_point p e.high)) h
+    ∙ sym (ap (λ b. either b (same_point p e.high)) h))
 
 pub even_ends : (es : List Edge) → ((e : Edge) → Has e es → e.low ≡ e.high → ⊥)
     → ((p : Point) → Even (tally (λ e. either (same_point p e.low) (same_point p e.high)) es))
     → EvenEnds es
 even_ends es n even p =
     parity_ends (same_point p) es
-    ∙ parity_map (λ e. differ (same_point p e.low) (same_point p e.high)) (λ e. either (same_point p e.low) (same_point p e.high)) es (λ e k. no_loop p e (n e k))
+    ∙ parity_map (λ e. differ (same_point p e.low) (same_point p e.high))
+    (λ e. either (same_point p e.low) (same_point p e.high)) es (λ e k. no_loop p e (n e k))
     ∙ even_parity (λ e. either (same_point p e.low) (same_point p e.high)) es (even p)
 
 -- ---- the cells on the two sides of a chosen edge have different parities
 pub across : (c : ℕ → Bool) (xs : List ℕ) (e : ℕ) (ys : List ℕ)
-    → parity_over c (length xs) (xs ++ (e ∷ ys)) ≡ differ (c e) (parity_over c (suc (length xs)) (xs ++ (e ∷ ys)))
+    → parity_over c (length xs) (xs ++ (e ∷ ys))
+    ≡ differ (c e) (parity_over c (suc (length xs)) (xs ++ (e ∷ ys)))
 across c [] e ys = refl
 across c (x ∷ xs) e ys = across c xs e ys
 

@@ -1,4 +1,5 @@
--- For an edge that does not hold the place z, the counts along the vertical and along the sweep line differ as its ends lie in
+-- For an edge that does not hold the place z, the counts along the vertical and along the sweep
+-- line differ as its ends lie in
 -- the wedge between them.
 -- Nine cases, by where the two ends lie.
 use Rattle.std.proofs.Common.{◌≡◌, zero, suc, Bool, true, false, ℤ, pos, negsuc, ◌+ℤ◌, ◌*ℤ◌, ◌-ℤ◌}
@@ -38,7 +39,8 @@ table : (r0 r1 a0 a1 b : Bool)
     → (r0 ≡ false → r1 ≡ true → a1 ≡ false → b ≡ true → ⊥)
     → (r0 ≡ false → r1 ≡ true → a0 ≡ true → b ≡ false → ⊥)
     → (r0 ≡ true → a0 ≡ false → a1 ≡ true → b ≡ true → ⊥)
-    → differ (both (flip r0) (both r1 b)) (both (flip a0) (both a1 b)) ≡ differ (both (flip r0) a0) (both (flip r1) a1)
+    → differ (both (flip r0) (both r1 b)) (both (flip a0) (both a1 b))
+    ≡ differ (both (flip r0) a0) (both (flip r1) a1)
 table false false false false false p1 p2 p3 p4 p5 p6 = refl
 table false false false false true p1 p2 p3 p4 p5 p6 = refl
 table false false false true false p1 p2 p3 p4 p5 p6 = absurd (p3 refl refl refl refl)
@@ -74,40 +76,51 @@ table true true true true true p1 p2 p3 p4 p5 p6 = refl
 
 -- ---- the place as a mean of the ends, along the sweep line and along the vertical
 along_sweep : (w : ℤ) (e : Edge) (z : Vector) →
-    ((((sweep w (point e.high) *ℤ z.n) -ℤ sweep w z) *ℤ ((e.low.x *ℤ z.n) -ℤ z.x)) +ℤ ((sweep w z -ℤ (sweep w (point e.low) *ℤ z.n)) *ℤ ((e.high.x *ℤ z.n) -ℤ z.x))) ≡ side e z *ℤ z.n
+    ((((sweep w (point e.high) *ℤ z.n) -ℤ sweep w z) *ℤ ((e.low.x *ℤ z.n) -ℤ z.x))
+    +ℤ ((sweep w z -ℤ (sweep w (point e.low) *ℤ z.n)) *ℤ ((e.high.x *ℤ z.n) -ℤ z.x)))
+    ≡ side e z *ℤ z.n
 unfolding side sweep
 along_sweep w e z =
     let W = at 0 in let X = at 1 in let Y = at 2 in let N = at 3 in
     let LX = at 4 in let LY = at 5 in let HX = at 6 in let HY = at 7 in
     let S = minus (times (plus (times W HX) HY) N) (plus (times W X) Y) in
     let T = minus (plus (times W X) Y) (times (plus (times W LX) LY) N) in
-    let D = minus (times (minus HX LX) (minus Y (times LY N))) (times (minus HY LY) (minus X (times LX N))) in
+    let D = minus (times (minus HX LX) (minus Y (times LY N)))
+    (times (minus HY LY) (minus X (times LX N))) in
     ring (plus (times S (minus (times LX N) X)) (times T (minus (times HX N) X))) (times D N)
     (vars (w ∷ z.x ∷ z.y ∷ z.n ∷ e.low.x ∷ e.low.y ∷ e.high.x ∷ e.high.y ∷ [])) refl
 
 along_vertical : (w : ℤ) (e : Edge) (z : Vector) →
-    ((((e.high.x *ℤ z.n) -ℤ z.x) *ℤ (sweep w z -ℤ (sweep w (point e.low) *ℤ z.n))) +ℤ ((z.x -ℤ (e.low.x *ℤ z.n)) *ℤ (sweep w z -ℤ (sweep w (point e.high) *ℤ z.n)))) ≡ side e z *ℤ z.n
+    ((((e.high.x *ℤ z.n) -ℤ z.x) *ℤ (sweep w z -ℤ (sweep w (point e.low) *ℤ z.n)))
+    +ℤ ((z.x -ℤ (e.low.x *ℤ z.n)) *ℤ (sweep w z -ℤ (sweep w (point e.high) *ℤ z.n))))
+    ≡ side e z *ℤ z.n
 unfolding side sweep
 along_vertical w e z =
     let W = at 0 in let X = at 1 in let Y = at 2 in let N = at 3 in
     let LX = at 4 in let LY = at 5 in let HX = at 6 in let HY = at 7 in
     let S = minus (plus (times W X) Y) (times (plus (times W LX) LY) N) in
     let T = minus (plus (times W X) Y) (times (plus (times W HX) HY) N) in
-    let D = minus (times (minus HX LX) (minus Y (times LY N))) (times (minus HY LY) (minus X (times LX N))) in
+    let D = minus (times (minus HX LX) (minus Y (times LY N)))
+    (times (minus HY LY) (minus X (times LX N))) in
     ring (plus (times (minus (times HX N) X) S) (times (minus X (times LX N)) T)) (times D N)
     (vars (w ∷ z.x ∷ z.y ∷ z.n ∷ e.low.x ∷ e.low.y ∷ e.high.x ∷ e.high.y ∷ [])) refl
 
 scaled_most : (a b n : ℤ) → pos 0 <ℤ n → a ≤ℤ b → (a *ℤ n) ≤ℤ (b *ℤ n)
 scaled_most a b n h k =
     let p = product_nonnegative (b -ℤ a) n (omega (arith, ints, k)) (omega (arith, ints, h)) in
-    let e = ring (times (minus (at 1) (at 0)) (at 2)) (minus (times (at 1) (at 2)) (times (at 0) (at 2))) (vars (a ∷ b ∷ n ∷ [])) refl in
+    let e = ring (times (minus (at 1) (at 0)) (at 2))
+    (minus (times (at 1) (at 2)) (times (at 0) (at 2))) (vars (a ∷ b ∷ n ∷ [])) refl in
     omega (arith, ints, p, e)
 
 negated : (a b : ℤ) → (pos 0 -ℤ a) *ℤ b ≡ pos 0 -ℤ (a *ℤ b)
-negated a b = ring (times (minus (num (pos 0)) (at 0)) (at 1)) (minus (num (pos 0)) (times (at 0) (at 1))) (vars (a ∷ b ∷ [])) refl
+negated a b =
+    ring (times (minus (num (pos 0)) (at 0)) (at 1)) (minus (num (pos 0)) (times (at 0) (at 1)))
+    (vars (a ∷ b ∷ [])) refl
 
 turned : (a b : ℤ) → a *ℤ (pos 0 -ℤ b) ≡ pos 0 -ℤ (a *ℤ b)
-turned a b = ring (times (at 0) (minus (num (pos 0)) (at 1))) (minus (num (pos 0)) (times (at 0) (at 1))) (vars (a ∷ b ∷ [])) refl
+turned a b =
+    ring (times (at 0) (minus (num (pos 0)) (at 1))) (minus (num (pos 0)) (times (at 0) (at 1)))
+    (vars (a ∷ b ∷ [])) refl
 
 -- s p + t q = d n in signs, for s above 0 and t at least 0
 above_zero : (s t p q d n : ℤ) → pos 0 <ℤ s → pos 0 ≤ℤ t → pos 0 <ℤ n → pos 0 <ℤ p → pos 0 ≤ℤ q
@@ -134,14 +147,16 @@ most_zero : (s t p q d n : ℤ) → pos 0 ≤ℤ s → pos 0 ≤ℤ t → pos 0 
     → (s *ℤ p) +ℤ (t *ℤ q) ≡ d *ℤ n → d ≤ℤ pos 0
 most_zero s t p q d n hs ht hn hp hq e =
     let f = turned s p in let g = turned t q in let h = negated d n in
-    let x = least_zero s t (pos 0 -ℤ p) (pos 0 -ℤ q) (pos 0 -ℤ d) n hs ht hn (omega (arith, ints, hp)) (omega (arith, ints, hq)) (omega (arith, ints, e, f, g, h)) in
+    let x = least_zero s t (pos 0 -ℤ p) (pos 0 -ℤ q) (pos 0 -ℤ d) n hs ht hn
+    (omega (arith, ints, hp)) (omega (arith, ints, hq)) (omega (arith, ints, e, f, g, h)) in
     omega (arith, ints, x)
 
 below_zero : (s t p q d n : ℤ) → pos 0 <ℤ s → pos 0 ≤ℤ t → pos 0 <ℤ n → p <ℤ pos 0 → q ≤ℤ pos 0
     → (s *ℤ p) +ℤ (t *ℤ q) ≡ d *ℤ n → d <ℤ pos 0
 below_zero s t p q d n hs ht hn hp hq e =
     let f = turned s p in let g = turned t q in let h = negated d n in
-    let x = above_zero s t (pos 0 -ℤ p) (pos 0 -ℤ q) (pos 0 -ℤ d) n hs ht hn (omega (arith, ints, hp)) (omega (arith, ints, hq)) (omega (arith, ints, e, f, g, h)) in
+    let x = above_zero s t (pos 0 -ℤ p) (pos 0 -ℤ q) (pos 0 -ℤ d) n hs ht hn
+    (omega (arith, ints, hp)) (omega (arith, ints, hq)) (omega (arith, ints, e, f, g, h)) in
     omega (arith, ints, x)
 
 low_left : (p q : Point) → Before p q → p.x ≤ℤ q.x
@@ -151,7 +166,8 @@ low_left p q (inr k) = let e = k.0 in omega (arith, ints, e)
 -- all cases
 pub wedge_law : (w : ℤ) (z : Vector) (e : Edge) → Place z → Before e.low e.high → pos 0 <ℤ rise w e
     → (On w e z → ⊥)
-    → differ (crosses_vertical z e) (crosses_sweep w z e) ≡ differ (in_wedge w z e.low) (in_wedge w z e.high)
+    → differ (crosses_vertical z e) (crosses_sweep w z e)
+    ≡ differ (in_wedge w z e.low) (in_wedge w z e.high)
 unfolding is_right is_after is_under
 wedge_law w z e hz before up off =
     let n = z.n in
@@ -162,27 +178,42 @@ wedge_law w z e hz before up off =
     let d = side e z in
     let x = scaled_most e.low.x e.high.x n hz (low_left e.low e.high before) in
     let r = rise-is w e in
-    let s = scaled_most (sweep w (point e.low)) (sweep w (point e.high)) n hz (omega (arith, ints, r, up)) in
+    let s = scaled_most (sweep w (point e.low)) (sweep w (point e.high)) n hz
+    (omega (arith, ints, r, up)) in
     let i = along_sweep w e z in
     let j = along_vertical w e z in
-    table (is_positive lx) (is_positive hx) (is_positive ls) (is_positive hs) (is_positive (pos 0 -ℤ d))
+    table (is_positive lx) (is_positive hx) (is_positive ls) (is_positive hs)
+    (is_positive (pos 0 -ℤ d))
     (λ a b. let p = is_true lx a in let q = is_false hx b in omega (arith, ints, x, p, q))
     (λ a b. let p = is_true ls a in let q = is_false hs b in omega (arith, ints, s, p, q))
     (λ a b c u.
-    let p = is_false hx a in let q = is_false ls b in let v = is_true hs c in let k = is_false (pos 0 -ℤ d) u in
-    let m = most_zero hs (sweep w z -ℤ (sweep w (point e.low) *ℤ n)) lx hx d n (omega (arith, ints, v)) (omega (arith, ints, q)) hz (omega (arith, ints, x, p)) p i in
-    off (record { line = omega (arith, ints, m, k); low = omega (arith, ints, q); high = omega (arith, ints, v) }))
+    let p = is_false hx a in
+    let q = is_false ls b in let v = is_true hs c in let k = is_false (pos 0 -ℤ d) u in
+    let m = most_zero hs (sweep w z -ℤ (sweep w (point e.low) *ℤ n)) lx hx d n
+    (omega (arith, ints, v)) (omega (arith, ints, q)) hz (omega (arith, ints, x, p)) p i in
+    off (record {
+      line = omega (arith, ints, m, k);
+      low = omega (arith, ints, q);
+      high = omega (arith, ints, v);
+    }))
     (λ a b c u.
-    let p = is_false lx a in let q = is_true hx b in let v = is_false hs c in let k = is_true (pos 0 -ℤ d) u in
-    let m = least_zero hx (z.x -ℤ (e.low.x *ℤ n)) (sweep w z -ℤ (sweep w (point e.low) *ℤ n)) (sweep w z -ℤ (sweep w (point e.high) *ℤ n)) d n
-    (omega (arith, ints, q)) (omega (arith, ints, p)) hz (omega (arith, ints, s, v)) (omega (arith, ints, v)) j in
+    let p = is_false lx a in
+    let q = is_true hx b in let v = is_false hs c in let k = is_true (pos 0 -ℤ d) u in
+    let m = least_zero hx (z.x -ℤ (e.low.x *ℤ n)) (sweep w z -ℤ (sweep w (point e.low) *ℤ n))
+    (sweep w z -ℤ (sweep w (point e.high) *ℤ n)) d n
+    (omega (arith, ints, q)) (omega (arith, ints, p)) hz (omega (arith, ints, s, v))
+    (omega (arith, ints, v)) j in
     omega (arith, ints, m, k))
     (λ a b c u.
-    let p = is_false lx a in let q = is_true hx b in let v = is_true ls c in let k = is_false (pos 0 -ℤ d) u in
-    let m = below_zero hx (z.x -ℤ (e.low.x *ℤ n)) (sweep w z -ℤ (sweep w (point e.low) *ℤ n)) (sweep w z -ℤ (sweep w (point e.high) *ℤ n)) d n
+    let p = is_false lx a in
+    let q = is_true hx b in let v = is_true ls c in let k = is_false (pos 0 -ℤ d) u in
+    let m = below_zero hx (z.x -ℤ (e.low.x *ℤ n)) (sweep w z -ℤ (sweep w (point e.low) *ℤ n))
+    (sweep w z -ℤ (sweep w (point e.high) *ℤ n)) d n
     q (omega (arith, ints, p)) hz (omega (arith, ints, v)) (omega (arith, ints, s, v)) j in
     omega (arith, ints, m, k))
     (λ a b c u.
-    let p = is_true lx a in let q = is_false ls b in let v = is_true hs c in let k = is_true (pos 0 -ℤ d) u in
-    let m = above_zero hs (sweep w z -ℤ (sweep w (point e.low) *ℤ n)) lx hx d n v (omega (arith, ints, q)) hz p (omega (arith, ints, x, p)) i in
+    let p = is_true lx a in
+    let q = is_false ls b in let v = is_true hs c in let k = is_true (pos 0 -ℤ d) u in
+    let m = above_zero hs (sweep w z -ℤ (sweep w (point e.low) *ℤ n)) lx hx d n v
+    (omega (arith, ints, q)) hz p (omega (arith, ints, x, p)) i in
     omega (arith, ints, m, k))

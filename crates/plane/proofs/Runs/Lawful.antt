@@ -21,10 +21,13 @@ use Rattle.plane.proofs.Runs.Numbered.{nth, IsCut, cut_at, late, comes}
 ordered_list : (w : ℤ) (E : ℕ → Edge) (done todo : List Step) (z : Vector) (xs : List ℕ) → Place z
     → ((e : ℕ) → Has e xs → pos 0 <ℤ rise w (E e))
     → Neighbours (Began E done) xs → Neighbours (Ends E todo) xs
-    → Each (λ s. (sweep w (point s.at) *ℤ z.n) <ℤ sweep w z) done → Each (λ s. sweep w z <ℤ (sweep w (point s.at) *ℤ z.n)) todo
+    → Each (λ s. (sweep w (point s.at) *ℤ z.n) <ℤ sweep w z) done
+    → Each (λ s. sweep w z <ℤ (sweep w (point s.at) *ℤ z.n)) todo
     → Neighbours (λ a b. gap w (E a) (E b) z <ℤ pos 0) xs
-ordered_list w E done todo z xs Z rises ps qs past coming = neighbours_both (Began E done) (Ends E todo) (λ a b. gap w (E a) (E b) z <ℤ pos 0) xs
-    (λ a b ka kb p q. strict_order w E done todo z a b Z (rises a ka) (rises b kb) p q past coming) ps qs
+ordered_list w E done todo z xs Z rises ps qs past coming =
+    neighbours_both (Began E done) (Ends E todo) (λ a b. gap w (E a) (E b) z <ℤ pos 0) xs
+    (λ a b ka kb p q. strict_order w E done todo z a b Z (rises a ka) (rises b kb) p q past coming)
+    ps qs
 
 module _ (w : ℤ) (m : ℕ) (E : ℕ → Edge) (steps : List Step) (swept : WeighedRun w m E steps) where
   at_cut : (k : ℕ) (done todo : List Step) → IsCut steps k done todo
@@ -67,7 +70,8 @@ module _ (w : ℤ) (m : ℕ) (E : ℕ → Edge) (steps : List Step) (swept : Wei
       let o = moment w m E c.0 c.1 (at_cut k c.0 c.1 c.2) in
       let first : AtSome (E e).low c.0 = (nth steps i, c.2.passed i a, sym low) in
       let last : AtSome (E e).high c.1 = (nth steps j, comes steps k c.0 c.1 c.2 j b h, sym high) in
-      subst (λ (es : List ℕ). Has e es) c.2.now (is_live m E c.0 e l o.done_good first (not_done w m E c.0 c.1 (E e).high o last))
+      subst (λ (es : List ℕ). Has e es) c.2.now
+      (is_live m E c.0 e l o.done_good first (not_done w m E c.0 c.1 (E e).high o last))
 
   -- ---- order inside a strip
   ordered : (k : ℕ) (z : Vector) → k ≤ length steps → Place z
@@ -79,9 +83,16 @@ module _ (w : ℤ) (m : ℕ) (E : ℕ → Edge) (steps : List Step) (swept : Wei
       let todo = c.1 in
       let o = moment w m E done todo (at_cut k done todo c.2) in
       subst (λ (es : List ℕ). IsOrdered (replay w m E steps) z es) c.2.now
-      (ordered_list w E done todo z (live done) Z (live_rises w m E done todo o) (begins m E done o.done_good) (ends m E (live done) todo o.todo_good)
-      (each_from (λ s. (sweep w (point s.at) *ℤ z.n) <ℤ sweep w z) done (λ s n. let j = c.2.early s n in subst (λ (t : Step). (sweep w (point t.at) *ℤ z.n) <ℤ sweep w z) j.2 (inside.from j.0 j.1)))
-      (each_from (λ s. sweep w z <ℤ (sweep w (point s.at) *ℤ z.n)) todo (λ s n. let j = late steps k done todo c.2 s n in subst (λ (t : Step). sweep w z <ℤ (sweep w (point t.at) *ℤ z.n)) j.3 (inside.to j.0 j.1 j.2))))
+      (ordered_list w E done todo z (live done) Z (live_rises w m E done todo o)
+      (begins m E done o.done_good) (ends m E (live done) todo o.todo_good)
+      (each_from (λ s. (sweep w (point s.at) *ℤ z.n) <ℤ sweep w z) done
+      (λ s n. let j = c.2.early s n in
+      subst (λ (t : Step). (sweep w (point t.at) *ℤ z.n) <ℤ sweep w z) j.2
+      (inside.from j.0 j.1)))
+      (each_from (λ s. sweep w z <ℤ (sweep w (point s.at) *ℤ z.n)) todo
+      (λ s n. let j = late steps k done todo c.2 s n in
+      subst (λ (t : Step). sweep w z <ℤ (sweep w (point t.at) *ℤ z.n)) j.3
+      (inside.to j.0 j.1 j.2))))
 
   -- ---- the moment of a step
   pub record IsAtStep (k : ℕ) (done : List Step) (s : Step) (todo : List Step) : Type 0 where
@@ -95,7 +106,15 @@ module _ (w : ℤ) (m : ℕ) (E : ℕ → Edge) (steps : List Step) (swept : Wei
       split : (done todo : List Step) → IsCut steps k done todo
           → (d : List Step) × (s : Step) × (t : List Step) × IsAtStep k d s t
       split done [] c = let size = c.size in absurd (omega (arith, size, h))
-      split done (s ∷ todo) c = (done, s, todo, record { is = c.rest 0 (omega arith) ∙ ap (nth steps) (omega arith); all = at_cut k done (s ∷ todo) c })
+      split done (s ∷ todo) c = (
+        done,
+        s,
+        todo,
+        record {
+          is = c.rest 0 (omega arith) ∙ ap (nth steps) (omega arith);
+          all = at_cut k done (s ∷ todo) c;
+        },
+      )
 
   -- ---- order at an event
   strictly : (a b : ℤ) → a <ℤ b → (a *ℤ pos 1) <ℤ b
@@ -106,7 +125,8 @@ module _ (w : ℤ) (m : ℕ) (E : ℕ → Edge) (steps : List Step) (swept : Wei
 
   ordered_at : (done : List Step) (s : Step) (todo : List Step)
       → WeighedRun w m E (onto done (s ∷ todo))
-      → IsOrdered (replay w m E steps) (point s.at) s.below × IsOrdered (replay w m E steps) (point s.at) s.above
+      → IsOrdered (replay w m E steps) (point s.at) s.below
+      × IsOrdered (replay w m E steps) (point s.at) s.above
   ordered_at done s todo all =
       let z = point s.at in
       let o = moment w m E done (s ∷ todo) all in
@@ -114,22 +134,30 @@ module _ (w : ℤ) (m : ℕ) (E : ℕ → Edge) (steps : List Step) (swept : Wei
       let p = untouched_began w m E done todo s o in
       let q = untouched_ends w m E done todo s o in
       let u = untouched_rises w m E done todo s o in
-      let past : Each (λ t. (sweep w (point t.at) *ℤ pos 1) <ℤ sweep w z) done = each_from (λ t. (sweep w (point t.at) *ℤ pos 1) <ℤ sweep w z) done (λ t n. strictly (sweep w (point t.at)) (sweep w z) (o.cut t s n (inl refl))) in
-      let coming : Each (λ t. sweep w z <ℤ (sweep w (point t.at) *ℤ pos 1)) todo = each_from (λ t. sweep w z <ℤ (sweep w (point t.at) *ℤ pos 1)) todo (λ t n. strictly_back (sweep w z) (sweep w (point t.at)) (i.cut s t (inl refl) n)) in
-      let Z : Place z = omega (arith, ints) in
-      (ordered_list w E done todo z s.below Z u.0 p.0 q.0 past coming, ordered_list w E done todo z s.above Z u.1 p.1 q.1 past coming)
+      let past : Each (λ t. (sweep w (point t.at) *ℤ pos 1) <ℤ sweep w z) done = each_from
+      (λ t. (sweep w (point t.at) *ℤ pos 1) <ℤ sweep w z) done
+      (λ t n. strictly (sweep w (point t.at)) (sweep w z) (o.cut t s n (inl refl))) in
+      let coming : Each (λ t. sweep w z <ℤ (sweep w (point t.at) *ℤ pos 1)) todo = each_from
+      (λ t. sweep w z <ℤ (sweep w (point t.at) *ℤ pos 1)) todo
+      (λ t n. strictly_back (sweep w z) (sweep w (point t.at)) (i.cut s t (inl refl) n)) in
+      let Z : Place z = omega (arith, ints) in (
+        ordered_list w E done todo z s.below Z u.0 p.0 q.0 past coming,
+        ordered_list w E done todo z s.above Z u.1 p.1 q.1 past coming,
+      )
 
   ordered_below : (k : ℕ) → k < length steps
       → IsOrdered (replay w m E steps) (point (nth steps k).at) (nth steps k).below
   ordered_below k h =
       let a = at_step k h in
-      subst (λ (s : Step). IsOrdered (replay w m E steps) (point s.at) s.below) a.3.is (ordered_at a.0 a.1 a.2 a.3.all).0
+      subst (λ (s : Step). IsOrdered (replay w m E steps) (point s.at) s.below) a.3.is
+      (ordered_at a.0 a.1 a.2 a.3.all).0
 
   ordered_above : (k : ℕ) → k < length steps
       → IsOrdered (replay w m E steps) (point (nth steps k).at) (nth steps k).above
   ordered_above k h =
       let a = at_step k h in
-      subst (λ (s : Step). IsOrdered (replay w m E steps) (point s.at) s.above) a.3.is (ordered_at a.0 a.1 a.2 a.3.all).1
+      subst (λ (s : Step). IsOrdered (replay w m E steps) (point s.at) s.above) a.3.is
+      (ordered_at a.0 a.1 a.2 a.3.all).1
 
   -- ---- the edges below and above an event
   under : (k : ℕ) → k < length steps → (e : ℕ) → Has e (nth steps k).below
@@ -137,7 +165,8 @@ module _ (w : ℤ) (m : ℕ) (E : ℕ → Edge) (steps : List Step) (swept : Wei
   under k h e n =
       let a = at_step k h in
       let sides : Each (λ e. pos 0 <ℤ side (E e) (point (nth steps k).at)) (nth steps k).below =
-      subst (λ (s : Step). Each (λ e. pos 0 <ℤ side (E e) (point s.at)) s.below) a.3.is (event_sides w m E a.0 a.2 a.1 a.3.all).0 in
+      subst (λ (s : Step). Each (λ e. pos 0 <ℤ side (E e) (point s.at)) s.below) a.3.is
+      (event_sides w m E a.0 a.2 a.1 a.3.all).0 in
       each_has (λ e. pos 0 <ℤ side (E e) (point (nth steps k).at)) (nth steps k).below e sides n
 
   over : (k : ℕ) → k < length steps → (e : ℕ) → Has e (nth steps k).above
@@ -145,7 +174,8 @@ module _ (w : ℤ) (m : ℕ) (E : ℕ → Edge) (steps : List Step) (swept : Wei
   over k h e n =
       let a = at_step k h in
       let sides : Each (λ e. side (E e) (point (nth steps k).at) <ℤ pos 0) (nth steps k).above =
-      subst (λ (s : Step). Each (λ e. side (E e) (point s.at) <ℤ pos 0) s.above) a.3.is (event_sides w m E a.0 a.2 a.1 a.3.all).1 in
+      subst (λ (s : Step). Each (λ e. side (E e) (point s.at) <ℤ pos 0) s.above) a.3.is
+      (event_sides w m E a.0 a.2 a.1 a.3.all).1 in
       each_has (λ e. side (E e) (point (nth steps k).at) <ℤ pos 0) (nth steps k).above e sides n
 
   -- ---- places off the edges
@@ -156,10 +186,17 @@ module _ (w : ℤ) (m : ℕ) (E : ℕ → Edge) (steps : List Step) (swept : Wei
       let done = c.0 in
       let todo = c.1 in
       let i : IsAt w done todo z = record {
-        passed = each_from (λ s. (sweep w (point s.at) *ℤ z.n) ≤ℤ sweep w z) done (λ s n. let j = c.2.early s n in subst (λ (t : Step). (sweep w (point t.at) *ℤ z.n) ≤ℤ sweep w z) j.2 (strip.from j.0 j.1));
-        coming = each_from (λ s. sweep w z <ℤ (sweep w (point s.at) *ℤ z.n)) todo (λ s n. let j = late steps k done todo c.2 s n in subst (λ (t : Step). sweep w z <ℤ (sweep w (point t.at) *ℤ z.n)) j.3 (strip.to j.0 j.1 j.2));
+        passed = each_from (λ s. (sweep w (point s.at) *ℤ z.n) ≤ℤ sweep w z) done
+            (λ s n. let j = c.2.early s n in
+            subst (λ (t : Step). (sweep w (point t.at) *ℤ z.n) ≤ℤ sweep w z) j.2
+            (strip.from j.0 j.1));
+        coming = each_from (λ s. sweep w z <ℤ (sweep w (point s.at) *ℤ z.n)) todo
+            (λ s n. let j = late steps k done todo c.2 s n in
+            subst (λ (t : Step). sweep w z <ℤ (sweep w (point t.at) *ℤ z.n)) j.3
+            (strip.to j.0 j.1 j.2));
       } in
-      subst (λ (es : List ℕ). Divides E z es) c.2.now (place_divides w m E done todo z (at_cut k done todo c.2) i Z off)
+      subst (λ (es : List ℕ). Divides E z es) c.2.now
+      (place_divides w m E done todo z (at_cut k done todo c.2) i Z off)
 
   -- the laws of a swept run, by numbers
   pub swept_lawful : IsLawful (replay w m E steps)

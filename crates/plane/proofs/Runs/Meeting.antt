@@ -41,15 +41,20 @@ event_is_end w m E done todo s e all l on =
     let here : AtSome (E e).low done → IsEnd (E e) s.at = λ k.
     let old = subst (λ xs. Has e xs) h.todo_good.0 (is_live m E done e l h.done_good k not_done) in
     elim (has_three e s.below s.ending s.above old) [
-      | inl b ↦ let x = each_has (λ y. pos 0 <ℤ side (E y) (point s.at)) s.below e sides.0 b in let z = on.line in absurd (omega (arith, ints, x, z))
+      | inl b ↦ let x = each_has (λ y. pos 0 <ℤ side (E y) (point s.at)) s.below e sides.0 b in
+          let z = on.line in absurd (omega (arith, ints, x, z))
       | inr r ↦ elim r [
         | inl b ↦ inr (g.ending_only e b).1
-        | inr b ↦ let x = each_has (λ y. side (E y) (point s.at) <ℤ pos 0) s.above e sides.1 b in let z = on.line in absurd (omega (arith, ints, x, z))
+        | inr b ↦ let x = each_has (λ y. side (E y) (point s.at) <ℤ pos 0) s.above e sides.1 b in
+            let z = on.line in absurd (omega (arith, ints, x, z))
       ]
     ] in
     elim (h.ends e l).0 [
       | inl k ↦ here k
-      | inr k ↦ elim (split_at (E e).low s todo k) [ inl q ↦ inl q | inr later ↦ absurd (not_later later) ]
+      | inr k ↦ elim (split_at (E e).low s todo k) [
+        | inl q ↦ inl q
+        | inr later ↦ absurd (not_later later)
+      ]
     ]
   where
     split_at : (p : Point) (s : Step) (todo : List Step) → AtSome p (s ∷ todo)
@@ -71,21 +76,26 @@ low_done w m E done todo z e h i l on = elim (h.ends e l).0 [
         let y = subst (λ p. (sweep w (point p) *ℤ z.n) ≤ℤ sweep w z) q on.low in
         omega (arith, ints, x, y)
 
--- an edge with a place on the sweep line of a step, but not through its point, lies below or above the step
-pub untouched : (w : ℤ) (m : ℕ) (E : ℕ → Edge) (done todo : List Step) (s : Step) (z : Vector) (e : ℕ)
+-- an edge with a place on the sweep line of a step, but not through its point, lies below or above
+-- the step
+pub untouched : (w : ℤ) (m : ℕ) (E : ℕ → Edge) (done todo : List Step) (s : Step) (z : Vector)
+    (e : ℕ)
     → WeighedRun w m E (onto done (s ∷ todo)) → IsAt w (s ∷ done) todo z → Place z → e < m
-    → sweep w z ≡ sweep w (point s.at) *ℤ z.n → On w (E e) z → (side (E e) (point s.at) ≡ pos 0 → ⊥) → Has e s.below ⊎ Has e s.above
+    → sweep w z ≡ sweep w (point s.at) *ℤ z.n → On w (E e) z → (side (E e) (point s.at) ≡ pos 0 → ⊥)
+    → Has e s.below ⊎ Has e s.above
 untouched w m E done todo s z e all i hz l h on off =
     let u = moment w m E done (s ∷ todo) all in
     let v = moment w m E (s ∷ done) todo all in
     let g = u.todo_good.1 in
-    let early : AtSome (E e).low done = earlier (E e).low s done (λ q. off (side_through_low E e s.at q)) (low_done w m E (s ∷ done) todo z e v i l on) in
+    let early : AtSome (E e).low done = earlier (E e).low s done
+    (λ q. off (side_through_low E e s.at q)) (low_done w m E (s ∷ done) todo z e v i l on) in
     let high = on.high in
     let not_done : AtSome (E e).high done → ⊥ = λ (t, k, q).
     let x = scaled (sweep w (point t.at)) (sweep w (point s.at)) z.n hz (u.cut t s k (inl refl)) in
     let y = subst (λ p. sweep w z ≤ℤ (sweep w (point p) *ℤ z.n)) q high in
     omega (arith, ints, x, y, h) in
-    let old = subst (λ xs. Has e xs) u.todo_good.0 (is_live m E done e l u.done_good early not_done) in
+    let old = subst (λ xs. Has e xs) u.todo_good.0
+    (is_live m E done e l u.done_good early not_done) in
     elim (has_three e s.below s.ending s.above old) [
       | inl b ↦ inl b
       | inr r ↦ elim r [
@@ -107,32 +117,45 @@ same_place w z v h level =
     let a : (pos 1 *ℤ z.x) ≡ z.n *ℤ v.x = omega (arith, ints, level) in
     let b = ring (at 0) (times (num (pos 1)) (at 0)) (vars (z.x ∷ [])) refl in
     let c = ap (λ x. w *ℤ x) (b ∙ a) in
-    let d = ring (minus (times (plus (times (at 0) (at 1)) (at 2)) (at 3)) (times (at 2) (at 3))) (times (at 0) (times (at 3) (at 1))) (vars (w ∷ v.x ∷ v.y ∷ z.n ∷ [])) refl in
+    let d = ring (minus (times (plus (times (at 0) (at 1)) (at 2)) (at 3)) (times (at 2) (at 3)))
+    (times (at 0) (times (at 3) (at 1))) (vars (w ∷ v.x ∷ v.y ∷ z.n ∷ [])) refl in
     let e = product_comm z.n v.x in
     record { x = omega (arith, ints, a, e); y = omega (arith, ints, c, d, h) }
 
 pub factor_zero : (n s : ℤ) → pos 0 <ℤ n → n *ℤ s ≡ pos 0 → s ≡ pos 0
 factor_zero n s h e = by_sign s
-    (λ (l : s <ℤ pos 0). let x = product_positive n (pos 0 -ℤ s) h (omega (arith, ints, l)) in let y = ring (times (at 0) (minus (num (pos 0)) (at 1))) (minus (num (pos 0)) (times (at 0) (at 1))) (vars (n ∷ s ∷ [])) refl in absurd (omega (arith, ints, x, y, e)))
+    (λ (l : s <ℤ pos 0). let x = product_positive n (pos 0 -ℤ s) h (omega (arith, ints, l)) in
+    let y = ring (times (at 0) (minus (num (pos 0)) (at 1)))
+    (minus (num (pos 0)) (times (at 0) (at 1))) (vars (n ∷ s ∷ [])) refl in
+    absurd (omega (arith, ints, x, y, e)))
     (λ l. l)
     (λ (l : pos 0 <ℤ s). let x = product_positive n s h l in absurd (omega (arith, ints, x, e)))
 
 pub unscaled : (a b n : ℤ) → pos 0 <ℤ n → (a *ℤ n) ≤ℤ (b *ℤ n) → a ≤ℤ b
-unscaled a b n h k = by_lt_z b a (λ (l : b <ℤ a). let x = scaled b a n h l in absurd (omega (arith, ints, x, k))) (λ l. l)
+unscaled a b n h k =
+    by_lt_z b a (λ (l : b <ℤ a). let x = scaled b a n h l in
+    absurd (omega (arith, ints, x, k))) (λ l. l)
 
 -- ---- two edges with a common place have a common end there
 pub on_point : (w : ℤ) (e : Edge) (z : Vector) (v : Point) → Place z
     → sweep w z ≡ sweep w (point v) *ℤ z.n → lift z (point v) ≡ pos 0 → On w e z → On w e (point v)
 on_point w e z v hz h level on =
     let line = on.line in let low = on.low in let high = on.high in
-    let a = unscaled (sweep w (point e.low)) (sweep w (point v)) z.n hz (omega (arith, ints, low, h)) in
-    let b = unscaled (sweep w (point v)) (sweep w (point e.high)) z.n hz (omega (arith, ints, high, h)) in
-    record { line = factor_zero z.n (side e (point v)) hz (sym (level_side w e z v h level) ∙ line); low = omega (arith, ints, a); high = omega (arith, ints, b) }
+    let a = unscaled (sweep w (point e.low)) (sweep w (point v)) z.n hz
+    (omega (arith, ints, low, h)) in
+    let b = unscaled (sweep w (point v)) (sweep w (point e.high)) z.n hz
+    (omega (arith, ints, high, h)) in
+    record {
+      line = factor_zero z.n (side e (point v)) hz (sym (level_side w e z v h level) ∙ line);
+      low = omega (arith, ints, a);
+      high = omega (arith, ints, b);
+    }
 
 meet_at : (w : ℤ) (m : ℕ) (E : ℕ → Edge) (done todo : List Step) (z : Vector) (a b : ℕ)
     → WeighedRun w m E (onto done todo) → IsAt w done todo z → a < m → b < m → (a ≡ b → ⊥)
     → Place z → On w (E a) z → On w (E b) z → CommonEnd (E a) (E b) z
-meet_at w m E [] todo z a b all i la lb differ hz oa ob = absurd (nothing (low_done w m E [] todo z a (moment w m E [] todo all) i la oa))
+meet_at w m E [] todo z a b all i la lb differ hz oa ob =
+    absurd (nothing (low_done w m E [] todo z a (moment w m E [] todo all) i la oa))
   where
     nothing : {p : Point} → AtSome p [] → ⊥
     nothing (t, k, q) = k
@@ -145,8 +168,13 @@ meet_at w m E (s ∷ done) todo z a b all i la lb differ hz oa ob =
     let y = subst (λ p. sweep w z ≤ℤ (sweep w (point p) *ℤ z.n)) q on.high in
     let x = at_most_last w z s done t hz l (λ t k. u.cut t s k (inl refl)) k in
     omega (arith, ints, x, y) in
-    let is : (e : ℕ) → e < m → On w (E e) z → Has e (after s) = λ e k on. is_live m E (s ∷ done) e k v.done_good (low_done w m E (s ∷ done) todo z e v i k on) (not_done e on) in
-    absurd (differ (one_through E z a b (after s) (inner_order w m E done todo s z all i hz l) (is a la oa) (is b lb ob) oa.line ob.line)))
+    let is : (e : ℕ) → e < m → On w (E e) z
+    → Has e (after s) =
+    λ e k on. is_live m E (s ∷ done) e k v.done_good
+    (low_done w m E (s ∷ done) todo z e v i k on) (not_done e on) in
+    absurd (differ
+    (one_through E z a b (after s) (inner_order w m E done todo s z all i hz l) (is a la oa)
+    (is b lb ob) oa.line ob.line)))
     (λ (l : sweep w z ≤ℤ (sweep w (point s.at) *ℤ z.n)).
     let p = i.passed.0 in
     let e : sweep w z ≡ sweep w (point s.at) *ℤ z.n = omega (arith, ints, l, p) in
@@ -156,11 +184,14 @@ meet_at w m E (s ∷ done) todo z a b all i la lb differ hz oa ob =
     by_sign (lift z (point s.at))
     (λ (d : lift z (point s.at) <ℤ pos 0).
     let under : (x : ℕ) → x < m → On w (E x) z → side (E x) (point s.at) ≤ℤ pos 0 → ⊥ = λ x k on c.
-    let y = lower_side w (E x) z s.at e hz (v.rises x k) d c in let line = on.line in omega (arith, ints, y, line) in
+    let y = lower_side w (E x) z s.at e hz (v.rises x k) d c in
+    let line = on.line in omega (arith, ints, y, line) in
     let is : (x : ℕ) → x < m → On w (E x) z → Has x s.below = λ x k on.
-    elim (untouched w m E done todo s z x all i hz k e on (λ (c : side (E x) (point s.at) ≡ pos 0). under x k on (omega (arith, ints, c)))) [
+    elim (untouched w m E done todo s z x all i hz k e on
+    (λ (c : side (E x) (point s.at) ≡ pos 0). under x k on (omega (arith, ints, c)))) [
       | inl y ↦ y
-      | inr y ↦ let c = each_has (λ y. side (E y) (point s.at) <ℤ pos 0) s.above x sides.1 y in absurd (under x k on (omega (arith, ints, c)))
+      | inr y ↦ let c = each_has (λ y. side (E y) (point s.at) <ℤ pos 0) s.above x sides.1 y in
+          absurd (under x k on (omega (arith, ints, c)))
     ] in
     absurd (differ (one_through E z a b s.below o.0 (is a la oa) (is b lb ob) oa.line ob.line)))
     (λ (d : lift z (point s.at) ≡ pos 0). record {
@@ -171,26 +202,34 @@ meet_at w m E (s ∷ done) todo z a b all i la lb differ hz oa ob =
     })
     (λ (d : pos 0 <ℤ lift z (point s.at)).
     let over : (x : ℕ) → x < m → On w (E x) z → pos 0 ≤ℤ side (E x) (point s.at) → ⊥ = λ x k on c.
-    let y = higher_side w (E x) z s.at e hz (v.rises x k) d c in let line = on.line in omega (arith, ints, y, line) in
+    let y = higher_side w (E x) z s.at e hz (v.rises x k) d c in
+    let line = on.line in omega (arith, ints, y, line) in
     let is : (x : ℕ) → x < m → On w (E x) z → Has x s.above = λ x k on.
-    elim (untouched w m E done todo s z x all i hz k e on (λ (c : side (E x) (point s.at) ≡ pos 0). over x k on (omega (arith, ints, c)))) [
-      | inl y ↦ let c = each_has (λ y. pos 0 <ℤ side (E y) (point s.at)) s.below x sides.0 y in absurd (over x k on (omega (arith, ints, c)))
+    elim (untouched w m E done todo s z x all i hz k e on
+    (λ (c : side (E x) (point s.at) ≡ pos 0). over x k on (omega (arith, ints, c)))) [
+      | inl y ↦ let c = each_has (λ y. pos 0 <ℤ side (E y) (point s.at)) s.below x sides.0 y in
+          absurd (over x k on (omega (arith, ints, c)))
       | inr y ↦ y
     ] in
     absurd (differ (one_through E z a b s.above o.1 (is a la oa) (is b lb ob) oa.line ob.line))))
   where
     at_most_last : (w : ℤ) (z : Vector) (s : Step) (done : List Step) (t : Step) → Place z
         → (sweep w (point s.at) *ℤ z.n) <ℤ sweep w z
-        → ((t : Step) → Has t done → sweep w (point t.at) <ℤ sweep w (point s.at)) → Has t (s ∷ done) → (sweep w (point t.at) *ℤ z.n) <ℤ sweep w z
-    at_most_last w z s done t hz l f (inl q) = subst (λ (u : Step). (sweep w (point u.at) *ℤ z.n) <ℤ sweep w z) (sym q) l
-    at_most_last w z s done t hz l f (inr k) = let x = scaled (sweep w (point t.at)) (sweep w (point s.at)) z.n hz (f t k) in omega (arith, ints, x, l)
+        → ((t : Step) → Has t done → sweep w (point t.at) <ℤ sweep w (point s.at))
+        → Has t (s ∷ done) → (sweep w (point t.at) *ℤ z.n) <ℤ sweep w z
+    at_most_last w z s done t hz l f (inl q) =
+        subst (λ (u : Step). (sweep w (point u.at) *ℤ z.n) <ℤ sweep w z) (sym q) l
+    at_most_last w z s done t hz l f (inr k) =
+        let x = scaled (sweep w (point t.at)) (sweep w (point s.at)) z.n hz (f t k) in
+        omega (arith, ints, x, l)
 
 pub meet_in_ends : (w : ℤ) (m : ℕ) (E : ℕ → Edge) (steps : List Step) (z : Vector) (a b : ℕ)
     → WeighedRun w m E steps → a < m → b < m → (a ≡ b → ⊥)
     → Place z → On w (E a) z → On w (E b) z → CommonEnd (E a) (E b) z
 meet_in_ends w m E steps z a b all la lb differ hz oa ob =
     let (done, todo, same, i) = locate w z [] steps hz all.rising tt in
-    meet_at w m E done todo z a b (subst (λ ss. WeighedRun w m E ss) same all) i la lb differ hz oa ob
+    meet_at w m E done todo z a b (subst (λ ss. WeighedRun w m E ss) same all) i la lb differ hz oa
+    ob
 
 -- ---- two edges have at most one common end
 pub same_sweep : (w : ℤ) (z : Vector) (v : Point) → Same z (point v)
@@ -201,7 +240,9 @@ same_sweep w z v same =
     let a = ring (times (num (pos 1)) (at 0)) (at 0) (vars (z.x ∷ [])) refl in
     let x2 : z.x ≡ v.x *ℤ z.n = omega (arith, ints, x) in
     let c = ap (λ q. w *ℤ q) x2 in
-    let d = ring (times (plus (times (at 0) (at 1)) (at 2)) (at 3)) (plus (times (at 0) (times (at 1) (at 3))) (times (at 2) (at 3))) (vars (w ∷ v.x ∷ v.y ∷ z.n ∷ [])) refl in
+    let d = ring (times (plus (times (at 0) (at 1)) (at 2)) (at 3))
+    (plus (times (at 0) (times (at 1) (at 3))) (times (at 2) (at 3)))
+    (vars (w ∷ v.x ∷ v.y ∷ z.n ∷ [])) refl in
     omega (arith, ints, c, d, y)
 
 -- the middle of an edge
@@ -214,7 +255,11 @@ middle_on w e h =
     let s = sweep-mix w (pos 1) (point e.low) (pos 1) (point e.high) in
     let l = side-mix e (pos 1) (point e.low) (pos 1) (point e.high) in
     let a = side-low e in let b = side-high e in
-    record { line = omega (arith, ints, l, a, b); low = omega (arith, ints, h, r, s); high = omega (arith, ints, h, r, s) }
+    record {
+      line = omega (arith, ints, l, a, b);
+      low = omega (arith, ints, h, r, s);
+      high = omega (arith, ints, h, r, s);
+    }
 
 pub ends_differ : (w : ℤ) (m : ℕ) (E : ℕ → Edge) (steps : List Step) (a b : ℕ)
     → WeighedRun w m E steps → a < m → b < m → (a ≡ b → ⊥) → E a ≡ E b → ⊥
@@ -223,12 +268,15 @@ ends_differ w m E steps a b all la lb differ same =
     let r = rise-is w (E a) in
     let z = middle (E a) in
     let oa = middle_on w (E a) h in
-    let c = meet_in_ends w m E steps z a b all la lb differ (omega (arith, ints)) oa (subst (λ e. On w e z) same oa) in
+    let c = meet_in_ends w m E steps z a b all la lb differ (omega (arith, ints)) oa
+    (subst (λ e. On w e z) same oa) in
     let s = sweep-mix w (pos 1) (point (E a).low) (pos 1) (point (E a).high) in
     let t = same_sweep w z c.at c.is in
     elim c.of_first [
-      | inl q ↦ let u = subst (λ p. sweep w z ≡ sweep w (point p) *ℤ z.n) (sym q) t in omega (arith, ints, h, r, s, u)
-      | inr q ↦ let u = subst (λ p. sweep w z ≡ sweep w (point p) *ℤ z.n) (sym q) t in omega (arith, ints, h, r, s, u)
+      | inl q ↦ let u = subst (λ p. sweep w z ≡ sweep w (point p) *ℤ z.n) (sym q) t in
+          omega (arith, ints, h, r, s, u)
+      | inr q ↦ let u = subst (λ p. sweep w z ≡ sweep w (point p) *ℤ z.n) (sym q) t in
+          omega (arith, ints, h, r, s, u)
     ]
 
 -- ---- no live list repeats an edge
@@ -238,43 +286,54 @@ once_from : (E : ℕ → Edge) (f : ℕ → Vector) (xs : List ℕ)
 once_from E f [] zero order = tt
 once_from E f (x ∷ xs) zero order =
     let z : side (E x) (f x) ≡ pos 0 = zero x (inl refl) in (
-      λ k. let r = raised E (f x) x x xs (order x (inl refl)) k (omega (arith, ints, z)) in omega (arith, ints, r, z),
+      λ k. let r = raised E (f x) x x xs (order x (inl refl)) k (omega (arith, ints, z)) in
+          omega (arith, ints, r, z),
       once_from E f xs (λ y k. zero y (inr k)) (λ y k. (order y (inr k)).1),
     )
 
 most : (w : ℤ) (s : Step) (done : List Step) (u : Step)
     → ((v : Step) → Has v done → sweep w (point v.at) <ℤ sweep w (point s.at)) → Has u (s ∷ done)
     → sweep w (point u.at) ≤ℤ sweep w (point s.at)
-most w s done u f (inl q) = subst (λ (v : Step). sweep w (point v.at) ≤ℤ sweep w (point s.at)) (sym q) (omega (arith, ints))
+most w s done u f (inl q) =
+    subst (λ (v : Step). sweep w (point v.at) ≤ℤ sweep w (point s.at)) (sym q) (omega (arith, ints))
 most w s done u f (inr k) = let l = f u k in omega (arith, ints, l)
 
 least : (w : ℤ) (t : Step) (todo : List Step) (u : Step)
     → ((v : Step) → Has v todo → sweep w (point t.at) <ℤ sweep w (point v.at)) → Has u (t ∷ todo)
     → sweep w (point t.at) ≤ℤ sweep w (point u.at)
-least w t todo u f (inl q) = subst (λ (v : Step). sweep w (point t.at) ≤ℤ sweep w (point v.at)) (sym q) (omega (arith, ints))
+least w t todo u f (inl q) =
+    subst (λ (v : Step). sweep w (point t.at) ≤ℤ sweep w (point v.at)) (sym q) (omega (arith, ints))
 least w t todo u f (inr k) = let l = f u k in omega (arith, ints, l)
 
 -- a foot of an edge is on the sweep line that it was taken for
 foot_after : (w : ℤ) (e : Edge) (z : Vector) (v : Point) → pos 0 <ℤ rise w e
     → (sweep w (point v) *ℤ z.n) <ℤ sweep w z
     → (sweep w (point v) *ℤ (foot w e z).n) <ℤ sweep w (foot w e z)
-foot_after w e z v h l = rw (foot-sweep w e z, foot-n w e z) (weighted (rise w e) (sweep w (point v)) z.n (sweep w z) h l)
+foot_after w e z v h l =
+    rw (foot-sweep w e z, foot-n w e z)
+    (weighted (rise w e) (sweep w (point v)) z.n (sweep w z) h l)
   where
     weighted : (r a n b : ℤ) → pos 0 <ℤ r → (a *ℤ n) <ℤ b → (a *ℤ (r *ℤ n)) <ℤ (r *ℤ b)
     weighted r a n b h l =
         let p = product_positive r (b -ℤ (a *ℤ n)) h (omega (arith, ints, l)) in
-        let e = ring (times (at 0) (minus (at 3) (times (at 1) (at 2)))) (minus (times (at 0) (at 3)) (times (at 1) (times (at 0) (at 2)))) (vars (r ∷ a ∷ n ∷ b ∷ [])) refl in
+        let e = ring (times (at 0) (minus (at 3) (times (at 1) (at 2))))
+        (minus (times (at 0) (at 3)) (times (at 1) (times (at 0) (at 2))))
+        (vars (r ∷ a ∷ n ∷ b ∷ [])) refl in
         omega (arith, ints, p, e)
 
 foot_before : (w : ℤ) (e : Edge) (z : Vector) (v : Point) → pos 0 <ℤ rise w e
     → sweep w z <ℤ (sweep w (point v) *ℤ z.n)
     → sweep w (foot w e z) <ℤ (sweep w (point v) *ℤ (foot w e z).n)
-foot_before w e z v h l = rw (foot-sweep w e z, foot-n w e z) (weighted (rise w e) (sweep w (point v)) z.n (sweep w z) h l)
+foot_before w e z v h l =
+    rw (foot-sweep w e z, foot-n w e z)
+    (weighted (rise w e) (sweep w (point v)) z.n (sweep w z) h l)
   where
     weighted : (r a n b : ℤ) → pos 0 <ℤ r → b <ℤ (a *ℤ n) → (r *ℤ b) <ℤ (a *ℤ (r *ℤ n))
     weighted r a n b h l =
         let p = product_positive r ((a *ℤ n) -ℤ b) h (omega (arith, ints, l)) in
-        let e = ring (times (at 0) (minus (times (at 1) (at 2)) (at 3))) (minus (times (at 1) (times (at 0) (at 2))) (times (at 0) (at 3))) (vars (r ∷ a ∷ n ∷ b ∷ [])) refl in
+        let e = ring (times (at 0) (minus (times (at 1) (at 2)) (at 3)))
+        (minus (times (at 1) (times (at 0) (at 2))) (times (at 0) (at 3)))
+        (vars (r ∷ a ∷ n ∷ b ∷ [])) refl in
         omega (arith, ints, p, e)
 
 pub live_once : (w : ℤ) (m : ℕ) (E : ℕ → Edge) (done todo : List Step)
@@ -295,11 +354,13 @@ live_once w m E (s ∷ done) (t ∷ todo) all =
     once_from E f (after s) (λ x k. foot-side w (E x) z)
     (λ x k. inner_order w m E done (t ∷ todo) s (f x) all
     (record {
-      passed = each_from (λ u. (sweep w (point u.at) *ℤ (f x).n) ≤ℤ sweep w (f x)) (s ∷ done) (λ u l.
+      passed = each_from (λ u. (sweep w (point u.at) *ℤ (f x).n) ≤ℤ sweep w (f x)) (s ∷ done)
+          (λ u l.
           let d = most w s done u (λ v j. g.cut v s j (inl refl)) l in
           let q = foot_after w (E x) z u.at (rises x k) (omega (arith, ints, st, zs, d)) in
           omega (arith, ints, q));
-      coming = each_from (λ u. sweep w (f x) <ℤ (sweep w (point u.at) *ℤ (f x).n)) (t ∷ todo) (λ u l.
+      coming = each_from (λ u. sweep w (f x) <ℤ (sweep w (point u.at) *ℤ (f x).n)) (t ∷ todo)
+          (λ u l.
           let d = least w t todo u (λ v j. i.cut t v (inl refl) j) l in
           foot_before w (E x) z u.at (rises x k) (omega (arith, ints, st, zs, d)));
     })

@@ -22,20 +22,34 @@ steps_rise w [] h = tt
 steps_rise w (s ∷ []) h = (tt, tt)
 steps_rise w (s ∷ (t ∷ steps)) h =
     let rest = steps_rise w (t ∷ steps) h.1 in
-    let l : sweep w (point s.at) <ℤ sweep w (point t.at) = h.0 in
-    ((l, each_map (λ u. sweep w (point t.at) <ℤ sweep w (point u.at)) (λ u. sweep w (point s.at) <ℤ sweep w (point u.at)) steps (λ u (k : sweep w (point t.at) <ℤ sweep w (point u.at)). omega (arith, ints, l, k)) rest.0), rest)
+    let l : sweep w (point s.at) <ℤ sweep w (point t.at) = h.0 in (
+      (
+        l,
+        each_map (λ u. sweep w (point t.at) <ℤ sweep w (point u.at))
+            (λ u. sweep w (point s.at) <ℤ sweep w (point u.at)) steps
+            (λ u (k : sweep w (point t.at) <ℤ sweep w (point u.at)). omega (arith, ints, l, k)) rest.0,
+      ),
+      rest,
+    )
 
 pub swept : (w : ℤ) (pts : List Point) (m : ℕ) (E : ℕ → Edge) (steps : List Step) → Weight w pts
     → Each (λ s. Has s.at pts) steps → Run m E steps → WeighedRun w m E steps
 swept w pts m E steps h known run = record {
   replays = run.replays;
-  rising = steps_rise w steps (neighbours_map (λ s t. Before s.at t.at) (λ s t. sweep w (point s.at) <ℤ sweep w (point t.at)) steps
-      (λ s t ks kt b. h s.at t.at (each_has (λ u. Has u.at pts) steps s known ks) (each_has (λ u. Has u.at pts) steps t known kt) b) run.rises);
+  rising = steps_rise w steps
+      (neighbours_map (λ s t. Before s.at t.at)
+      (λ s t. sweep w (point s.at) <ℤ sweep w (point t.at)) steps
+      (λ s t ks kt b. h s.at t.at (each_has (λ u. Has u.at pts) steps s known ks)
+      (each_has (λ u. Has u.at pts) steps t known kt) b) run.rises);
   ends = run.ends;
   events = run.events;
   rises = λ e l.
-      let in_pts : (p : Point) → AtSome p steps → Has p pts = λ p (s, k, q). subst (λ r. Has r pts) (sym q) (each_has (λ u. Has u.at pts) steps s known k) in
-      let up = h (E e).low (E e).high (in_pts (E e).low (run.ends e l).0) (in_pts (E e).high (run.ends e l).1) (run.edges e l) in
+      let in_pts : (p : Point) → AtSome p steps
+      → Has p pts =
+      λ p (s, k, q). subst (λ r. Has r pts) (sym q)
+      (each_has (λ u. Has u.at pts) steps s known k) in
+      let up = h (E e).low (E e).high (in_pts (E e).low (run.ends e l).0)
+      (in_pts (E e).high (run.ends e l).1) (run.edges e l) in
       let r = rise-is w (E e) in
       omega (arith, ints, up, r);
 }
@@ -59,13 +73,15 @@ onto-append [] todo more = refl
 onto-append (s ∷ done) todo more = onto-append done (s ∷ todo) more
 
 pub cut : (w : ℤ) (done todo : List Step) → Rising w (onto done todo)
-    → Rising w todo × ((s t : Step) → Has s done → Has t todo → sweep w (point s.at) <ℤ sweep w (point t.at))
+    → Rising w todo × ((s t : Step) → Has s done → Has t todo
+    → sweep w (point s.at) <ℤ sweep w (point t.at))
 cut w [] todo h = (h, λ s t k l. absurd k)
 cut w (s ∷ done) todo h =
     let r = cut w done (s ∷ todo) h in (
       r.0.1,
       λ u t k l. elim k [
-        | inl e ↦ subst (λ (v : Step). sweep w (point v.at) <ℤ sweep w (point t.at)) (sym e) (each_has (λ v. sweep w (point s.at) <ℤ sweep w (point v.at)) todo t r.0.0 l)
+        | inl e ↦ subst (λ (v : Step). sweep w (point v.at) <ℤ sweep w (point t.at)) (sym e)
+            (each_has (λ v. sweep w (point s.at) <ℤ sweep w (point v.at)) todo t r.0.0 l)
         | inr i ↦ r.1 u t i (inr l)
       ],
     )
@@ -83,7 +99,8 @@ todo_onto s (t ∷ done) todo k = todo_onto s done (t ∷ todo) (inr k)
 
 pub at_onto : (p : Point) (done todo : List Step) → AtSome p (onto done todo)
     → AtSome p done ⊎ AtSome p todo
-at_onto p done todo (s, k, q) = elim (has_onto s done todo k) [ inl h ↦ inl (s, h, q) | inr h ↦ inr (s, h, q) ]
+at_onto p done todo (s, k, q) =
+    elim (has_onto s done todo k) [ inl h ↦ inl (s, h, q) | inr h ↦ inr (s, h, q) ]
 
 pub moment : (w : ℤ) (m : ℕ) (E : ℕ → Edge) (done todo : List Step)
     → WeighedRun w m E (onto done todo) → Moment w m E done todo
@@ -93,7 +110,10 @@ moment w m E done todo h =
       done_good = r.0;
       todo_good = r.1;
       cut = (cut w done todo h.rising).1;
-      ends = λ e l. (at_onto (E e).low done todo (h.ends e l).0, at_onto (E e).high done todo (h.ends e l).1);
+      ends = λ e l. (
+        at_onto (E e).low done todo (h.ends e l).0,
+        at_onto (E e).high done todo (h.ends e l).1,
+      );
       rises = h.rises;
     }
 
@@ -101,7 +121,8 @@ moment w m E done todo h =
 pub scaled : (a b n : ℤ) → pos 0 <ℤ n → a <ℤ b → (a *ℤ n) <ℤ (b *ℤ n)
 scaled a b n h k =
     let p = product_positive (b -ℤ a) n (omega (arith, ints, k)) h in
-    let e = ring (times (minus (at 1) (at 0)) (at 2)) (minus (times (at 1) (at 2)) (times (at 0) (at 2))) (vars (a ∷ b ∷ n ∷ [])) refl in
+    let e = ring (times (minus (at 1) (at 0)) (at 2))
+    (minus (times (at 1) (at 2)) (times (at 0) (at 2))) (vars (a ∷ b ∷ n ∷ [])) refl in
     omega (arith, ints, p, e)
 
 pub locate : (w : ℤ) (z : Vector) (done todo : List Step) → Place z → Rising w todo
@@ -118,8 +139,11 @@ locate w z done (s ∷ todo) hz h k =
         passed = k;
         coming = (
           l,
-          each_map (λ t. sweep w (point s.at) <ℤ sweep w (point t.at)) (λ t. sweep w z <ℤ (sweep w (point t.at) *ℤ z.n)) todo
-              (λ t (r : sweep w (point s.at) <ℤ sweep w (point t.at)). let x = scaled (sweep w (point s.at)) (sweep w (point t.at)) z.n hz r in omega (arith, ints, x, l)) h.0,
+          each_map (λ t. sweep w (point s.at) <ℤ sweep w (point t.at))
+              (λ t. sweep w z <ℤ (sweep w (point t.at) *ℤ z.n)) todo
+              (λ t (r : sweep w (point s.at) <ℤ sweep w (point t.at)). let x = scaled
+              (sweep w (point s.at)) (sweep w (point t.at)) z.n hz r in
+              omega (arith, ints, x, l)) h.0,
         );
       },
     ))

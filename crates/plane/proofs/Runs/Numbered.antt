@@ -42,14 +42,18 @@ pub index_of : (steps : List Step) (s : Step) → Has s steps
     → (k : ℕ) × (k < length steps) × (nth steps k ≡ s)
 index_of [] s h = absurd h
 index_of (t ∷ steps) s (inl e) = (0, omega arith, sym e)
-index_of (t ∷ steps) s (inr h) = let i = index_of steps s h in let l = i.1 in (suc i.0, omega (arith, l), i.2)
+index_of (t ∷ steps) s (inr h) =
+    let i = index_of steps s h in let l = i.1 in (suc i.0, omega (arith, l), i.2)
 
 rising_at : (w : ℤ) (steps : List Step) (j k : ℕ) → Rising w steps → j < k → k < length steps
     → sweep w (point (nth steps j).at) <ℤ sweep w (point (nth steps k).at)
 rising_at w [] j k r a b = absurd (omega arith)
 rising_at w (s ∷ steps) j zero r a b = absurd (omega arith)
-rising_at w (s ∷ steps) zero (suc k) r a b = each_has (λ t. sweep w (point s.at) <ℤ sweep w (point t.at)) steps (nth steps k) r.0 (has_nth steps k (omega arith))
-rising_at w (s ∷ steps) (suc j) (suc k) r a b = rising_at w steps j k r.1 (omega arith) (omega arith)
+rising_at w (s ∷ steps) zero (suc k) r a b =
+    each_has (λ t. sweep w (point s.at) <ℤ sweep w (point t.at)) steps (nth steps k) r.0
+    (has_nth steps k (omega arith))
+rising_at w (s ∷ steps) (suc j) (suc k) r a b =
+    rising_at w steps j k r.1 (omega arith) (omega arith)
 
 -- the event of a point
 event_of : (steps : List Step) (p : Point) → AtSome p steps
@@ -93,9 +97,11 @@ one_more all k done s todo c =
       whole = c.whole;
       size = omega (arith, size);
       now = ap after here ∙ sym (list_next [] all k (omega (arith, size)));
-      rest = λ (j : ℕ) (l : j < length todo). c.rest (suc j) (omega arith) ∙ ap (nth all) (omega arith);
+      rest = λ (j : ℕ) (l : j < length todo). c.rest (suc j) (omega arith)
+          ∙ ap (nth all) (omega arith);
       early = λ t n. earlier t n here;
-      passed = λ (j : ℕ) (l : j < suc k). by_last j k l (λ (a : j < k). inr (c.passed j a)) (λ (e : j ≡ k). inl (ap (nth all) e ∙ sym here));
+      passed = λ (j : ℕ) (l : j < suc k). by_last j k l (λ (a : j < k). inr (c.passed j a))
+          (λ (e : j ≡ k). inl (ap (nth all) e ∙ sym here));
     }
   where
     earlier : (t : Step) → Has t (s ∷ done) → s ≡ nth all k

@@ -30,19 +30,27 @@ first_all P (x ∷ xs) f = f x
 pub all_over : (E : ℕ → Edge) (z : Vector) (xs ys : List ℕ) → Each (λ e. pos 0 <ℤ side (E e) z) xs
     → Neighbours (Over E z) ys → Neighbours (Over E z) (xs ++ ys)
 all_over E z [] ys h k = k
-all_over E z (x ∷ xs) ys h k = (first_all (Over E z x) (xs ++ ys) (λ y l. h.0), all_over E z xs ys h.1 k)
+all_over E z (x ∷ xs) ys h k =
+    (first_all (Over E z x) (xs ++ ys) (λ y l. h.0), all_over E z xs ys h.1 k)
 
 all_under : (E : ℕ → Edge) (z : Vector) (xs : List ℕ) → Each (λ e. side (E e) z <ℤ pos 0) xs
     → Neighbours (Over E z) xs
 all_under E z [] h = tt
-all_under E z (x ∷ xs) h =
-    (first_from (Over E z x) xs (each_map (λ e. side (E e) z <ℤ pos 0) (Over E z x) xs (λ e (k : side (E e) z <ℤ pos 0) l. absurd (omega (arith, ints, k, l))) h.1), all_under E z xs h.1)
+all_under E z (x ∷ xs) h = (
+  first_from (Over E z x) xs
+      (each_map (λ e. side (E e) z <ℤ pos 0) (Over E z x) xs
+      (λ e (k : side (E e) z <ℤ pos 0) l. absurd (omega (arith, ints, k, l))) h.1),
+  all_under E z xs h.1,
+)
 
 pub then_under : (E : ℕ → Edge) (z : Vector) (xs ys : List ℕ) → Neighbours (Over E z) xs
     → Each (λ e. side (E e) z <ℤ pos 0) ys → Neighbours (Over E z) (xs ++ ys)
 then_under E z [] ys h k = all_under E z ys k
 then_under E z (x ∷ xs) ys h k = (
-  first_append (Over E z x) xs ys h.0 (first_from (Over E z x) ys (each_map (λ e. side (E e) z <ℤ pos 0) (Over E z x) ys (λ e (l : side (E e) z <ℤ pos 0) i. absurd (omega (arith, ints, l, i))) k)),
+  first_append (Over E z x) xs ys h.0
+      (first_from (Over E z x) ys
+      (each_map (λ e. side (E e) z <ℤ pos 0) (Over E z x) ys
+      (λ e (l : side (E e) z <ℤ pos 0) i. absurd (omega (arith, ints, l, i))) k)),
   then_under E z xs ys h.1 k,
 )
 
@@ -51,7 +59,8 @@ pub raised : (E : ℕ → Edge) (z : Vector) (x b : ℕ) (xs : List ℕ) → Nei
     → Has b xs → pos 0 ≤ℤ side (E b) z → pos 0 <ℤ side (E x) z
 raised E z x b [] h k l = absurd k
 raised E z x b (y ∷ ys) h (inl e) l = h.0 (subst (λ c. pos 0 ≤ℤ side (E c) z) e l)
-raised E z x b (y ∷ ys) h (inr k) l = let r = raised E z y b ys h.1 k l in h.0 (omega (arith, ints, r))
+raised E z x b (y ∷ ys) h (inr k) l =
+    let r = raised E z y b ys h.1 k l in h.0 (omega (arith, ints, r))
 
 -- at most one edge of a list in order goes through z
 pub one_through : (E : ℕ → Edge) (z : Vector) (a b : ℕ) (xs : List ℕ) → Neighbours (Over E z) xs
@@ -59,9 +68,13 @@ pub one_through : (E : ℕ → Edge) (z : Vector) (a b : ℕ) (xs : List ℕ) �
 one_through E z a b [] h ka kb za zb = absurd ka
 one_through E z a b (x ∷ xs) h (inl ea) (inl eb) za zb = ea ∙ sym eb
 one_through E z a b (x ∷ xs) h (inl ea) (inr kb) za zb =
-    let r = subst (λ c. pos 0 <ℤ side (E c) z) (sym ea) (raised E z x b xs h kb (omega (arith, ints, zb))) in absurd (omega (arith, ints, r, za))
+    let r = subst (λ c. pos 0 <ℤ side (E c) z) (sym ea)
+    (raised E z x b xs h kb (omega (arith, ints, zb))) in
+    absurd (omega (arith, ints, r, za))
 one_through E z a b (x ∷ xs) h (inr ka) (inl eb) za zb =
-    let r = subst (λ c. pos 0 <ℤ side (E c) z) (sym eb) (raised E z x a xs h ka (omega (arith, ints, za))) in absurd (omega (arith, ints, r, zb))
+    let r = subst (λ c. pos 0 <ℤ side (E c) z) (sym eb)
+    (raised E z x a xs h ka (omega (arith, ints, za))) in
+    absurd (omega (arith, ints, r, zb))
 one_through E z a b (x ∷ xs) h (inr ka) (inr kb) za zb = one_through E z a b xs h.1 ka kb za zb
 
 -- a list in order, none of whose edges goes through z, is divided by z
@@ -77,10 +90,18 @@ divides E z (x ∷ xs) h off =
       is = refl;
       under = tt;
       over = up_from_first (λ e. side (E e) z <ℤ pos 0) (x ∷ xs)
-          (neighbours_map (Over E z) (λ a b. side (E a) z <ℤ pos 0 → side (E b) z <ℤ pos 0) (x ∷ xs) (λ a b ka kb f (i : side (E a) z <ℤ pos 0). under_higher E z a b f (omega (arith, ints, i))) h) l;
+          (neighbours_map (Over E z) (λ a b. side (E a) z <ℤ pos 0 → side (E b) z <ℤ pos 0) (x ∷ xs)
+          (λ a b ka kb f (i : side (E a) z <ℤ pos 0). under_higher E z a b f
+          (omega (arith, ints, i))) h) l;
     })
     (λ l. absurd (off x (inl refl) l))
-    (λ (l : pos 0 <ℤ side (E x) z). record { lower = x ∷ r.lower; upper = r.upper; is = ap (λ ys. x ∷ ys) r.is; under = (l, r.under); over = r.over })
+    (λ (l : pos 0 <ℤ side (E x) z). record {
+      lower = x ∷ r.lower;
+      upper = r.upper;
+      is = ap (λ ys. x ∷ ys) r.is;
+      under = (l, r.under);
+      over = r.over;
+    })
 
 -- ---- a place off the edges divides the live list
 pub live_span : (w : ℤ) (m : ℕ) (E : ℕ → Edge) (done todo : List Step) (z : Vector) (e : ℕ)
@@ -88,9 +109,11 @@ pub live_span : (w : ℤ) (m : ℕ) (E : ℕ → Edge) (done todo : List Step) (
 live_span w m E done todo z e h i k =
     let (s, ks, qs) = (live_started m E done e h.done_good k).1 in
     let (t, kt, qt) = live_ends m E (live done) todo e h.todo_good k in
-    let late = subst (λ p. sweep w z <ℤ (sweep w (point p) *ℤ z.n)) (sym qt) (each_has (λ u. sweep w z <ℤ (sweep w (point u.at) *ℤ z.n)) todo t i.coming kt) in
+    let late = subst (λ p. sweep w z <ℤ (sweep w (point p) *ℤ z.n)) (sym qt)
+    (each_has (λ u. sweep w z <ℤ (sweep w (point u.at) *ℤ z.n)) todo t i.coming kt) in
     record {
-      low = subst (λ p. (sweep w (point p) *ℤ z.n) ≤ℤ sweep w z) (sym qs) (each_has (λ u. (sweep w (point u.at) *ℤ z.n) ≤ℤ sweep w z) done s i.passed ks);
+      low = subst (λ p. (sweep w (point p) *ℤ z.n) ≤ℤ sweep w z) (sym qs)
+          (each_has (λ u. (sweep w (point u.at) *ℤ z.n) ≤ℤ sweep w z) done s i.passed ks);
       high = omega (arith, ints, late);
     }
 
@@ -101,10 +124,12 @@ pub inner_order : (w : ℤ) (m : ℕ) (E : ℕ → Edge) (done todo : List Step)
 inner_order w m E done todo s z all i hz l =
     let h = moment w m E (s ∷ done) todo all in
     let g = moment w m E done (s ∷ todo) all in
-    over_order w E (s ∷ done) todo z (after s) hz (live_rises w m E (s ∷ done) todo h) (begins m E (s ∷ done) h.done_good) (ends m E (after s) todo h.todo_good) (
+    over_order w E (s ∷ done) todo z (after s) hz (live_rises w m E (s ∷ done) todo h)
+    (begins m E (s ∷ done) h.done_good) (ends m E (after s) todo h.todo_good) (
       l,
       each_from (λ t. (sweep w (point t.at) *ℤ z.n) <ℤ sweep w z) done
-          (λ t k. let x = scaled (sweep w (point t.at)) (sweep w (point s.at)) z.n hz (g.cut t s k (inl refl)) in omega (arith, ints, x, l)),
+          (λ t k. let x = scaled (sweep w (point t.at)) (sweep w (point s.at)) z.n hz
+          (g.cut t s k (inl refl)) in omega (arith, ints, x, l)),
     )
     i.coming
 
@@ -114,11 +139,15 @@ pub end_on : (w : ℤ) (e : Edge) (z : Vector) (v : Point) → pos 0 <ℤ rise w
     → side e (point v) ≡ pos 0 → On w e z
 end_on w e z v hr hz h level end zero =
     let r = rise-is w e in
-    let up = scaled (sweep w (point e.low)) (sweep w (point e.high)) z.n hz (omega (arith, ints, r, hr)) in
-    let line : side e z ≡ pos 0 = level_side w e z v h level ∙ ap (λ s. z.n *ℤ s) zero ∙ product_comm z.n (pos 0) ∙ zero-product z.n in
+    let up = scaled (sweep w (point e.low)) (sweep w (point e.high)) z.n hz
+    (omega (arith, ints, r, hr)) in
+    let line : side e z ≡ pos 0 = level_side w e z v h level ∙ ap (λ s. z.n *ℤ s) zero
+    ∙ product_comm z.n (pos 0) ∙ zero-product z.n in
     elim end [
-      | inl q ↦ let k = subst (λ p. sweep w z ≡ sweep w (point p) *ℤ z.n) (sym q) h in record { line = line; low = omega (arith, ints, k); high = omega (arith, ints, k, up) }
-      | inr q ↦ let k = subst (λ p. sweep w z ≡ sweep w (point p) *ℤ z.n) (sym q) h in record { line = line; low = omega (arith, ints, k, up); high = omega (arith, ints, k) }
+      | inl q ↦ let k = subst (λ p. sweep w z ≡ sweep w (point p) *ℤ z.n) (sym q) h in
+          record { line = line; low = omega (arith, ints, k); high = omega (arith, ints, k, up) }
+      | inr q ↦ let k = subst (λ p. sweep w z ≡ sweep w (point p) *ℤ z.n) (sym q) h in
+          record { line = line; low = omega (arith, ints, k, up); high = omega (arith, ints, k) }
     ]
 
 pub end_side : (E : ℕ → Edge) (e : ℕ) (v : Point) → IsEnd (E e) v → side (E e) (point v) ≡ pos 0
@@ -140,19 +169,29 @@ place_order w m E (s ∷ done) todo z all i hz off =
     let o = untouched_order w m E done todo s z all hz e in
     let sides = event_sides w m E done todo s all in
     let rs = untouched_rises w m E done todo s h in
-    let zero : (x : ℕ) → Has x s.starting → side (E x) (point s.at) ≡ pos 0 = λ x k. side_through_low E x s.at (g.starting_only x k).1 in
-    let up : (x : ℕ) → Has x s.starting → pos 0 <ℤ rise w (E x) = λ x k. h.rises x (g.starting_only x k).0 in
+    let zero : (x : ℕ) → Has x s.starting
+    → side (E x) (point s.at) ≡ pos 0 =
+    λ x k. side_through_low E x s.at (g.starting_only x k).1 in
+    let up : (x : ℕ) → Has x s.starting
+    → pos 0 <ℤ rise w (E x) = λ x k. h.rises x (g.starting_only x k).0 in
     by_sign (lift z (point s.at))
-    (λ (d : lift z (point s.at) <ℤ pos 0). then_under E z s.below (s.starting ++ s.above) o.0 (each_append (λ x. side (E x) z <ℤ pos 0) s.starting s.above
-    (each_from (λ x. side (E x) z <ℤ pos 0) s.starting (λ x k. let q = zero x k in lower_side w (E x) z s.at e hz (up x k) d (omega (arith, ints, q))))
-    (each_from (λ x. side (E x) z <ℤ pos 0) s.above (λ x k. let q = each_has (λ y. side (E y) (point s.at) <ℤ pos 0) s.above x sides.1 k in lower_side w (E x) z s.at e hz (rs.1 x k) d (omega (arith, ints, q))))))
+    (λ (d : lift z (point s.at) <ℤ pos 0). then_under E z s.below (s.starting ++ s.above) o.0
+    (each_append (λ x. side (E x) z <ℤ pos 0) s.starting s.above
+    (each_from (λ x. side (E x) z <ℤ pos 0) s.starting (λ x k. let q = zero x k in
+    lower_side w (E x) z s.at e hz (up x k) d (omega (arith, ints, q))))
+    (each_from (λ x. side (E x) z <ℤ pos 0) s.above
+    (λ x k. let q = each_has (λ y. side (E y) (point s.at) <ℤ pos 0) s.above x sides.1 k in
+    lower_side w (E x) z s.at e hz (rs.1 x k) d (omega (arith, ints, q))))))
     (λ (d : lift z (point s.at) ≡ pos 0).
     let (x, k, end) = all.events s (todo_onto s done (s ∷ todo) (inl refl)) in
     absurd (off x k (end_on w (E x) z s.at (h.rises x k) hz e d end (end_side E x s.at end))))
     (λ (d : pos 0 <ℤ lift z (point s.at)). all_over E z s.below (s.starting ++ s.above)
-    (each_from (λ x. pos 0 <ℤ side (E x) z) s.below (λ x k. let q = each_has (λ y. pos 0 <ℤ side (E y) (point s.at)) s.below x sides.0 k in higher_side w (E x) z s.at e hz (rs.0 x k) d (omega (arith, ints, q))))
+    (each_from (λ x. pos 0 <ℤ side (E x) z) s.below
+    (λ x k. let q = each_has (λ y. pos 0 <ℤ side (E y) (point s.at)) s.below x sides.0 k in
+    higher_side w (E x) z s.at e hz (rs.0 x k) d (omega (arith, ints, q))))
     (all_over E z s.starting s.above
-    (each_from (λ x. pos 0 <ℤ side (E x) z) s.starting (λ x k. let q = zero x k in higher_side w (E x) z s.at e hz (up x k) d (omega (arith, ints, q))))
+    (each_from (λ x. pos 0 <ℤ side (E x) z) s.starting (λ x k. let q = zero x k in
+    higher_side w (E x) z s.at e hz (up x k) d (omega (arith, ints, q))))
     o.1)))
 
 pub place_divides : (w : ℤ) (m : ℕ) (E : ℕ → Edge) (done todo : List Step) (z : Vector)
@@ -161,4 +200,9 @@ pub place_divides : (w : ℤ) (m : ℕ) (E : ℕ → Edge) (done todo : List Ste
 place_divides w m E done todo z all i hz off =
     let h = moment w m E done todo all in
     divides E z (live done) (place_order w m E done todo z all i hz off)
-    (λ e k zero. let span = live_span w m E done todo z e h i k in off e (live_started m E done e h.done_good k).0 (record { line = zero; low = span.low; high = span.high }))
+    (λ e k zero. let span = live_span w m E done todo z e h i k in
+    off e (live_started m E done e h.done_good k).0 (record {
+      line = zero;
+      low = span.low;
+      high = span.high;
+    }))

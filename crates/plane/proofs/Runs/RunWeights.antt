@@ -31,7 +31,11 @@ events_of (s ∷ steps) = s.at ∷ events_of steps
 pub events_each : (steps : List Step) (more : List Point)
     → Each (λ s. Has s.at (events_of steps ++ more)) steps
 events_each [] more = tt
-events_each (s ∷ steps) more = (inl refl, each_map (λ t. Has t.at (events_of steps ++ more)) (λ t. Has t.at (events_of (s ∷ steps) ++ more)) steps (λ t h. inr h) (events_each steps more))
+events_each (s ∷ steps) more = (
+  inl refl,
+  each_map (λ t. Has t.at (events_of steps ++ more))
+      (λ t. Has t.at (events_of (s ∷ steps) ++ more)) steps (λ t h. inr h) (events_each steps more),
+)
 
 -- a weight of a run and of further points
 pub record RunWeight (m : ℕ) (E : ℕ → Edge) (steps : List Step) (more : List Point) : Type 0 where
@@ -58,7 +62,8 @@ run_weight m E steps more run =
       swept = swept w.0 pts m E steps w.2 (events_each steps more) run;
     }
 
-pub event_known : (m : ℕ) (E : ℕ → Edge) (steps : List Step) (more : List Point) (u : RunWeight m E steps more) (j : ℕ)
+pub event_known : (m : ℕ) (E : ℕ → Edge) (steps : List Step) (more : List Point)
+    (u : RunWeight m E steps more) (j : ℕ)
     → j < (replay u.weight m E steps).steps → Has ((replay u.weight m E steps).step j).at u.points
 event_known m E steps more u j l =
     let r = replay u.weight m E steps in

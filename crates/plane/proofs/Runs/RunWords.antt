@@ -31,7 +31,8 @@ pub record IsRun (r : Replay) : Type 0 where
       → (r.edge e).low ≡ (r.step k).at
   -- each event is an end of an edge
   pub met : (k : ℕ) → k < r.steps
-      → (e : ℕ) × (e < r.edges) × (((r.edge e).low ≡ (r.step k).at) ⊎ ((r.edge e).high ≡ (r.step k).at))
+      → (e : ℕ) × (e < r.edges)
+      × (((r.edge e).low ≡ (r.step k).at) ⊎ ((r.edge e).high ≡ (r.step k).at))
   -- each edge's ends are events
   pub begins : (e : ℕ) → e < r.edges → (j : ℕ) × (j < r.steps) × ((r.step j).at ≡ (r.edge e).low)
   pub ends : (e : ℕ) → e < r.edges → (j : ℕ) × (j < r.steps) × ((r.step j).at ≡ (r.edge e).high)

@@ -1,4 +1,5 @@
--- The edges of a drawing and its tubes, in the words of `EdgesAndTubes`: the ends of a half arc, and which half-edges are a tube's.
+-- The edges of a drawing and its tubes, in the words of `EdgesAndTubes`: the ends of a half arc,
+-- and which half-edges are a tube's.
 use Rattle.std.proofs.Common.{◌≡◌, ℕ, ◌<◌, ◌⊎◌, inl, inr, List, [], ◌∷◌, length, ap, sym, ◌∙◌}
 use Rattle.std.proofs.Common.{subst}
 use Rattle.plane.specs.declared.kinds.Point.{Point}
@@ -65,8 +66,10 @@ not_under g b e h = subst IsUnder e h
 
 pub decide_half : (g h : Half) → Decided (g ≡ h)
 unfolding IsUnder
-decide_half (under a) (under b) = elim (decide_number a b) [ inl e ↦ inl (ap under e) | inr n ↦ inr (λ e. n (ap edge_of e)) ]
-decide_half (over a) (over b) = elim (decide_number a b) [ inl e ↦ inl (ap over e) | inr n ↦ inr (λ e. n (ap edge_of e)) ]
+decide_half (under a) (under b) =
+    elim (decide_number a b) [ inl e ↦ inl (ap under e) | inr n ↦ inr (λ e. n (ap edge_of e)) ]
+decide_half (over a) (over b) =
+    elim (decide_number a b) [ inl e ↦ inl (ap over e) | inr n ↦ inr (λ e. n (ap edge_of e)) ]
 decide_half (under a) (over b) = inr (λ e. not_under (under a) b e tt)
 decide_half (over a) (under b) = inr (λ e. not_under (under b) a (sym e) tt)
 
@@ -80,14 +83,22 @@ of_tube d l is i h e f o =
 -- ---- a place between the ends of a half arc is on each straight with the same ends
 pub moved : (a b p q : Point) (z : Vector) → a ≡ p → b ≡ q → Between z (point a) (point b)
     → Between z (point p) (point q)
-moved a b p q z e f k = subst (λ (y : Point). Between z (point p) (point y)) f (subst (λ (x : Point). Between z (point x) (point b)) e k)
+moved a b p q z e f k =
+    subst (λ (y : Point). Between z (point p) (point y)) f
+    (subst (λ (x : Point). Between z (point x) (point b)) e k)
 
 pub between_arc : (c : Curve) (h : HalfArc) (z : Vector) → OneArc h (arc c)
     → Between z (point c.from) (point c.to) → Between z (point h.from) (point h.to)
-between_arc c h z (inl e) k = moved c.from c.to h.from h.to z (sym (ap (λ (x : HalfArc). x.from) e)) (sym (ap (λ (x : HalfArc). x.to) e)) k
-between_arc c h z (inr e) k = moved c.to c.from h.from h.to z (sym (ap (λ (x : HalfArc). x.from) e)) (sym (ap (λ (x : HalfArc). x.to) e)) (between_back z (point c.from) (point c.to) k)
+between_arc c h z (inl e) k =
+    moved c.from c.to h.from h.to z (sym (ap (λ (x : HalfArc). x.from) e))
+    (sym (ap (λ (x : HalfArc). x.to) e)) k
+between_arc c h z (inr e) k =
+    moved c.to c.from h.from h.to z (sym (ap (λ (x : HalfArc). x.from) e))
+    (sym (ap (λ (x : HalfArc). x.to) e)) (between_back z (point c.from) (point c.to) k)
 
 pub same_ends : (c d : Curve) (z : Vector) → HaveSameEnds c d
     → Between z (point d.from) (point d.to) → Between z (point c.from) (point c.to)
 same_ends c d z (inl h) k = moved d.from d.to c.from c.to z (sym h.0) (sym h.1) k
-same_ends c d z (inr h) k = between_back z (point c.to) (point c.from) (moved d.from d.to c.to c.from z (sym h.1) (sym h.0) k)
+same_ends c d z (inr h) k =
+    between_back z (point c.to) (point c.from)
+    (moved d.from d.to c.to c.from z (sym h.1) (sym h.0) k)

@@ -1,4 +1,5 @@
--- When the edges of a drawing with half arcs settle it: they meet in their ends alone, and nothing enters a tube.
+-- When the edges of a drawing with half arcs settle it: they meet in their ends alone, and nothing
+-- enters a tube.
 use Rattle.std.specs.Prelude.{◌≡◌, ◌⊎◌, ℕ, ◌<◌, List, [], ◌∷◌, pos, ◌<ℤ◌}
 use Rattle.plane.specs.declared.kinds.Point.{Point}
 use Rattle.plane.specs.Lists.{Has}
@@ -25,12 +26,14 @@ pub record IsSettled (d : Plan) (l : EdgeList) : Type 0 where
   pub own : (i : ℕ) → IsHalfArc d i → (h : Half) → Has h (l.tube i).halves → (p : Point)
       → IsEnd (l.edge (edge_of h)) p
       → IsEndOf (curve d i) p ⊎ ((e : ℕ) → e < l.edges → IsEnd (l.edge e) p → l.owner e ≡ i)
-  -- Where a straight joins the ends of a half arc, the inner corners of the tube but the half arc's ends stand strictly over the chord.
+  -- Where a straight joins the ends of a half arc, the inner corners of the tube but the half arc's
+  -- ends stand strictly over the chord.
   pub chord : (i j : ℕ) → IsStraight d i → IsHalfArc d j → HaveSameEnds (curve d i) (curve d j)
       → (b : Bay) → Has b ((l.tube j).bay ∷ (l.tube j).bays)
       → IsEndOf (curve d j) b.inner ⊎ (pos 0 <ℤ bow (arc (curve d j)) (point b.inner))
 
--- Of the half-edges that face a tube, in the order of its bounds: those of the inner chain, and those of the outer chain.
+-- Of the half-edges that face a tube, in the order of its bounds: those of the inner chain, and
+-- those of the outer chain.
 abbrev pub inner_halves : List Half → List Half
 inner_halves [] = []
 inner_halves (g ∷ []) = []
@@ -41,8 +44,10 @@ outer_halves [] = []
 outer_halves (g ∷ []) = g ∷ []
 outer_halves (g ∷ (h ∷ rest)) = h ∷ outer_halves rest
 
--- What face numbers say of the tube of half arc i: the half-edges that face it from within have one number, which no others have and
--- which is not that of the outer face; on their other side those of the inner chain have one number, and those of the outer chain too.
+-- What face numbers say of the tube of half arc i: the half-edges that face it from within have one
+-- number, which no others have and
+-- which is not that of the outer face; on their other side those of the inner chain have one
+-- number, and those of the outer chain too.
 pub record AreTubeFaces (l : EdgeList) (face : Half → ℕ) (i : ℕ) : Type 0 where
   pub one : (g f : Half) → Has g (l.tube i).halves → Has f (l.tube i).halves → face g ≡ face f
   pub own : (g f : Half) → Has g (l.tube i).halves → edge_of f < l.edges → face g ≡ face f

@@ -1,4 +1,5 @@
--- A certificate's labels settle a run: an end of an edge in a tube is a corner of it, and an inner corner that were not over the chord
+-- A certificate's labels settle a run: an end of an edge in a tube is a corner of it, and an inner
+-- corner that were not over the chord
 -- would put a place of a straight with the same ends into the tube.
 use Rattle.std.proofs.Common.{◌≡◌, ℕ, ◌<◌, List, [], ◌∷◌, length, ℤ, pos, ◌<ℤ◌, ◌≤ℤ◌, ◌⊎◌, inl, inr}
 use Rattle.std.proofs.Common.{sym, ◌∙◌, subst}
@@ -47,8 +48,10 @@ in_bays : (a : Point) (bs : List Bay) (z : Vector) → InSomeTile (tiles a bs) z
 in_bays a [] z h = absurd h.1
 in_bays a (b ∷ bs) z h = tiles_in_tube a b bs z h
 
-module _ (d : Plan) (bays : ℕ → List Bay) (m : ℕ) (E : ℕ → Edge) (steps : List Step) (is : IsTubedRun d bays m E steps) (wide : AreWide d bays)
-    (w : ℤ) (swept : WeighedRun w m E steps) (lab : Labels) (within : ℕ → Half) (inside outside : ℕ → ℕ) (L : AreTubeLabels d bays (replay w m E steps) lab within inside outside) where
+module _ (d : Plan) (bays : ℕ → List Bay) (m : ℕ) (E : ℕ → Edge) (steps : List Step)
+    (is : IsTubedRun d bays m E steps) (wide : AreWide d bays)
+    (w : ℤ) (swept : WeighedRun w m E steps) (lab : Labels) (within : ℕ → Half) (inside outside : ℕ
+    → ℕ) (L : AreTubeLabels d bays (replay w m E steps) lab within inside outside) where
   abbrev r : Replay
   r = replay w m E steps
 
@@ -69,39 +72,56 @@ module _ (d : Plan) (bays : ℕ → List Bay) (m : ℕ) (E : ℕ → Edge) (step
       let c = tube_of w d bays m E steps lab within inside outside swept is L i there bent in
       let j = end_event r whole e p k x in
       let q = sym j.2 in
-      let in_c = (tube_places w d bays m E steps lab within inside outside swept is L c.0 c.1 (point (r.step j.0).at)).1
+      let in_c = (tube_places w d bays m E steps lab within inside outside swept is L c.0 c.1
+      (point (r.step j.0).at)).1
       (subst (λ (y : ℕ). one.InTube (curve d y).from (bays y) (point (r.step j.0).at)) (sym c.2)
-      (in_bays (curve d i).from (bays i) (point (r.step j.0).at) (t, n, subst (λ (y : Point). InTile t (point y)) q within_t))) in
-      let g = event_corner r whole lab L.matched (T.label c.0) (T.first c.0) (T.bay c.0) (T.bays c.0) (T.halves c.0) (all.tube c.0 c.1) j.0 j.1 in_c in
+      (in_bays (curve d i).from (bays i) (point (r.step j.0).at)
+      (t, n, subst (λ (y : Point). InTile t (point y)) q within_t))) in
+      let g = event_corner r whole lab L.matched (T.label c.0) (T.first c.0) (T.bay c.0)
+      (T.bays c.0) (T.halves c.0) (all.tube c.0 c.1) j.0 j.1 in_c in
       let fits = (all.tube c.0 c.1).faced.fits g.0 g.1 in
-      let own = tube_owner w d bays m E steps lab within inside outside swept is L c.0 c.1 g.0 g.1 ∙ c.2 in
-      let f = facing d bays m E steps (half_within d bays E) is (faces d bays m E steps is) i there bent (edge_of g.0) fits own in
+      let own = tube_owner w d bays m E steps lab within inside outside swept is L c.0 c.1 g.0 g.1
+      ∙ c.2 in
+      let f = facing d bays m E steps (half_within d bays E) is
+      (faces d bays m E steps is) i there bent (edge_of g.0) fits own in
       let at_p = subst (IsEnd (E (edge_of g.0))) j.2 g.2 in
-      tile_corner (arc (curve d i)) (curve d i).from (bays i) t p (is.tube i there bent).are_bays n within_t
+      tile_corner (arc (curve d i)) (curve d i).from (bays i) t p
+      (is.tube i there bent).are_bays n within_t
       (corner_arrow d bays m E steps is wide i h p
-      (half_corner d bays m E steps is wide i h p (half_within d bays E (edge_of g.0)) f.0 (subst (λ (y : ℕ). IsEnd (E y) p) (sym f.1) at_p)))
+      (half_corner d bays m E steps is wide i h p (half_within d bays E (edge_of g.0)) f.0
+      (subst (λ (y : ℕ). IsEnd (E y) p) (sym f.1) at_p)))
 
   chord : (i j : ℕ) → i < length d.curves → j < length d.curves → (curve d i).kind ≡ kind.Straight
       → (curve d j).kind ≡ kind.HalfArc → HaveSameEnds (curve d i) (curve d j) → (b : Bay)
       → Has b (bays j)
       → IsEndOf (curve d j) b.inner ⊎ (pos 0 <ℤ bow (arc (curve d j)) (point b.inner))
   chord i j li lj ki kj same b has =
-      elim (each_has (λ b. (power (arc (curve d j)) (point b.inner) <ℤ pos 0) ⊎ (b.inner ≡ (curve d j).to)) (bays j) b (is.tube j lj kj).inside has) [
+      elim (each_has (λ b. (power (arc (curve d j)) (point b.inner) <ℤ pos 0)
+      ⊎ (b.inner ≡ (curve d j).to)) (bays j) b (is.tube j lj kj).inside has) [
         | inr e ↦ inl (inr (sym e))
-        | inl under ↦ by_lt_z (pos 0) (bow (arc (curve d j)) (point b.inner)) (λ k. inr k) (λ (k : bow (arc (curve d j)) (point b.inner) ≤ℤ pos 0). absurd (low under k))
+        | inl under ↦ by_lt_z (pos 0) (bow (arc (curve d j)) (point b.inner)) (λ k. inr k)
+            (λ (k : bow (arc (curve d j)) (point b.inner) ≤ℤ pos 0). absurd (low under k))
       ]
     where
       low : power (arc (curve d j)) (point b.inner) <ℤ pos 0
           → bow (arc (curve d j)) (point b.inner) ≤ℤ pos 0 → ⊥
       low under k =
-          let (z, p) = low_corner_place (arc (curve d j)) (bays j) b (is.tube j lj kj) has under k in
+          let (z, p) = low_corner_place (arc (curve d j)) (bays j) b
+          (is.tube j lj kj) has under k in
           let x = straight_edge d bays m E steps is i li ki in
           let c = tube_of w d bays m E steps lab within inside outside swept is L j lj kj in
-          let on = between_straight (point (curve d i).from) (point (curve d i).to) z (place_point (curve d i).from) (place_point (curve d i).to) p.place (same_ends (curve d i) (curve d j) z same p.between) in
-          let on_x = on_edge w (E x.0) (curve d i) z x.3 ki (swept.rises x.0 x.1) p.place (subst (λ (y : CurveKind). IsOnKind y (curve d i) z) (sym ki) on) in
-          let in_c = (tube_places w d bays m E steps lab within inside outside swept is L c.0 c.1 z).1 (subst (λ (y : ℕ). one.InTube (curve d y).from (bays y) z) (sym c.2) p.there) in
-          let differ : i ≡ j → ⊥ = λ q. no_kind (curve d i).kind ki (subst (λ (y : ℕ). (curve d y).kind ≡ kind.HalfArc) (sym q) kj) in
-          let k = straight_arc w d bays m E steps lab within inside outside swept is L i j li lj differ ki kj x.0 c.0 x.1 x.2 x.3 c.1 c.2 z p.place on_x in_c in
+          let on = between_straight (point (curve d i).from) (point (curve d i).to) z
+          (place_point (curve d i).from) (place_point (curve d i).to) p.place
+          (same_ends (curve d i) (curve d j) z same p.between) in
+          let on_x = on_edge w (E x.0) (curve d i) z x.3 ki (swept.rises x.0 x.1) p.place
+          (subst (λ (y : CurveKind). IsOnKind y (curve d i) z) (sym ki) on) in
+          let in_c = (tube_places w d bays m E steps lab within inside outside swept is L c.0 c.1
+          z).1 (subst (λ (y : ℕ). one.InTube (curve d y).from (bays y) z) (sym c.2) p.there) in
+          let differ : i ≡ j
+          → ⊥ = λ q. no_kind (curve d i).kind ki
+          (subst (λ (y : ℕ). (curve d y).kind ≡ kind.HalfArc) (sym q) kj) in
+          let k = straight_arc w d bays m E steps lab within inside outside swept is L i j li lj
+          differ ki kj x.0 c.0 x.1 x.2 x.3 c.1 c.2 z p.place on_x in_c in
           inner_no_end (arc (curve d j)) (bays j) z p k.1
 
   pub labels_settle : IsSettledRun d bays m E

@@ -1,4 +1,5 @@
--- Whether a run is settled, and which tube a point lies in, does not depend on the drawing's points.
+-- Whether a run is settled, and which tube a point lies in, does not depend on the drawing's
+-- points.
 use Rattle.std.proofs.Common.{ℕ, List}
 use Rattle.plane.specs.declared.kinds.Point.{Point}
 use Rattle.plane.specs.declared.kinds.Placed.{Placed}
@@ -25,7 +26,19 @@ module _ (d : Plan) (ps : List Placed) (bays : ℕ → List Bay) where
   first_from i z f = record { there = f.there; on = f.on; least = f.least }
 
   pub lies_to : (i : ℕ) (v : Point) → LiesInTube other bays i v → LiesInTube d bays i v
-  lies_to i v l = record { there = l.there; bent = l.bent; holds = l.holds; on = λ e. first_to i _ (l.on e); off = l.off }
+  lies_to i v l = record {
+    there = l.there;
+    bent = l.bent;
+    holds = l.holds;
+    on = λ e. first_to i _ (l.on e);
+    off = l.off;
+  }
 
   pub lies_from : (i : ℕ) (v : Point) → LiesInTube d bays i v → LiesInTube other bays i v
-  lies_from i v l = record { there = l.there; bent = l.bent; holds = l.holds; on = λ e. first_from i _ (l.on e); off = l.off }
+  lies_from i v l = record {
+    there = l.there;
+    bent = l.bent;
+    holds = l.holds;
+    on = λ e. first_from i _ (l.on e);
+    off = l.off;
+  }

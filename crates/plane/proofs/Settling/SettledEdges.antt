@@ -60,9 +60,11 @@ pub low_same : (w : ℤ) (e : Edge) (z : Vector) → pos 0 <ℤ rise w e → Pla
 low_same w e z up Z line level =
     let q = side-low e in
     by_sign (lift z (point e.low))
-    (λ (l : lift z (point e.low) <ℤ pos 0). let x = lower_side w e z e.low level Z up l (omega (arith, ints, q)) in absurd (omega (arith, ints, x, line)))
+    (λ (l : lift z (point e.low) <ℤ pos 0). let x = lower_side w e z e.low level Z up l
+    (omega (arith, ints, q)) in absurd (omega (arith, ints, x, line)))
     (λ l. same_place w z e.low level l)
-    (λ (l : pos 0 <ℤ lift z (point e.low)). let x = higher_side w e z e.low level Z up l (omega (arith, ints, q)) in absurd (omega (arith, ints, x, line)))
+    (λ (l : pos 0 <ℤ lift z (point e.low)). let x = higher_side w e z e.low level Z up l
+    (omega (arith, ints, q)) in absurd (omega (arith, ints, x, line)))
 
 pub on_mix : (w : ℤ) (e : Edge) (s : ℤ) (y : Vector) (t : ℤ) (z : Vector) → pos 0 ≤ℤ s → pos 0 ≤ℤ t
     → On w e y → On w e z → On w e (mix s y t z)
@@ -70,23 +72,34 @@ on_mix w e s y t z hs ht a b =
     let f = side-mix e s y t z in
     let u = ap (λ (v : ℤ). s *ℤ v) a.line in
     let v = ap (λ (v : ℤ). t *ℤ v) b.line in
-    let k = mix_in_span w e s y t z hs ht (record { low = a.low; high = a.high }) (record { low = b.low; high = b.high }) in
+    let k = mix_in_span w e s y t z hs ht (record { low = a.low; high = a.high })
+    (record { low = b.low; high = b.high }) in
     record { line = omega (arith, ints, f, u, v); low = k.low; high = k.high }
 
 -- strictly after the low end, and strictly before the high one
 pub after_low : (w : ℤ) (e : Edge) (z : Vector) → pos 0 <ℤ rise w e → Place z → On w e z
     → (Same z (point e.low) → ⊥) → (sweep w (point e.low) *ℤ z.n) <ℤ sweep w z
-after_low w e z up Z on n = by_lt_z (sweep w (point e.low) *ℤ z.n) (sweep w z) (λ l. l) (λ (l : sweep w z ≤ℤ (sweep w (point e.low) *ℤ z.n)). let k = on.low in absurd (n (low_same w e z up Z on.line (omega (arith, ints, l, k)))))
+after_low w e z up Z on n =
+    by_lt_z (sweep w (point e.low) *ℤ z.n) (sweep w z) (λ l. l)
+    (λ (l : sweep w z ≤ℤ (sweep w (point e.low) *ℤ z.n)). let k = on.low in
+    absurd (n (low_same w e z up Z on.line (omega (arith, ints, l, k)))))
 
 pub before_high : (w : ℤ) (e : Edge) (z : Vector) → pos 0 <ℤ rise w e → Place z → On w e z
     → (Same z (point e.high) → ⊥) → sweep w z <ℤ (sweep w (point e.high) *ℤ z.n)
-before_high w e z up Z on n = by_lt_z (sweep w z) (sweep w (point e.high) *ℤ z.n) (λ l. l) (λ (l : (sweep w (point e.high) *ℤ z.n) ≤ℤ sweep w z). let k = on.high in absurd (n (high_same w e z up Z on.line (omega (arith, ints, l, k)))))
+before_high w e z up Z on n =
+    by_lt_z (sweep w z) (sweep w (point e.high) *ℤ z.n) (λ l. l)
+    (λ (l : (sweep w (point e.high) *ℤ z.n) ≤ℤ sweep w z). let k = on.high in
+    absurd (n (high_same w e z up Z on.line (omega (arith, ints, l, k)))))
 
 pub low_on : (w : ℤ) (e : Edge) → pos 0 <ℤ rise w e → On w e (point e.low)
-low_on w e up = let f = rise-is w e in record { line = side-low e; low = omega (arith, ints); high = omega (arith, ints, up, f) }
+low_on w e up =
+    let f = rise-is w e in
+    record { line = side-low e; low = omega (arith, ints); high = omega (arith, ints, up, f) }
 
 pub high_on : (w : ℤ) (e : Edge) → pos 0 <ℤ rise w e → On w e (point e.high)
-high_on w e up = let f = rise-is w e in record { line = side-high e; low = omega (arith, ints, up, f); high = omega (arith, ints) }
+high_on w e up =
+    let f = rise-is w e in
+    record { line = side-high e; low = omega (arith, ints, up, f); high = omega (arith, ints) }
 
 -- of two places strictly before a sweep value each mix is strictly before it
 below_mix : (k s a m t b n : ℤ) → pos 0 ≤ℤ s → pos 0 ≤ℤ t → pos 0 <ℤ (s +ℤ t) → a <ℤ (k *ℤ m)
@@ -94,8 +107,12 @@ below_mix : (k s a m t b n : ℤ) → pos 0 ≤ℤ s → pos 0 ≤ℤ t → pos 
 below_mix k s a m t b n hs ht some ha hb =
     let x = weight_at_most s ((k *ℤ m) -ℤ a) hs (omega (arith, ints, ha)) in
     let y = weight_at_most t ((k *ℤ n) -ℤ b) ht (omega (arith, ints, hb)) in
-    let f = ring (minus (times (at 0) (plus (times (at 1) (at 3)) (times (at 4) (at 6)))) (plus (times (at 1) (at 2)) (times (at 4) (at 5))))
-    (plus (times (at 1) (minus (times (at 0) (at 3)) (at 2))) (times (at 4) (minus (times (at 0) (at 6)) (at 5)))) (vars (k ∷ s ∷ a ∷ m ∷ t ∷ b ∷ n ∷ [])) refl in
+    let f = ring
+    (minus (times (at 0) (plus (times (at 1) (at 3)) (times (at 4) (at 6))))
+    (plus (times (at 1) (at 2)) (times (at 4) (at 5))))
+    (plus (times (at 1) (minus (times (at 0) (at 3)) (at 2)))
+    (times (at 4) (minus (times (at 0) (at 6)) (at 5))))
+    (vars (k ∷ s ∷ a ∷ m ∷ t ∷ b ∷ n ∷ [])) refl in
     omega (arith, ints, x, y, f, some)
 
 above_mix : (k s a m t b n : ℤ) → pos 0 ≤ℤ s → pos 0 ≤ℤ t → pos 0 <ℤ (s +ℤ t) → (k *ℤ m) <ℤ a
@@ -103,8 +120,12 @@ above_mix : (k s a m t b n : ℤ) → pos 0 ≤ℤ s → pos 0 ≤ℤ t → pos 
 above_mix k s a m t b n hs ht some ha hb =
     let x = weight_at_most s (a -ℤ (k *ℤ m)) hs (omega (arith, ints, ha)) in
     let y = weight_at_most t (b -ℤ (k *ℤ n)) ht (omega (arith, ints, hb)) in
-    let f = ring (minus (plus (times (at 1) (at 2)) (times (at 4) (at 5))) (times (at 0) (plus (times (at 1) (at 3)) (times (at 4) (at 6)))))
-    (plus (times (at 1) (minus (at 2) (times (at 0) (at 3)))) (times (at 4) (minus (at 5) (times (at 0) (at 6))))) (vars (k ∷ s ∷ a ∷ m ∷ t ∷ b ∷ n ∷ [])) refl in
+    let f = ring
+    (minus (plus (times (at 1) (at 2)) (times (at 4) (at 5)))
+    (times (at 0) (plus (times (at 1) (at 3)) (times (at 4) (at 6)))))
+    (plus (times (at 1) (minus (at 2) (times (at 0) (at 3))))
+    (times (at 4) (minus (at 5) (times (at 0) (at 6)))))
+    (vars (k ∷ s ∷ a ∷ m ∷ t ∷ b ∷ n ∷ [])) refl in
     omega (arith, ints, x, y, f, some)
 
 -- ---- corners of tubes are in them
@@ -141,13 +162,20 @@ corner_within t q (inr (inr e)) = subst (λ (p : Point). InTile t (point p)) (sy
 })
 
 side_corner : (e : Edge) (t : Tile) (q : Point) → IsSideOf e t → IsEnd e q → IsCornerOf t q
-side_corner e t q (inl s) i = elim (subst (λ (f : Edge). IsEnd f q) s i) [ inl x ↦ inl (sym x) | inr x ↦ inr (inl (sym x)) ]
-side_corner e t q (inr (inl s)) i = elim (subst (λ (f : Edge). IsEnd f q) s i) [ inl x ↦ inr (inl (sym x)) | inr x ↦ inr (inr (sym x)) ]
-side_corner e t q (inr (inr s)) i = elim (subst (λ (f : Edge). IsEnd f q) s i) [ inl x ↦ inr (inr (sym x)) | inr x ↦ inl (sym x) ]
+side_corner e t q (inl s) i =
+    elim (subst (λ (f : Edge). IsEnd f q) s i) [ inl x ↦ inl (sym x) | inr x ↦ inr (inl (sym x)) ]
+side_corner e t q (inr (inl s)) i =
+    elim (subst (λ (f : Edge). IsEnd f q) s i) [
+      | inl x ↦ inr (inl (sym x))
+      | inr x ↦ inr (inr (sym x))
+    ]
+side_corner e t q (inr (inr s)) i =
+    elim (subst (λ (f : Edge). IsEnd f q) s i) [ inl x ↦ inr (inr (sym x)) | inr x ↦ inl (sym x) ]
 
 pub bound_in : (a : Point) (k : Bay) (ks : List Bay) (e : Edge) (q : Point)
     → Has e (bounds a (k ∷ ks)) → IsEnd e q → InSomeTile (tiles a (k ∷ ks)) (point q)
-bound_in a k ks e q m i = let s = bound_side a k ks e m in (s.0, s.1, corner_within s.0 q (side_corner e s.0 q s.2 i))
+bound_in a k ks e q m i =
+    let s = bound_side a k ks e m in (s.0, s.1, corner_within s.0 q (side_corner e s.0 q s.2 i))
 
 -- ---- one edge, two curves
 pub one_edge : (e : Edge) (c d : Curve) → IsEdgeOf e c → IsEdgeOf e d → HaveSameEnds c d
@@ -163,15 +191,20 @@ bow_zero h z d =
     let some = d.some in
     let n : pos 0 <ℤ m.n = omega (arith, ints, some) in
     let f : bow h z *ℤ m.n ≡ bow h m *ℤ z.n = (seen_same h z m d.is).y in
-    let g : bow h m ≡ (d.s *ℤ bow h (point h.from)) +ℤ (d.t *ℤ bow h (point h.to)) = ap (λ (v : Vector). v.y) (seen-mix h d.s (point h.from) d.t (point h.to)) in
-    let a : d.s *ℤ bow h (point h.from) ≡ pos 0 = ap (λ (v : ℤ). d.s *ℤ v) (bow-from h) ∙ omega (arith, ints) in
-    let b : d.t *ℤ bow h (point h.to) ≡ pos 0 = ap (λ (v : ℤ). d.t *ℤ v) (bow-to h) ∙ omega (arith, ints) in
+    let g : bow h m ≡ (d.s *ℤ bow h (point h.from))
+    +ℤ (d.t *ℤ bow h (point h.to)) =
+    ap (λ (v : Vector). v.y) (seen-mix h d.s (point h.from) d.t (point h.to)) in
+    let a : d.s *ℤ bow h (point h.from) ≡ pos 0 = ap (λ (v : ℤ). d.s *ℤ v) (bow-from h)
+    ∙ omega (arith, ints) in
+    let b : d.t *ℤ bow h (point h.to) ≡ pos 0 = ap (λ (v : ℤ). d.t *ℤ v) (bow-to h)
+    ∙ omega (arith, ints) in
     let none : bow h m ≡ pos 0 = omega (arith, ints, g, a, b) in
     let zero : bow h m *ℤ z.n ≡ pos 0 = ap (λ (v : ℤ). v *ℤ z.n) none ∙ omega (arith, ints) in
     let i = ring (times (at 1) (at 0)) (times (at 0) (at 1)) (vars (bow h z ∷ m.n ∷ [])) refl in
     cancel_zero m.n (bow h z) n (i ∙ f ∙ zero)
 
-module _ (d : Plan) (l : EdgeList) (is : IsEdgeList d l) (settled : IsSettled d l) (w : ℤ) (steps : List Step) (swept : WeighedRun w l.edges l.edge steps) where
+module _ (d : Plan) (l : EdgeList) (is : IsEdgeList d l) (settled : IsSettled d l) (w : ℤ)
+    (steps : List Step) (swept : WeighedRun w l.edges l.edge steps) where
   abbrev r : Replay
   r = replay w l.edges l.edge steps
 
@@ -182,10 +215,15 @@ module _ (d : Plan) (l : EdgeList) (is : IsEdgeList d l) (settled : IsSettled d 
   Inside i z = InSomeTile (tiles_of (l.tube i)) z
 
   pub all_left : (i : ℕ) → IsHalfArc d i → Each (λ t. IsLeftTile t) (tiles_of (l.tube i))
-  all_left i h = let t = is.tubes i h in tiles_left (l.tube i).arc (l.tube i).bay (l.tube i).bays t.right t.tube
+  all_left i h =
+      let t = is.tubes i h in
+      tiles_left (l.tube i).arc (l.tube i).bay (l.tube i).bays t.right t.tube
 
   pub all_tiled : (i : ℕ) → IsHalfArc d i → IsTiled w (tiles_of (l.tube i))
-  all_tiled i h = let t = is.tubes i h in tiled r whole.run (l.tube i).arc.from ((l.tube i).bay ∷ (l.tube i).bays) (l.tube i).halves t.bounds t.fits (all_left i h)
+  all_tiled i h =
+      let t = is.tubes i h in
+      tiled r whole.run (l.tube i).arc.from ((l.tube i).bay ∷ (l.tube i).bays)
+      (l.tube i).halves t.bounds t.fits (all_left i h)
 
   -- a bound of the tube through a place is an edge of the tube through it
   pub bound_edge : (i : ℕ) → (h : IsHalfArc d i) → (e : Edge)
@@ -194,15 +232,21 @@ module _ (d : Plan) (l : EdgeList) (is : IsEdgeList d l) (settled : IsSettled d 
       → (g : Half) × Has g (l.tube i).halves × On w (l.edge (edge_of g)) z
   bound_edge i h e m z Z b =
       let t = is.tubes i h in
-      let g = from_map (way l.edge) e (l.tube i).halves (subst (λ (es : List Edge). Has e es) t.bounds m) in
-      (g.0, g.1, way_on w l.edge g.0 z (whole.run.rise (edge_of g.0) (t.fits g.0 g.1)) Z (subst (λ (f : Edge). Between z (point f.low) (point f.high)) g.2 b))
+      let g = from_map (way l.edge) e (l.tube i).halves
+      (subst (λ (es : List Edge). Has e es) t.bounds m) in (
+        g.0,
+        g.1,
+        way_on w l.edge g.0 z (whole.run.rise (edge_of g.0) (t.fits g.0 g.1)) Z
+            (subst (λ (f : Edge). Between z (point f.low) (point f.high)) g.2 b),
+      )
 
   -- an end of an edge of the tube is in the tube
   pub end_in : (i : ℕ) → (h : IsHalfArc d i) → (g : Half) → Has g (l.tube i).halves → (q : Point)
       → IsEnd (l.edge (edge_of g)) q → Inside i (point q)
   end_in i h g m q x =
       let t = is.tubes i h in
-      let a = edge_arrow l.edge (bounds (l.tube i).arc.from ((l.tube i).bay ∷ (l.tube i).bays)) (l.tube i).halves g q t.bounds m x in
+      let a = edge_arrow l.edge (bounds (l.tube i).arc.from ((l.tube i).bay ∷ (l.tube i).bays))
+      (l.tube i).halves g q t.bounds m x in
       bound_in (l.tube i).arc.from (l.tube i).bay (l.tube i).bays a.0 q a.1 a.2
 
   -- an event in the tube is an end of an edge of the tube
@@ -215,16 +259,21 @@ module _ (d : Plan) (l : EdgeList) (is : IsEdgeList d l) (settled : IsSettled d 
       let ks = (l.tube i).bay ∷ (l.tube i).bays in
       let c = tile_corners a ks t m in
       elim (settled.enter e f q x i h t m s) [
-        | inl y ↦ corner_edge l.edge (bounds a ks) (l.tube i).halves q tube.bounds (subst (AtArrow (bounds a ks)) (sym y) c.a)
+        | inl y ↦ corner_edge l.edge (bounds a ks) (l.tube i).halves q tube.bounds
+            (subst (AtArrow (bounds a ks)) (sym y) c.a)
         | inr y ↦ elim y [
-          | inl v ↦ corner_edge l.edge (bounds a ks) (l.tube i).halves q tube.bounds (subst (AtArrow (bounds a ks)) (sym v) c.b)
-          | inr v ↦ corner_edge l.edge (bounds a ks) (l.tube i).halves q tube.bounds (subst (AtArrow (bounds a ks)) (sym v) c.c)
+          | inl v ↦ corner_edge l.edge (bounds a ks) (l.tube i).halves q tube.bounds
+              (subst (AtArrow (bounds a ks)) (sym v) c.b)
+          | inr v ↦ corner_edge l.edge (bounds a ks) (l.tube i).halves q tube.bounds
+              (subst (AtArrow (bounds a ks)) (sym v) c.c)
         ]
       ]
 
   -- ---- an edge that is none of the tube's, with a place in the tube that is no end of it
-  module _ (i : ℕ) (h : IsHalfArc d i) (u : ℕ) (fits : u < l.edges) (other : l.owner u ≡ i → ⊥) (y : Vector) (Y : Place y) (on : On w (l.edge u) y)
-      (no_low : Same y (point (l.edge u).low) → ⊥) (no_high : Same y (point (l.edge u).high) → ⊥) (inside : Inside i y) where
+  module _ (i : ℕ) (h : IsHalfArc d i) (u : ℕ) (fits : u < l.edges) (other : l.owner u ≡ i → ⊥)
+      (y : Vector) (Y : Place y) (on : On w (l.edge u) y)
+      (no_low : Same y (point (l.edge u).low) → ⊥) (no_high : Same y (point (l.edge u).high) → ⊥)
+      (inside : Inside i y) where
     up : pos 0 <ℤ rise w (l.edge u)
     up = whole.run.rise u fits
 
@@ -233,15 +282,19 @@ module _ (d : Plan) (l : EdgeList) (is : IsEdgeList d l) (settled : IsSettled d 
         → On w (l.edge (edge_of g)) x
         → (p : Point) × IsEnd (l.edge u) p × IsEnd (l.edge (edge_of g)) p × Same x (point p)
     meets_end x X at_u g m at_g =
-        let c = meet_in_ends w l.edges l.edge steps x u (edge_of g) swept fits ((is.tubes i h).fits g m) (λ e. other (ap l.owner e ∙ is.tube_owner i h g m)) X at_u at_g in
+        let c = meet_in_ends w l.edges l.edge steps x u (edge_of g) swept fits
+        ((is.tubes i h).fits g m) (λ e. other (ap l.owner e ∙ is.tube_owner i h g m)) X at_u
+        at_g in
         (c.at, c.of_first, c.of_second, c.is)
 
     -- so the edge leaves the tube at no place
     low_in : Inside i (point (l.edge u).low)
-    low_in = elim (decide_in_some w (point (l.edge u).low) (tiles_of (l.tube i)) (place_point (l.edge u).low) (all_tiled i h)) [
-      | inl k ↦ k
-      | inr out ↦ kept_in y (point (l.edge u).low) Y (place_point (l.edge u).low) (l.tube i).arc.from ((l.tube i).bay ∷ (l.tube i).bays) (all_left i h) (misses out) inside
-    ]
+    low_in = elim (decide_in_some w (point (l.edge u).low) (tiles_of (l.tube i))
+        (place_point (l.edge u).low) (all_tiled i h)) [
+          | inl k ↦ k
+          | inr out ↦ kept_in y (point (l.edge u).low) Y (place_point (l.edge u).low)
+              (l.tube i).arc.from ((l.tube i).bay ∷ (l.tube i).bays) (all_left i h) (misses out) inside
+        ]
       where
         misses : (Inside i (point (l.edge u).low) → ⊥) → (x : Vector)
             → IsOnWay y (point (l.edge u).low) x → (e : Edge)
@@ -249,26 +302,36 @@ module _ (d : Plan) (l : EdgeList) (is : IsEdgeList d l) (settled : IsSettled d 
             → Between x (point e.low) (point e.high) → ⊥
         misses out x way e m b =
             let X = way_place y (point (l.edge u).low) x Y (place_point (l.edge u).low) way in
-            let at_u = subst (λ (v : Vector). On w (l.edge u) v) (sym way.is) (on_mix w (l.edge u) way.s y way.t (point (l.edge u).low) way.s_least way.t_least on (low_on w (l.edge u) up)) in
+            let at_u = subst (λ (v : Vector). On w (l.edge u) v) (sym way.is)
+            (on_mix w (l.edge u) way.s y way.t (point (l.edge u).low) way.s_least way.t_least on
+            (low_on w (l.edge u) up)) in
             let g = bound_edge i h e m x X b in
             let c = meets_end x X at_u g.0 g.1 g.2 in
             elim c.1 [
-              | inl k ↦ out (end_in i h g.0 g.1 (l.edge u).low (subst (λ (p : Point). IsEnd (l.edge (edge_of g.0)) p) (sym k) c.2))
+              | inl k ↦ out
+                  (end_in i h g.0 g.1 (l.edge u).low
+                  (subst (λ (p : Point). IsEnd (l.edge (edge_of g.0)) p) (sym k) c.2))
               | inr k ↦
-                  let s = same_sweep w x (l.edge u).high (subst (λ (p : Point). Same x (point p)) (sym k) c.3) in
+                  let s = same_sweep w x (l.edge u).high
+                  (subst (λ (p : Point). Same x (point p)) (sym k) c.3) in
                   let f = rise-is w (l.edge u) in
                   let up = whole.run.rise u fits in
-                  let a = below_mix (sweep w (point (l.edge u).high)) way.s (sweep w y) y.n way.t (sweep w (point (l.edge u).low)) (pos 1) way.s_least way.t_least way.some (before_high w (l.edge u) y up Y on no_high) (omega (arith, ints, up, f)) in
-                  let v = ap (λ (v : Vector). sweep w v) way.is ∙ sweep-mix w way.s y way.t (point (l.edge u).low) in
+                  let a = below_mix (sweep w (point (l.edge u).high)) way.s (sweep w y) y.n way.t
+                  (sweep w (point (l.edge u).low)) (pos 1) way.s_least way.t_least way.some
+                  (before_high w (l.edge u) y up Y on no_high) (omega (arith, ints, up, f)) in
+                  let v = ap (λ (v : Vector). sweep w v) way.is
+                  ∙ sweep-mix w way.s y way.t (point (l.edge u).low) in
                   let n = ap (λ (v : Vector). sweep w (point (l.edge u).high) *ℤ v.n) way.is in
                   omega (arith, ints, s, a, v, n)
             ]
 
     high_in : Inside i (point (l.edge u).high)
-    high_in = elim (decide_in_some w (point (l.edge u).high) (tiles_of (l.tube i)) (place_point (l.edge u).high) (all_tiled i h)) [
-      | inl k ↦ k
-      | inr out ↦ kept_in y (point (l.edge u).high) Y (place_point (l.edge u).high) (l.tube i).arc.from ((l.tube i).bay ∷ (l.tube i).bays) (all_left i h) (misses out) inside
-    ]
+    high_in = elim (decide_in_some w (point (l.edge u).high) (tiles_of (l.tube i))
+        (place_point (l.edge u).high) (all_tiled i h)) [
+          | inl k ↦ k
+          | inr out ↦ kept_in y (point (l.edge u).high) Y (place_point (l.edge u).high)
+              (l.tube i).arc.from ((l.tube i).bay ∷ (l.tube i).bays) (all_left i h) (misses out) inside
+        ]
       where
         misses : (Inside i (point (l.edge u).high) → ⊥) → (x : Vector)
             → IsOnWay y (point (l.edge u).high) x → (e : Edge)
@@ -276,17 +339,25 @@ module _ (d : Plan) (l : EdgeList) (is : IsEdgeList d l) (settled : IsSettled d 
             → Between x (point e.low) (point e.high) → ⊥
         misses out x way e m b =
             let X = way_place y (point (l.edge u).high) x Y (place_point (l.edge u).high) way in
-            let at_u = subst (λ (v : Vector). On w (l.edge u) v) (sym way.is) (on_mix w (l.edge u) way.s y way.t (point (l.edge u).high) way.s_least way.t_least on (high_on w (l.edge u) up)) in
+            let at_u = subst (λ (v : Vector). On w (l.edge u) v) (sym way.is)
+            (on_mix w (l.edge u) way.s y way.t
+            (point (l.edge u).high) way.s_least way.t_least on (high_on w (l.edge u) up)) in
             let g = bound_edge i h e m x X b in
             let c = meets_end x X at_u g.0 g.1 g.2 in
             elim c.1 [
-              | inr k ↦ out (end_in i h g.0 g.1 (l.edge u).high (subst (λ (p : Point). IsEnd (l.edge (edge_of g.0)) p) (sym k) c.2))
+              | inr k ↦ out
+                  (end_in i h g.0 g.1 (l.edge u).high
+                  (subst (λ (p : Point). IsEnd (l.edge (edge_of g.0)) p) (sym k) c.2))
               | inl k ↦
-                  let s = same_sweep w x (l.edge u).low (subst (λ (p : Point). Same x (point p)) (sym k) c.3) in
+                  let s = same_sweep w x (l.edge u).low
+                  (subst (λ (p : Point). Same x (point p)) (sym k) c.3) in
                   let f = rise-is w (l.edge u) in
                   let up = whole.run.rise u fits in
-                  let a = above_mix (sweep w (point (l.edge u).low)) way.s (sweep w y) y.n way.t (sweep w (point (l.edge u).high)) (pos 1) way.s_least way.t_least way.some (after_low w (l.edge u) y up Y on no_low) (omega (arith, ints, up, f)) in
-                  let v = ap (λ (v : Vector). sweep w v) way.is ∙ sweep-mix w way.s y way.t (point (l.edge u).high) in
+                  let a = above_mix (sweep w (point (l.edge u).low)) way.s (sweep w y) y.n way.t
+                  (sweep w (point (l.edge u).high)) (pos 1) way.s_least way.t_least way.some
+                  (after_low w (l.edge u) y up Y on no_low) (omega (arith, ints, up, f)) in
+                  let v = ap (λ (v : Vector). sweep w v) way.is
+                  ∙ sweep-mix w way.s y way.t (point (l.edge u).high) in
                   let n = ap (λ (v : Vector). sweep w (point (l.edge u).low) *ℤ v.n) way.is in
                   omega (arith, ints, s, a, v, n)
             ]
@@ -301,10 +372,14 @@ module _ (d : Plan) (l : EdgeList) (is : IsEdgeList d l) (settled : IsSettled d 
         ]
 
     joins : IsEdgeOf (l.edge u) (curve d i)
-    joins = ends (tube_end (l.edge u).low (inl refl) low_in) (tube_end (l.edge u).high (inr refl) high_in)
+    joins = ends (tube_end (l.edge u).low (inl refl) low_in)
+        (tube_end (l.edge u).high (inr refl) high_in)
       where
         flat : (l.edge u).low ≡ (l.edge u).high → ⊥
-        flat e = let f = rise-is w (l.edge u) in let g = ap (λ (p : Point). sweep w (point p)) e in let up = whole.run.rise u fits in omega (arith, ints, f, g, up)
+        flat e =
+            let f = rise-is w (l.edge u) in
+            let g = ap (λ (p : Point). sweep w (point p)) e in
+            let up = whole.run.rise u fits in omega (arith, ints, f, g, up)
 
         ends : IsEndOf (curve d i) (l.edge u).low → IsEndOf (curve d i) (l.edge u).high
             → IsEdgeOf (l.edge u) (curve d i)
@@ -328,14 +403,18 @@ module _ (d : Plan) (l : EdgeList) (is : IsEdgeList d l) (settled : IsSettled d 
 
     between_curve : Between y (point (curve d i).from) (point (curve d i).to)
     between_curve = elim joins [
-      | inl k ↦ moved (l.edge u).low (l.edge u).high (curve d i).from (curve d i).to y k.0 k.1 (on_between w (l.edge u) y up Y on)
-      | inr k ↦ moved (l.edge u).high (l.edge u).low (curve d i).from (curve d i).to y k.1 k.0 (between_back y (point (l.edge u).low) (point (l.edge u).high) (on_between w (l.edge u) y up Y on))
+      | inl k ↦ moved (l.edge u).low (l.edge u).high (curve d i).from (curve d i).to y k.0 k.1
+          (on_between w (l.edge u) y up Y on)
+      | inr k ↦ moved (l.edge u).high (l.edge u).low (curve d i).from (curve d i).to y k.1 k.0
+          (between_back y (point (l.edge u).low) (point (l.edge u).high)
+          (on_between w (l.edge u) y up Y on))
     ]
 
     abbrev t : DrawnTube
     t = l.tube i
 
-    along_chord : (bow t.arc y ≡ pos 0) × (pos 0 <ℤ along t.arc y) × (along t.arc y <ℤ (chord t.arc *ℤ y.n))
+    along_chord : (bow t.arc y ≡ pos 0) × (pos 0 <ℤ along t.arc y)
+        × (along t.arc y <ℤ (chord t.arc *ℤ y.n))
     along_chord =
         let tube = is.tubes i h in
         let one : pos 0 <ℤ pos 1 = omega (arith, ints) in
@@ -346,15 +425,18 @@ module _ (d : Plan) (l : EdgeList) (is : IsEdgeList d l) (settled : IsSettled d 
               let f = along-from t.arc in
               let g = along-to t.arc in
               let c = (tube_cap t.arc (t.bay ∷ t.bays) tube.tube).chord in
-              let x = column_low t.arc t.bay t.bays tube.tube tube.right (arrow t.arc.from t.arc.to) y Y b k.0 k.1 (omega (arith, ints, f, g, c)) in
+              let x = column_low t.arc t.bay t.bays tube.tube tube.right
+              (arrow t.arc.from t.arc.to) y Y b k.0 k.1 (omega (arith, ints, f, g, c)) in
               let low = x.0 in
               let high = x.1 in
               let f2 = ap (λ (v : ℤ). v *ℤ y.n) f in
               let g2 = ap (λ (v : ℤ). v *ℤ y.n) g in
               (bow_zero t.arc y b, omega (arith, ints, low, f2), omega (arith, ints, high, g2))
           | inr s ↦ absurd (elim s [
-            | inl x ↦ at_ends t.arc.from (arc_ends l.edges l.edge (curve d i) t tube t.arc.from (inl refl)) x
-            | inr x ↦ at_ends t.arc.to (arc_ends l.edges l.edge (curve d i) t tube t.arc.to (inr (sym e))) x
+            | inl x ↦ at_ends t.arc.from
+                (arc_ends l.edges l.edge (curve d i) t tube t.arc.from (inl refl)) x
+            | inr x ↦ at_ends t.arc.to
+                (arc_ends l.edges l.edge (curve d i) t tube t.arc.to (inr (sym e))) x
           ])
         ]
 
@@ -364,23 +446,32 @@ module _ (d : Plan) (l : EdgeList) (is : IsEdgeList d l) (settled : IsSettled d 
         let tube = is.tubes i h in
         let q = is.straight_only u fits (subst (λ (x : ℕ). IsStraight d x) (sym o) s) in
         let k = is.straights j s in
-        let same = one_edge (l.edge u) (curve d j) (curve d i) (subst (λ (x : ℕ). IsEdgeOf (l.edge x) (curve d j)) (sym (q ∙ ap l.straight o)) k.1) joins in
+        let same = one_edge (l.edge u) (curve d j) (curve d i)
+        (subst (λ (x : ℕ). IsEdgeOf (l.edge x) (curve d j)) (sym (q ∙ ap l.straight o)) k.1)
+        joins in
         let a = along_chord in
         high_chord_out t.arc t.bay t.bays y tube.tube tube.wide
-        (each_from (StandsHigh t.arc) (t.bay ∷ t.bays) (λ b m. stands b m (settled.chord j i s h same b m))) Y a.0 a.1 a.2 (tiles_in_tube t.arc.from t.bay t.bays y inside)
+        (each_from (StandsHigh t.arc) (t.bay ∷ t.bays)
+        (λ b m. stands b m (settled.chord j i s h same b m))) Y a.0 a.1 a.2
+        (tiles_in_tube t.arc.from t.bay t.bays y inside)
       where
         stands : (b : Bay) → Has b ((l.tube i).bay ∷ (l.tube i).bays)
             → IsEndOf (curve d i) b.inner ⊎ (pos 0 <ℤ bow (arc (curve d i)) (point b.inner))
             → StandsHigh (l.tube i).arc b
-        stands b m (inr k) = let e = bow_one (l.tube i).arc (arc (curve d i)) (point b.inner) (is.tubes i h).is in inr (omega (arith, ints, e, k))
+        stands b m (inr k) =
+            let e = bow_one (l.tube i).arc (arc (curve d i)) (point b.inner) (is.tubes i h).is in
+            inr (omega (arith, ints, e, k))
         stands b m (inl k) =
             let tube = is.tubes i h in
             elim (ends_arc l.edges l.edge (curve d i) (l.tube i) tube b.inner k) [
               | inl e ↦
-                  let x = inner_after (l.tube i).arc (l.tube i).arc.from (l.tube i).bay (l.tube i).bays b (tube_rest (l.tube i).arc (l.tube i).bay (l.tube i).bays tube.tube) m in
+                  let x = inner_after (l.tube i).arc (l.tube i).arc.from (l.tube i).bay
+                  (l.tube i).bays b
+                  (tube_rest (l.tube i).arc (l.tube i).bay (l.tube i).bays tube.tube) m in
                   let f = ap (λ (p : Point). along (l.tube i).arc (point p)) e in
                   absurd (omega (arith, ints, x, f))
-              | inr e ↦ inl (e ∙ tip_is (l.tube i).bay (l.tube i).bays (l.tube i).arc.to tube.tube.ends)
+              | inr e ↦ inl (e
+                  ∙ tip_is (l.tube i).bay (l.tube i).bays (l.tube i).arc.to tube.tube.ends)
             ]
 
     -- ---- and no other tube's edge
@@ -390,7 +481,10 @@ module _ (d : Plan) (l : EdgeList) (is : IsEdgeList d l) (settled : IsSettled d 
         let m = is.tube_only u fits (subst (λ (x : ℕ). IsHalfArc d x) (sym o) a) in
         let g = m.0 in
         let has = subst (λ (x : ℕ). Has g (l.tube x).halves) o m.1 in
-        let mid = bound_middle (l.tube j).arc (l.tube j).bay (l.tube j).bays (way l.edge g) tube.tube tube.wide (subst (λ (es : List Edge). Has (way l.edge g) es) (sym tube.bounds) (has_map (way l.edge) g (l.tube j).halves has)) in
+        let mid = bound_middle (l.tube j).arc (l.tube j).bay (l.tube j).bays
+        (way l.edge g) tube.tube tube.wide
+        (subst (λ (es : List Edge). Has (way l.edge g) es) (sym tube.bounds)
+        (has_map (way l.edge) g (l.tube j).halves has)) in
         let q = mid.0 in
         let at_g = arrow_end l.edge g q mid.1 in
         let at_u = subst (λ (x : ℕ). IsEnd (l.edge x) q) m.2 at_g in
@@ -400,14 +494,17 @@ module _ (d : Plan) (l : EdgeList) (is : IsEdgeList d l) (settled : IsSettled d 
         ] in
         let f = event_in i h u fits q at_u in_i in
         elim (settled.own j a g has q at_g) [
-          | inr own ↦ other (o ∙ sym (own (edge_of f.0) ((is.tubes i h).fits f.0 f.1) f.2) ∙ is.tube_owner i h f.0 f.1)
+          | inr own ↦ other (o ∙ sym (own (edge_of f.0) ((is.tubes i h).fits f.0 f.1) f.2)
+              ∙ is.tube_owner i h f.0 f.1)
           | inl k ↦
               let low = mid.2 in
               let high = mid.3 in
               elim (ends_arc l.edges l.edge (curve d j) (l.tube j) tube q k) [
-                | inl e ↦ let x = ap (λ (p : Point). along (l.tube j).arc (point p)) e in let y = along-from (l.tube j).arc in omega (arith, ints, x, y, low)
+                | inl e ↦ let x = ap (λ (p : Point). along (l.tube j).arc (point p)) e in
+                    let y = along-from (l.tube j).arc in omega (arith, ints, x, y, low)
                 | inr e ↦
-                    let x = ap (λ (p : Point). along (l.tube j).arc (point p)) (e ∙ tip_is (l.tube j).bay (l.tube j).bays (l.tube j).arc.to tube.tube.ends) in
+                    let x = ap (λ (p : Point). along (l.tube j).arc (point p)) (e
+                    ∙ tip_is (l.tube j).bay (l.tube j).bays (l.tube j).arc.to tube.tube.ends) in
                     let y = along-to (l.tube j).arc in
                     omega (arith, ints, x, y, high)
               ]

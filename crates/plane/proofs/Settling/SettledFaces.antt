@@ -1,4 +1,5 @@
--- In a settled drawing a face that has a half-edge which faces a tube from within has the half-edges that do so, and no others.
+-- In a settled drawing a face that has a half-edge which faces a tube from within has the
+-- half-edges that do so, and no others.
 use Rattle.std.proofs.Common.{◌≡◌, ℕ, ◌<◌, inl, inr, List, ◌∷◌, ℤ, pos, ◌+ℤ◌, ◌*ℤ◌, ◌<ℤ◌, ◌≤ℤ◌}
 use Rattle.std.proofs.Common.{refl, arith, ap, sym, ◌∙◌, subst}
 use Rattle.std.proofs.lemmas.Int.{ints}
@@ -43,7 +44,8 @@ use Rattle.plane.proofs.Settling.SettledEdges.{low_on, high_on}
 use Rattle.plane.proofs.Settling.SettledCells.{IsAcross, across_edge, across_back, left_inside}
 use Rattle.plane.proofs.Settling.SettledCells.{right_outside, way_hits}
 
-module _ (d : Plan) (l : EdgeList) (is : IsEdgeList d l) (settled : IsSettled d l) (w : ℤ) (steps : List Step) (swept : WeighedRun w l.edges l.edge steps) where
+module _ (d : Plan) (l : EdgeList) (is : IsEdgeList d l) (settled : IsSettled d l) (w : ℤ)
+    (steps : List Step) (swept : WeighedRun w l.edges l.edge steps) where
   abbrev r : Replay
   r = replay w l.edges l.edge steps
 
@@ -56,20 +58,25 @@ module _ (d : Plan) (l : EdgeList) (is : IsEdgeList d l) (settled : IsSettled d 
   -- ---- what is joined to a place of the tube is in the tube
   free_in : (i : ℕ) → IsHalfArc d i → (p q : Vector) → Place p → Place q → IsFree r p q → In i p
       → In i q
-  free_in i h p q P Q free inside = kept_in p q P Q (l.tube i).arc.from ((l.tube i).bay ∷ (l.tube i).bays) (all_left d l is settled w steps swept i h)
+  free_in i h p q P Q free inside =
+      kept_in p q P Q (l.tube i).arc.from ((l.tube i).bay ∷ (l.tube i).bays)
+      (all_left d l is settled w steps swept i h)
       (λ x k e m b.
       let j = bound_edge d l is settled w steps swept i h e m x (way_place p q x P Q k) b in
-      free (edge_of j.0) ((is.tubes i h).fits j.0 j.1) (way_hits d l is settled w steps swept p q x P Q k (edge_of j.0) j.2))
+      free (edge_of j.0) ((is.tubes i h).fits j.0 j.1)
+      (way_hits d l is settled w steps swept p q x P Q k (edge_of j.0) j.2))
       inside
 
   pub joined_in : (i : ℕ) → IsHalfArc d i → (p q : Vector) → JoinedByEdges r p q → Place p → Place q
       → In i p → In i q
   joined_in i h _ _ (arrives p q e) P Q inside = in_some_same (tiles_of (l.tube i)) p q P e inside
-  joined_in i h _ _ (goes p q s Y free j) P S inside = joined_in i h q s j Y S (free_in i h p q P Y free inside)
+  joined_in i h _ _ (goes p q s Y free j) P S inside =
+      joined_in i h q s j Y S (free_in i h p q P Y free inside)
 
   linked_in : (i : ℕ) → IsHalfArc d i → (p q : Vector) → Place p → Place q → IsOffEdges r p
       → IsOffEdges r q → Linked r (sector r p) (sector r q) → In i p → In i q
-  linked_in i h p q P Q op oq k inside = joined_in i h p q (linked_joined r whole.run whole.law p q P Q op oq k) P Q inside
+  linked_in i h p q P Q op oq k inside =
+      joined_in i h p q (linked_joined r whole.run whole.law p q P Q op oq k) P Q inside
 
   -- ---- a half-edge beside a place of the tube faces it
   module _ (i : ℕ) (h : IsHalfArc d i) (g : Half) (fits : edge_of g < l.edges) where
@@ -81,7 +88,9 @@ module _ (d : Plan) (l : EdgeList) (is : IsEdgeList d l) (settled : IsSettled d 
           | inl e ↦ subst (λ (x : Half). Has x (l.tube i).halves) (sym e) m.1
           | inr e ↦
               let b : IsAcross d l is settled w steps swept m.0 o s =
-              subst (λ (x : Half). IsAcross d l is settled w steps swept x o s) (twice m.0) (across_back d l is settled w steps swept (twin m.0) s o (subst (λ (x : Half). IsAcross d l is settled w steps swept x s o) e a)) in
+              subst (λ (x : Half). IsAcross d l is settled w steps swept x o s) (twice m.0)
+              (across_back d l is settled w steps swept (twin m.0) s o
+              (subst (λ (x : Half). IsAcross d l is settled w steps swept x s o) e a)) in
               absurd (right_outside d l is settled w steps swept i h m.0 m.1 o s b inside)
         ]
       where
@@ -93,31 +102,43 @@ module _ (d : Plan) (l : EdgeList) (is : IsEdgeList d l) (settled : IsSettled d 
         → (l.owner (edge_of g) ≡ i → ⊥) → ⊥
     no_other s o a inside n =
         let Z = way_place s o a.z a.s_place a.o_place a.z_on in
-        let at_z : In i a.z = kept_in s a.z a.s_place Z (l.tube i).arc.from ((l.tube i).bay ∷ (l.tube i).bays) (all_left d l is settled w steps swept i h)
+        let at_z : In i a.z = kept_in s a.z a.s_place Z (l.tube i).arc.from
+        ((l.tube i).bay ∷ (l.tube i).bays) (all_left d l is settled w steps swept i h)
         (λ x k e m b.
-        let j = bound_edge d l is settled w steps swept i h e m x (way_place s a.z x a.s_place Z k) b in
-        let way_x = subst (λ (v : Vector). IsOnWay s o v) (sym k.is) (way_mix s o s a.z k.s k.t k.s_least k.t_least k.some (way_start s o) a.z_on) in
-        a.clear x way_x (edge_of j.0) ((is.tubes i h).fits j.0 j.1) (λ q. n (sym (ap l.owner q) ∙ is.tube_owner i h j.0 j.1)) j.2)
+        let j = bound_edge d l is settled w steps swept i h e m x
+        (way_place s a.z x a.s_place Z k) b in
+        let way_x = subst (λ (v : Vector). IsOnWay s o v) (sym k.is)
+        (way_mix s o s a.z k.s k.t k.s_least k.t_least k.some (way_start s o) a.z_on) in
+        a.clear x way_x (edge_of j.0) ((is.tubes i h).fits j.0 j.1)
+        (λ q. n (sym (ap l.owner q) ∙ is.tube_owner i h j.0 j.1)) j.2)
         inside in
         edge_out d l is settled w steps swept i h (edge_of g) fits n a.z Z a.z_edge
-        (λ e. ends (l.edge (edge_of g)).low (inl refl) e at_z) (λ e. ends (l.edge (edge_of g)).high (inr refl) e at_z) at_z
+        (λ e. ends (l.edge (edge_of g)).low (inl refl) e at_z)
+        (λ e. ends (l.edge (edge_of g)).high (inr refl) e at_z) at_z
       where
         ends : (q : Point) → IsEnd (l.edge (edge_of g)) q → Same a.z (point q) → In i a.z → ⊥
         ends q x e at_z =
             let Z = way_place s o a.z a.s_place a.o_place a.z_on in
-            let f = event_in d l is settled w steps swept i h (edge_of g) fits q x (in_some_same (tiles_of (l.tube i)) a.z (point q) Z e at_z) in
+            let f = event_in d l is settled w steps swept i h (edge_of g) fits q x
+            (in_some_same (tiles_of (l.tube i)) a.z (point q) Z e at_z) in
             let k = (is.tubes i h).fits f.0 f.1 in
-            a.clear a.z a.z_on (edge_of f.0) k (λ y. n (sym (ap l.owner y) ∙ is.tube_owner i h f.0 f.1))
-            (on_same w (l.edge (edge_of f.0)) (point q) a.z (same_sym a.z (point q) e) (place_point q) Z (elim f.2 [
-              | inl y ↦ subst (λ (p : Point). On w (l.edge (edge_of f.0)) (point p)) y (low_on w (l.edge (edge_of f.0)) (whole.run.rise (edge_of f.0) k))
-              | inr y ↦ subst (λ (p : Point). On w (l.edge (edge_of f.0)) (point p)) y (high_on w (l.edge (edge_of f.0)) (whole.run.rise (edge_of f.0) k))
+            a.clear a.z a.z_on (edge_of f.0) k
+            (λ y. n (sym (ap l.owner y) ∙ is.tube_owner i h f.0 f.1))
+            (on_same w (l.edge (edge_of f.0)) (point q) a.z (same_sym a.z (point q) e)
+            (place_point q) Z (elim f.2 [
+              | inl y ↦ subst (λ (p : Point). On w (l.edge (edge_of f.0)) (point p)) y
+                  (low_on w (l.edge (edge_of f.0)) (whole.run.rise (edge_of f.0) k))
+              | inr y ↦ subst (λ (p : Point). On w (l.edge (edge_of f.0)) (point p)) y
+                  (high_on w (l.edge (edge_of f.0)) (whole.run.rise (edge_of f.0) k))
             ]))
 
     pub wall_faces : (x : Vector) → Place x → IsOffEdges r x → Beside r g (sector r x) → In i x
         → Has g (l.tube i).halves
     wall_faces x X off beside inside =
         let (s, o, a) = across_edge d l is settled w steps swept g fits in
-        let k = beside_linked r whole.run whole.law g (sector r x) (sector r s) (cell_is r whole.run whole.law x X) (cell_is r whole.run whole.law s a.s_place) beside a.s_beside in
+        let k = beside_linked r whole.run whole.law g (sector r x) (sector r s)
+        (cell_is r whole.run whole.law x X)
+        (cell_is r whole.run whole.law s a.s_place) beside a.s_beside in
         let at_s = linked_in i h x s X a.s_place off a.s_off k inside in
         elim (decide_number (l.owner (edge_of g)) i) [
           | inl q ↦ own_wall s o a at_s q
@@ -130,8 +151,12 @@ module _ (d : Plan) (l : EdgeList) (is : IsEdgeList d l) (settled : IsSettled d 
   connected_faces i h g f m fits c =
       let (s, o, a) = across_edge d l is settled w steps swept g ((is.tubes i h).fits g m) in
       let (x, y, b) = across_edge d l is settled w steps swept f fits in
-      let k = connected_linked r whole.run whole.law g f c (sector r s) (sector r x) (cell_is r whole.run whole.law s a.s_place) (cell_is r whole.run whole.law x b.s_place) a.s_beside b.s_beside in
-      wall_faces i h f fits x b.s_place b.s_off b.s_beside (linked_in i h s x a.s_place b.s_place a.s_off b.s_off k (left_inside d l is settled w steps swept i h g m s o a))
+      let k = connected_linked r whole.run whole.law g f c (sector r s) (sector r x)
+      (cell_is r whole.run whole.law s a.s_place)
+      (cell_is r whole.run whole.law x b.s_place) a.s_beside b.s_beside in
+      wall_faces i h f fits x b.s_place b.s_off b.s_beside
+      (linked_in i h s x a.s_place b.s_place a.s_off b.s_off k
+      (left_inside d l is settled w steps swept i h g m s o a))
 
   -- ---- the tube is bounded: before all events there is none of it
   lead_sum : (t : Tile) (v : Vector)
@@ -149,7 +174,8 @@ module _ (d : Plan) (l : EdgeList) (is : IsEdgeList d l) (settled : IsSettled d 
       → ((j : ℕ) → j < r.steps → sweep w v <ℤ (reach r j *ℤ v.n)) → In i v → ⊥
   none_before i h v V before (t, m, inside) =
       let tube = is.tubes i h in
-      let left = each_has (λ t. IsLeftTile t) (tiles_of (l.tube i)) t (all_left d l is settled w steps swept i h) m in
+      let left = each_has (λ t. IsLeftTile t) (tiles_of (l.tube i)) t
+      (all_left d l is settled w steps swept i h) m in
       let c = tile_corners (l.tube i).arc.from ((l.tube i).bay ∷ (l.tube i).bays) t m in
       let s = triangle_within t v V left inside in
       let sum = sides_sum t v in
@@ -161,15 +187,18 @@ module _ (d : Plan) (l : EdgeList) (is : IsEdgeList d l) (settled : IsSettled d 
           → pos 0 <ℤ lead w q v
       ahead q a =
           let tube = is.tubes i h in
-          let g = corner_edge l.edge (bounds (l.tube i).arc.from ((l.tube i).bay ∷ (l.tube i).bays)) (l.tube i).halves q tube.bounds a in
+          let g = corner_edge l.edge (bounds (l.tube i).arc.from ((l.tube i).bay ∷ (l.tube i).bays))
+          (l.tube i).halves q tube.bounds a in
           let j = end_event r whole (edge_of g.0) q (tube.fits g.0 g.1) g.2 in
-          lead_after w q v (subst (λ (p : Point). sweep w v <ℤ (sweep w (point p) *ℤ v.n)) j.2 (before j.0 j.1))
+          lead_after w q v
+          (subst (λ (p : Point). sweep w v <ℤ (sweep w (point p) *ℤ v.n)) j.2 (before j.0 j.1))
 
   pub no_border : (i : ℕ) → IsHalfArc d i → (g f : Half) → Has g (l.tube i).halves → Connected r g f
       → Touches r f → ⊥
   no_border i h g f m c t =
       let (s, o, a) = across_edge d l is settled w steps swept g ((is.tubes i h).fits g m) in
-      let k = connected_linked r whole.run whole.law g f c (sector r s) t.0 (cell_is r whole.run whole.law s a.s_place) t.1 a.s_beside t.2 in
+      let k = connected_linked r whole.run whole.law g f c (sector r s) t.0
+      (cell_is r whole.run whole.law s a.s_place) t.1 a.s_beside t.2 in
       let b = border_linked r whole.run whole.law t.0 t.1 t.3 in
       let first : IsSector r corner = record { strip = omega arith; index = omega arith } in
       let (v, x) = centre r whole.run whole.law corner first in
@@ -177,12 +206,17 @@ module _ (d : Plan) (l : EdgeList) (is : IsEdgeList d l) (settled : IsSettled d 
       let off = centre_off r whole.run whole.law corner v (omega arith) x in
       let e = centre_cell r whole.run whole.law corner v first x in
       none_before i h v V (λ j n. x.inside.to j (omega arith) n)
-      (linked_in i h s v a.s_place V a.s_off off (subst (λ (c : Sector). Linked r (sector r s) c) (sym e) (linked_join r (sector r s) t.0 corner k b)) (left_inside d l is settled w steps swept i h g m s o a))
+      (linked_in i h s v a.s_place V a.s_off off
+      (subst (λ (c : Sector). Linked r (sector r s) c) (sym e)
+      (linked_join r (sector r s) t.0 corner k b))
+      (left_inside d l is settled w steps swept i h g m s o a))
 
   pub own_face : (face : Half → ℕ) → IsFaces r face → (i : ℕ) → IsHalfArc d i → (g f : Half)
       → Has g (l.tube i).halves → edge_of f < l.edges → face g ≡ face f → Has f (l.tube i).halves
-  own_face face faces i h g f m fits e = connected_faces i h g f m fits (faces.one g f ((is.tubes i h).fits g m) fits e)
+  own_face face faces i h g f m fits e =
+      connected_faces i h g f m fits (faces.one g f ((is.tubes i h).fits g m) fits e)
 
   pub not_outer : (face : Half → ℕ) → IsFaces r face → (i : ℕ) → IsHalfArc d i → (g : Half)
       → Has g (l.tube i).halves → face g ≡ 0 → ⊥
-  not_outer face faces i h g m e = let t = faces.outside g ((is.tubes i h).fits g m) e in no_border i h g t.0 m t.1 t.2
+  not_outer face faces i h g m e =
+      let t = faces.outside g ((is.tubes i h).fits g m) e in no_border i h g t.0 m t.1 t.2

@@ -1,4 +1,5 @@
--- A settled drawing keeps the rules on tubes: with face numbers each tube has one face within, which has no other half-edges and is not the
+-- A settled drawing keeps the rules on tubes: with face numbers each tube has one face within,
+-- which has no other half-edges and is not the
 -- outer one, and one face along each chain.
 use Rattle.std.proofs.Common.{◌≡◌, ℕ, ◌⊎◌, inl, inr, List, [], ◌∷◌, map, ℤ, pos, ◌<ℤ◌, ◌≤ℤ◌, refl}
 use Rattle.std.proofs.Common.{arith, ap, sym, ◌∙◌, subst}
@@ -47,11 +48,14 @@ chains x [] m = absurd m
 chains x (g ∷ []) m = inr m
 chains x (g ∷ (h ∷ rest)) (inl e) = inl (inl e)
 chains x (g ∷ (h ∷ rest)) (inr (inl e)) = inr (inl e)
-chains x (g ∷ (h ∷ rest)) (inr (inr m)) = elim (chains x rest m) [ inl y ↦ inl (inr y) | inr y ↦ inr (inr y) ]
+chains x (g ∷ (h ∷ rest)) (inr (inr m)) =
+    elim (chains x rest m) [ inl y ↦ inl (inr y) | inr y ↦ inr (inr y) ]
 
 -- ---- what neighbours along a chain share, the chain shares
 module _ (E : ℕ → Edge) (h : HalfArc) (Ours : Half → Type 0) (F : Half → ℕ)
-    (step : (g f : Half) → Ours g → Ours f → (way E g).high ≡ (way E f).low → pos 0 <ℤ along h (point (way E f).low) → along h (point (way E f).low) <ℤ chord h → F g ≡ F f) where
+    (step : (g f : Half) → Ours g → Ours f → (way E g).high ≡ (way E f).low
+    → pos 0 <ℤ along h (point (way E f).low) → along h (point (way E f).low) <ℤ chord h
+    → F g ≡ F f) where
   inner_same : (p u : Point) (ks : List Bay) (hs : List Half) → Matches E (fence p u ks) hs
       → ((x : Half) → Has x hs → Ours x) → pos 0 <ℤ along h (point u)
       → along h (point u) <ℤ along h (point p) → along h (point p) ≤ℤ chord h → Rests h p ks
@@ -67,10 +71,14 @@ module _ (E : ℕ → Edge) (h : HalfArc) (Ours : Half → Type 0) (F : Half →
       let end = before_end h p k ks r in
       let low_y : p ≡ (way E y).low = ap (λ (e : Edge). e.low) m.0 in
       let at_p = ap (λ (q : Point). along h (point q)) low_y in
-      let first = step g y og (ours y (inl refl)) (at_g ∙ low_y) (omega (arith, ints, at_p, low, up)) (omega (arith, ints, at_p, on1, on2, end)) in
+      let first = step g y og (ours y (inl refl)) (at_g ∙ low_y)
+      (omega (arith, ints, at_p, low, up)) (omega (arith, ints, at_p, on1, on2, end)) in
       elim n [
         | inl e ↦ first ∙ sym (ap F e)
-        | inr q ↦ first ∙ inner_same k.inner k.outer ks hs m.1.1 (λ v w. ours v (inr (inr w))) (omega (arith, ints, low, up, on1)) on2 end (rests_after h p k ks r) y (ours y (inl refl)) (sym (ap (λ (e : Edge). e.high) m.0)) x q
+        | inr q ↦ first
+            ∙ inner_same k.inner k.outer ks hs m.1.1 (λ v w. ours v (inr (inr w)))
+            (omega (arith, ints, low, up, on1)) on2 end (rests_after h p k ks r) y
+            (ours y (inl refl)) (sym (ap (λ (e : Edge). e.high) m.0)) x q
       ]
 
   outer_same : (p u : Point) (ks : List Bay) (hs : List Half) → Matches E (fence p u ks) hs
@@ -81,7 +89,8 @@ module _ (E : ℕ → Edge) (h : HalfArc) (Ours : Half → Type 0) (F : Half →
   outer_same p u [] (y ∷ []) m ours low up top r g og at_g x (inl e) =
       let high_y : u ≡ (way E y).high = ap (λ (e : Edge). e.high) m.0 in
       let at_u = ap (λ (q : Point). along h (point q)) at_g in
-      ap F e ∙ step y g (ours y (inl refl)) og (sym high_y ∙ sym at_g) (omega (arith, ints, at_u, low)) (omega (arith, ints, at_u, up, top))
+      ap F e ∙ step y g (ours y (inl refl)) og (sym high_y ∙ sym at_g)
+      (omega (arith, ints, at_u, low)) (omega (arith, ints, at_u, up, top))
   outer_same p u [] (y ∷ []) m ours low up top r g og at_g x (inr n) = absurd n
   outer_same p u [] (y ∷ (z ∷ hs)) m ours low up top r g og at_g x n = absurd m.1
   outer_same p u (k ∷ ks) [] m ours low up top r g og at_g x n = absurd m
@@ -92,14 +101,18 @@ module _ (E : ℕ → Edge) (h : HalfArc) (Ours : Half → Type 0) (F : Half →
       let end = before_end h p k ks r in
       let high_z : u ≡ (way E z).high = ap (λ (e : Edge). e.high) m.1.0 in
       let at_u = ap (λ (q : Point). along h (point q)) at_g in
-      let last = step z g (ours z (inr (inl refl))) og (sym high_z ∙ sym at_g) (omega (arith, ints, at_u, low)) (omega (arith, ints, at_u, up, top)) in
+      let last = step z g (ours z (inr (inl refl))) og (sym high_z ∙ sym at_g)
+      (omega (arith, ints, at_u, low)) (omega (arith, ints, at_u, up, top)) in
       elim n [
         | inl e ↦ ap F e ∙ last
-        | inr q ↦ outer_same k.inner k.outer ks hs m.1.1 (λ v w. ours v (inr (inr w))) (omega (arith, ints, low, up, on1)) on2 end (rests_after h p k ks r) z (ours z (inr (inl refl))) (sym (ap (λ (e : Edge). e.low) m.1.0)) x q ∙ last
+        | inr q ↦ outer_same k.inner k.outer ks hs m.1.1 (λ v w. ours v (inr (inr w)))
+            (omega (arith, ints, low, up, on1)) on2 end (rests_after h p k ks r) z
+            (ours z (inr (inl refl))) (sym (ap (λ (e : Edge). e.low) m.1.0)) x q ∙ last
       ]
 
 -- the first half-edge of each chain, and what the chains share with it
-pub record AreChains (E : ℕ → Edge) (a : Point) (k : Bay) (Ours : Half → Type 0) (F : Half → ℕ) (hs : List Half) : Type 0 where
+pub record AreChains (E : ℕ → Edge) (a : Point) (k : Bay) (Ours : Half → Type 0) (F : Half → ℕ)
+    (hs : List Half) : Type 0 where
   pub g : Half
   pub o : Half
   pub g_ours : Ours g
@@ -110,7 +123,9 @@ pub record AreChains (E : ℕ → Edge) (a : Point) (k : Bay) (Ours : Half → T
   pub outer : (x : Half) → Has x (outer_halves hs) → F x ≡ F o
 
 module _ (E : ℕ → Edge) (h : HalfArc) (Ours : Half → Type 0) (F : Half → ℕ)
-    (step : (g f : Half) → Ours g → Ours f → (way E g).high ≡ (way E f).low → pos 0 <ℤ along h (point (way E f).low) → along h (point (way E f).low) <ℤ chord h → F g ≡ F f) where
+    (step : (g f : Half) → Ours g → Ours f → (way E g).high ≡ (way E f).low
+    → pos 0 <ℤ along h (point (way E f).low) → along h (point (way E f).low) <ℤ chord h
+    → F g ≡ F f) where
   chains_same : (k : Bay) (ks : List Bay) (hs : List Half) → Matches E (bounds h.from (k ∷ ks)) hs
       → ((x : Half) → Has x hs → Ours x) → IsRest h h.from k ks → AreChains E h.from k Ours F hs
   chains_same k ks [] m ours r = absurd m
@@ -130,15 +145,21 @@ module _ (E : ℕ → Edge) (h : HalfArc) (Ours : Half → Type 0) (F : Half →
         o_way = m.1.0;
         inner = λ x n. elim n [
           | inl e ↦ sym (ap F e)
-          | inr q ↦ inner_same E h Ours F step k.inner k.outer ks hs m.1.1 (λ v w. ours v (inr (inr w))) low on2 end (rests_after h h.from k ks r) y (ours y (inl refl)) (sym (ap (λ (e : Edge). e.high) m.0)) x q
+          | inr q ↦ inner_same E h Ours F step k.inner k.outer ks hs m.1.1
+              (λ v w. ours v (inr (inr w))) low on2 end (rests_after h h.from k ks r) y
+              (ours y (inl refl)) (sym (ap (λ (e : Edge). e.high) m.0)) x q
         ];
         outer = λ x n. elim n [
           | inl e ↦ ap F e
-          | inr q ↦ outer_same E h Ours F step k.inner k.outer ks hs m.1.1 (λ v w. ours v (inr (inr w))) low on2 end (rests_after h h.from k ks r) z (ours z (inr (inl refl))) (sym (ap (λ (e : Edge). e.low) m.1.0)) x q
+          | inr q ↦ outer_same E h Ours F step k.inner k.outer ks hs m.1.1
+              (λ v w. ours v (inr (inr w))) low on2 end (rests_after h h.from k ks r) z
+              (ours z (inr (inl refl))) (sym (ap (λ (e : Edge). e.low) m.1.0)) x q
         ];
       }
 
-module _ (d : Plan) (l : EdgeList) (is : IsEdgeList d l) (settled : IsSettled d l) (steps : List Step) (complete : Run l.edges l.edge steps) (w : ℤ) (swept : WeighedRun w l.edges l.edge steps)
+module _ (d : Plan) (l : EdgeList) (is : IsEdgeList d l) (settled : IsSettled d l)
+    (steps : List Step) (complete : Run l.edges l.edge steps) (w : ℤ)
+    (swept : WeighedRun w l.edges l.edge steps)
     (face : Half → ℕ) (faces : IsFaces (replay w l.edges l.edge steps) face) where
   abbrev r : Replay
   r = replay w l.edges l.edge steps
@@ -150,7 +171,9 @@ module _ (d : Plan) (l : EdgeList) (is : IsEdgeList d l) (settled : IsSettled d 
   next_face : (g f : Half) → Next r g f → face g ≡ face f
   next_face g f n =
       let (c, e, C, D, bc, bd, k) = next_cells r whole.run whole.law f g n in
-      sym (beside_face r whole.run whole.law face faces g c C bc) ∙ (linked_is_face r whole.run whole.law face faces c e C D).0 k ∙ beside_face r whole.run whole.law face faces f e D bd
+      sym (beside_face r whole.run whole.law face faces g c C bc)
+      ∙ (linked_is_face r whole.run whole.law face faces c e C D).0 k
+      ∙ beside_face r whole.run whole.law face faces f e D bd
 
   module _ (i : ℕ) (h : IsHalfArc d i) where
     abbrev t : DrawnTube
@@ -166,21 +189,31 @@ module _ (d : Plan) (l : EdgeList) (is : IsEdgeList d l) (settled : IsSettled d 
     middle : (q : Point) → pos 0 <ℤ along t.arc (point q) → along t.arc (point q) <ℤ chord t.arc
         → IsEndOf (curve d i) q → ⊥
     middle q low high e = elim (ends_arc l.edges l.edge (curve d i) t tube q e) [
-      | inl x ↦ let y = ap (λ (p : Point). along t.arc (point p)) x in let f = along-from t.arc in omega (arith, ints, y, f, low)
-      | inr x ↦ let y = ap (λ (p : Point). along t.arc (point p)) (x ∙ tip_is t.bay t.bays t.arc.to tube.tube.ends) in let f = along-to t.arc in omega (arith, ints, y, f, high)
+      | inl x ↦ let y = ap (λ (p : Point). along t.arc (point p)) x in let f = along-from t.arc in
+          omega (arith, ints, y, f, low)
+      | inr x ↦ let y =
+          ap (λ (p : Point). along t.arc (point p)) (x
+          ∙ tip_is t.bay t.bays t.arc.to tube.tube.ends) in let f = along-to t.arc in
+          omega (arith, ints, y, f, high)
     ]
 
     matches : Matches l.edge (bounds t.arc.from (t.bay ∷ t.bays)) t.halves
-    matches = subst (λ (es : List Edge). Matches l.edge es t.halves) (sym tube.bounds) (matches_map l.edge t.halves)
+    matches = subst (λ (es : List Edge). Matches l.edge es t.halves) (sym tube.bounds)
+        (matches_map l.edge t.halves)
 
     inside : AreChains l.edge t.arc.from t.bay Ours face t.halves
     inside = chains_same l.edge t.arc Ours face
-        (λ g f mg mf meet low high. next_face g f (next_inside d l is settled steps complete w swept i h g f mg mf meet (middle (way l.edge f).low low high)))
+        (λ g f mg mf meet low high. next_face g f
+        (next_inside d l is settled steps complete w swept i h g f mg mf meet
+        (middle (way l.edge f).low low high)))
         t.bay t.bays t.halves matches (λ x m. m) (tube_rest t.arc t.bay t.bays tube.tube)
 
     outside : AreChains l.edge t.arc.from t.bay Ours (λ g. face (twin g)) t.halves
     outside = chains_same l.edge t.arc Ours (λ g. face (twin g))
-        (λ g f mg mf meet low high. sym (next_face (twin f) (twin g) (next_outside d l is settled steps complete w swept i h g f mg mf meet (middle (way l.edge f).low low high))))
+        (λ g f mg mf meet low high. sym
+        (next_face (twin f) (twin g)
+        (next_outside d l is settled steps complete w swept i h g f mg mf meet
+        (middle (way l.edge f).low low high))))
         t.bay t.bays t.halves matches (λ x m. m) (tube_rest t.arc t.bay t.bays tube.tube)
 
     to_first : (x : Half) → Has x t.halves → face x ≡ face inside.g
@@ -188,7 +221,10 @@ module _ (d : Plan) (l : EdgeList) (is : IsEdgeList d l) (settled : IsSettled d 
         let c = inside in
         elim (chains x t.halves m) [
           | inl n ↦ sym (c.inner x n)
-          | inr n ↦ c.outer x n ∙ next_face c.o c.g (first_next d l is settled steps complete w swept i h c.g c.o c.g_ours c.o_ours c.g_way c.o_way)
+          | inr n ↦ c.outer x n
+              ∙ next_face c.o c.g
+              (first_next d l is settled steps complete w swept i h c.g c.o c.g_ours c.o_ours
+              c.g_way c.o_way)
         ]
 
     pub tube_faces : AreTubeFaces l face i

@@ -33,10 +33,13 @@ lifted_sweep w d t z =
 
 pub lifted_side : (w d t : ℤ) (z : Vector) (e : Edge)
     → from_height d t (wall w z e) ≡ side e (lifted w d t z)
-lifted_side w d t z e = sym (side-mix e d z t (up w) ∙ ap (λ (x : ℤ). (d *ℤ side e z) +ℤ (t *ℤ x)) (side-up w e))
+lifted_side w d t z e =
+    sym (side-mix e d z t (up w) ∙ ap (λ (x : ℤ). (d *ℤ side e z) +ℤ (t *ℤ x)) (side-up w e))
 
 pub lifted_scale : (c d n t : ℤ) → c *ℤ ((d *ℤ n) +ℤ (t *ℤ pos 0)) ≡ d *ℤ (c *ℤ n)
-lifted_scale c d n t = ring (times (at 0) (plus (times (at 1) (at 2)) (times (at 3) (num (pos 0))))) (times (at 1) (times (at 0) (at 2))) (vars (c ∷ d ∷ n ∷ t ∷ [])) refl
+lifted_scale c d n t =
+    ring (times (at 0) (plus (times (at 1) (at 2)) (times (at 3) (num (pos 0)))))
+    (times (at 1) (times (at 0) (at 2))) (vars (c ∷ d ∷ n ∷ t ∷ [])) refl
 
 pub lifted_place : (w d t : ℤ) (z : Vector) → pos 0 <ℤ d → Place z → Place (lifted w d t z)
 lifted_place w d t z D Z =
@@ -49,8 +52,10 @@ pub lifted_inside : (r : Replay) (k : ℕ) (d t : ℤ) (z : Vector) → pos 0 <�
 lifted_inside r k d t z D h =
     let s = lifted_sweep r.weight d t z in
     record {
-      from = λ (j : ℕ) (a : j < k). let f = times_lt d _ _ D (h.from j a) in let e = lifted_scale (reach r j) d z.n t in omega (arith, ints, f, e, s);
-      to = λ (j : ℕ) (a : k ≤ j) (b : j < r.steps). let f = times_lt d _ _ D (h.to j a b) in let e = lifted_scale (reach r j) d z.n t in omega (arith, ints, f, e, s);
+      from = λ (j : ℕ) (a : j < k). let f = times_lt d _ _ D (h.from j a) in
+          let e = lifted_scale (reach r j) d z.n t in omega (arith, ints, f, e, s);
+      to = λ (j : ℕ) (a : k ≤ j) (b : j < r.steps). let f = times_lt d _ _ D (h.to j a b) in
+          let e = lifted_scale (reach r j) d z.n t in omega (arith, ints, f, e, s);
     }
 
 -- ---- walls in order
@@ -58,7 +63,8 @@ pub walls_rise : (w : ℤ) (E : ℕ → Edge) (z : Vector) (es : List ℕ)
     → ((e : ℕ) → Has e es → pos 0 <ℤ rise w (E e)) → (b : Wall)
     → Has b (map (λ e. wall w z (E e)) es) → pos 0 <ℤ b.rise
 walls_rise w E z [] h b m = absurd m
-walls_rise w E z (e ∷ es) h b (inl f) = subst (λ (x : Wall). pos 0 <ℤ x.rise) (sym f) (h e (inl refl))
+walls_rise w E z (e ∷ es) h b (inl f) =
+    subst (λ (x : Wall). pos 0 <ℤ x.rise) (sym f) (h e (inl refl))
 walls_rise w E z (e ∷ es) h b (inr m) = walls_rise w E z es (λ d n. h d (inr n)) b m
 
 pub walls_ordered : (w : ℤ) (E : ℕ → Edge) (z : Vector) (es : List ℕ)
@@ -94,7 +100,8 @@ module _ (r : Replay) (run : IsRun r) where
         omega (arith, ints),
         record {
           from = λ (j : ℕ) (a : j < 0). absurd (omega arith);
-          to = λ (j : ℕ) (a : 0 ≤ j) (b : j < r.steps). let m = reach_most r run 0 j a b in omega (arith, ints, m, e);
+          to = λ (j : ℕ) (a : 0 ≤ j) (b : j < r.steps). let m = reach_most r run 0 j a b in
+              omega (arith, ints, m, e);
         },
       )
   inside_some (suc i) h = by_last (suc i) r.steps (omega arith)
@@ -105,8 +112,10 @@ module _ (r : Replay) (run : IsRun r) where
         z,
         omega (arith, ints),
         record {
-          from = λ (j : ℕ) (a : j < suc i). let m = reach_most r run j i (omega arith) (omega arith) in omega (arith, ints, m, e, u);
-          to = λ (j : ℕ) (a : suc i ≤ j) (b : j < r.steps). let m = reach_most r run (suc i) j a b in omega (arith, ints, m, e, u);
+          from = λ (j : ℕ) (a : j < suc i). let m =
+              reach_most r run j i (omega arith) (omega arith) in omega (arith, ints, m, e, u);
+          to = λ (j : ℕ) (a : suc i ≤ j) (b : j < r.steps). let m =
+              reach_most r run (suc i) j a b in omega (arith, ints, m, e, u);
         },
       ))
       (λ (l : suc i ≡ r.steps).
@@ -115,7 +124,8 @@ module _ (r : Replay) (run : IsRun r) where
         z,
         omega (arith, ints),
         record {
-          from = λ (j : ℕ) (a : j < suc i). let m = reach_most r run j i (omega arith) (omega arith) in omega (arith, ints, m, e);
+          from = λ (j : ℕ) (a : j < suc i). let m =
+              reach_most r run j i (omega arith) (omega arith) in omega (arith, ints, m, e);
           to = λ (j : ℕ) (a : suc i ≤ j) (b : j < r.steps). absurd (omega arith);
         },
       ))
@@ -131,11 +141,17 @@ module _ (r : Replay) (run : IsRun r) (law : IsLawful r) where
       let z = s.0 in
       let o = law.ordered k z h.strip s.1 s.2 in
       let n = length_walls w r.edge z es in
-      let m = room c.index (map (λ e. wall w z (r.edge e)) es) (let i = h.index in omega (arith, n, i)) (walls_rise w r.edge z es (λ e l. run.rise e (law.live k e h.strip l))) (walls_ordered w r.edge z es o) in (
+      let m = room c.index (map (λ e. wall w z (r.edge e)) es) (let i = h.index in
+      omega (arith, n, i))
+      (walls_rise w r.edge z es (λ e l. run.rise e (law.live k e h.strip l)))
+      (walls_ordered w r.edge z es o) in (
         lifted w m.d m.t z,
         record {
           place = lifted_place w m.d m.t z m.whole s.1;
           inside = lifted_inside r k m.d m.t z m.whole s.2;
-          parts = parts_like (λ e. from_height m.d m.t (wall w z (r.edge e))) (λ e. side (r.edge e) (lifted w m.d m.t z)) c.index es (λ e. lifted_side w m.d m.t z (r.edge e)) (parts_map (from_height m.d m.t) (λ e. wall w z (r.edge e)) c.index es m.parts);
+          parts = parts_like (λ e. from_height m.d m.t (wall w z (r.edge e)))
+              (λ e. side (r.edge e) (lifted w m.d m.t z)) c.index es
+              (λ e. lifted_side w m.d m.t z (r.edge e))
+              (parts_map (from_height m.d m.t) (λ e. wall w z (r.edge e)) c.index es m.parts);
         },
       )

@@ -34,16 +34,25 @@ mix_second : (t : ℤ) (p q : Vector) → Same (mix (pos 0) p t q) q
 mix_second t p q = record { x = one p.x p.n q.x q.n t; y = one p.y p.n q.y q.n t }
   where
     one : (x n y m t : ℤ) → ((pos 0 *ℤ x) +ℤ (t *ℤ y)) *ℤ m ≡ y *ℤ ((pos 0 *ℤ n) +ℤ (t *ℤ m))
-    one x n y m t = ring (times (plus (times (num (pos 0)) (at 0)) (times (at 4) (at 2))) (at 3)) (times (at 2) (plus (times (num (pos 0)) (at 1)) (times (at 4) (at 3)))) (vars (x ∷ n ∷ y ∷ m ∷ t ∷ [])) refl
+    one x n y m t =
+        ring (times (plus (times (num (pos 0)) (at 0)) (times (at 4) (at 2))) (at 3))
+        (times (at 2) (plus (times (num (pos 0)) (at 1)) (times (at 4) (at 3))))
+        (vars (x ∷ n ∷ y ∷ m ∷ t ∷ [])) refl
 
 mix_first : (s : ℤ) (p q : Vector) → Same (mix s p (pos 0) q) p
 mix_first s p q = record { x = one p.x p.n q.x q.n s; y = one p.y p.n q.y q.n s }
   where
     one : (x n y m s : ℤ) → ((s *ℤ x) +ℤ (pos 0 *ℤ y)) *ℤ n ≡ x *ℤ ((s *ℤ n) +ℤ (pos 0 *ℤ m))
-    one x n y m s = ring (times (plus (times (at 4) (at 0)) (times (num (pos 0)) (at 2))) (at 1)) (times (at 0) (plus (times (at 4) (at 1)) (times (num (pos 0)) (at 3)))) (vars (x ∷ n ∷ y ∷ m ∷ s ∷ [])) refl
+    one x n y m s =
+        ring (times (plus (times (at 4) (at 0)) (times (num (pos 0)) (at 2))) (at 1))
+        (times (at 0) (plus (times (at 4) (at 1)) (times (num (pos 0)) (at 3))))
+        (vars (x ∷ n ∷ y ∷ m ∷ s ∷ [])) refl
 
 mix_reach : (c s a t b : ℤ) → c *ℤ ((s *ℤ a) +ℤ (t *ℤ b)) ≡ (s *ℤ (c *ℤ a)) +ℤ (t *ℤ (c *ℤ b))
-mix_reach c s a t b = ring (times (at 0) (plus (times (at 1) (at 2)) (times (at 3) (at 4)))) (plus (times (at 1) (times (at 0) (at 2))) (times (at 3) (times (at 0) (at 4)))) (vars (c ∷ s ∷ a ∷ t ∷ b ∷ [])) refl
+mix_reach c s a t b =
+    ring (times (at 0) (plus (times (at 1) (at 2)) (times (at 3) (at 4))))
+    (plus (times (at 1) (times (at 0) (at 2))) (times (at 3) (times (at 0) (at 4))))
+    (vars (c ∷ s ∷ a ∷ t ∷ b ∷ [])) refl
 
 module _ (r : Replay) (run : IsRun r) (law : IsLawful r) where
   -- an edge with a place strictly inside a strip is in its live list
@@ -103,20 +112,23 @@ module _ (r : Replay) (run : IsRun r) (law : IsLawful r) where
       → ((j : ℕ) → k ≤ j → j < r.steps → sweep r.weight p <ℤ (reach r j *ℤ p.n))
       → ((j : ℕ) → j < k → (reach r j *ℤ q.n) <ℤ sweep r.weight q)
       → ((e : ℕ) → Has e (r.list k) → Agrees (r.edge e) p q) → IsFree r p q
-  free_inside k p q h P Q off_p off_q a b right left agree e l = mix_clear r.weight (r.edge e) p q P Q hit
+  free_inside k p q h P Q off_p off_q a b right left agree e l =
+      mix_clear r.weight (r.edge e) p q P Q hit
     where
       inside : (s t : ℤ) → pos 0 <ℤ s → pos 0 <ℤ t → IsBetweenEvents r k (mix s p t q)
       inside s t hs ht =
           let m = sweep-mix r.weight s p t q in
           record {
             from = λ (j : ℕ) (c : j < k).
-                let f = times_le s (reach r j *ℤ p.n) (sweep r.weight p) (omega (arith, ints)) (a.from j c) in
+                let f = times_le s (reach r j *ℤ p.n) (sweep r.weight p) (omega (arith, ints))
+                (a.from j c) in
                 let g = times_lt t (reach r j *ℤ q.n) (sweep r.weight q) ht (left j c) in
                 let i = mix_reach (reach r j) s p.n t q.n in
                 omega (arith, ints, m, f, g, i);
             to = λ (j : ℕ) (c : k ≤ j) (d : j < r.steps).
                 let f = times_lt s (sweep r.weight p) (reach r j *ℤ p.n) hs (right j c d) in
-                let g = times_le t (sweep r.weight q) (reach r j *ℤ q.n) (omega (arith, ints)) (b.to j c d) in
+                let g = times_le t (sweep r.weight q) (reach r j *ℤ q.n) (omega (arith, ints))
+                (b.to j c d) in
                 let i = mix_reach (reach r j) s p.n t q.n in
                 omega (arith, ints, m, f, g, i);
           }
@@ -126,8 +138,12 @@ module _ (r : Replay) (run : IsRun r) (law : IsLawful r) where
           let m = side-mix (r.edge e) s p t q in
           let z = on.line in
           elim (agree e (in_live k e (mix s p t q) h l (inside s t hs ht) on)) [
-            | inl c ↦ (let f = product_positive s (side (r.edge e) p) hs c.0 in let g = product_positive t (side (r.edge e) q) ht c.1 in omega (arith, ints, m, z, f, g))
-            | inr c ↦ (let f = product_negative s (side (r.edge e) p) hs c.0 in let g = product_negative t (side (r.edge e) q) ht c.1 in omega (arith, ints, m, z, f, g))
+            | inl c ↦ (let f = product_positive s (side (r.edge e) p) hs c.0 in
+                let g = product_positive t (side (r.edge e) q) ht c.1 in
+                omega (arith, ints, m, z, f, g))
+            | inr c ↦ (let f = product_negative s (side (r.edge e) p) hs c.0 in
+                let g = product_negative t (side (r.edge e) q) ht c.1 in
+                omega (arith, ints, m, z, f, g))
           ]
 
       hit : (s t : ℤ) → pos 0 ≤ℤ s → pos 0 ≤ℤ t → pos 0 <ℤ (s +ℤ t)
@@ -137,11 +153,13 @@ module _ (r : Replay) (run : IsRun r) (law : IsLawful r) where
           (λ (y : t ≤ℤ pos 0).
           let z : t ≡ pos 0 = omega (arith, ints) in
           let on2 = subst (λ (i : ℤ). On r.weight (r.edge e) (mix s p i q)) z on in
-          off_p e l (on_same r.weight (r.edge e) (mix s p (pos 0) q) p (mix_first s p q) (mix_place s p (pos 0) q P Q hs (omega (arith, ints)) (omega (arith, ints))) P on2)))
+          off_p e l (on_same r.weight (r.edge e) (mix s p (pos 0) q) p (mix_first s p q)
+          (mix_place s p (pos 0) q P Q hs (omega (arith, ints)) (omega (arith, ints))) P on2)))
           (λ (x : s ≤ℤ pos 0).
           let z : s ≡ pos 0 = omega (arith, ints) in
           let on2 = subst (λ (i : ℤ). On r.weight (r.edge e) (mix i p t q)) z on in
-          off_q e l (on_same r.weight (r.edge e) (mix (pos 0) p t q) q (mix_second t p q) (mix_place (pos 0) p t q P Q (omega (arith, ints)) ht (omega (arith, ints))) Q on2))
+          off_q e l (on_same r.weight (r.edge e) (mix (pos 0) p t q) q (mix_second t p q)
+          (mix_place (pos 0) p t q P Q (omega (arith, ints)) ht (omega (arith, ints))) Q on2))
 
   -- ---- centres of cells
   pub closed_inside : (k : ℕ) (z : Vector) → IsBetweenEvents r k z → IsClosed r k z
@@ -151,7 +169,9 @@ module _ (r : Replay) (run : IsRun r) (law : IsLawful r) where
   }
 
   pub centre_off : (c : Sector) (z : Vector) → c.strip ≤ r.steps → IsCentre r c z → IsOffEdges r z
-  centre_off c z h m e l on = parts_nonzero (sides r z) c.index (r.list c.strip) m.parts e (in_live c.strip e z h l m.inside on) on.line
+  centre_off c z h m e l on =
+      parts_nonzero (sides r z) c.index (r.list c.strip) m.parts e
+      (in_live c.strip e z h l m.inside on) on.line
 
   -- a centre is in its cell
   pub centre_cell : (c : Sector) (z : Vector) → IsSector r c → IsCentre r c z → sector r z ≡ c
@@ -173,11 +193,14 @@ module _ (r : Replay) (run : IsRun r) (law : IsLawful r) where
       let k = strip r p in
       let s = strip_is r run p P in
       let f = divided_parts r p (r.list k) (law.divided k p P off s) in
-      free_inside k p z s.fits P m.place off (centre_off (sector r p) z s.fits m) (closed_strip r k p s) (closed_inside k z m.inside) s.to m.inside.from
+      free_inside k p z s.fits P m.place off (centre_off (sector r p) z s.fits m)
+      (closed_strip r k p s) (closed_inside k z m.inside) s.to m.inside.from
       (λ e l. parts_agree (sides r p) (sides r z) (raised r p (r.list k)) (r.list k) f m.parts e l)
 
   pub cell_is : (p : Vector) → Place p → IsSector r (sector r p)
-  cell_is p P = let s = strip_is r run p P in record { strip = s.fits; index = raised_most r p (r.list (strip r p)) }
+  cell_is p P =
+      let s = strip_is r run p P in
+      record { strip = s.fits; index = raised_most r p (r.list (strip r p)) }
 
   -- two places of one cell are joined
   pub one_cell : (p q : Vector) → Place p → Place q → IsOffEdges r p → IsOffEdges r q
@@ -187,4 +210,6 @@ module _ (r : Replay) (run : IsRun r) (law : IsLawful r) where
       let z = c.0 in
       let m = c.1 in
       let n : IsCentre r (sector r q) z = subst (λ (x : Sector). IsCentre r x z) e m in
-      goes p z q m.place (free_to_centre p z P off_p m) (goes z q q Q (free_back r q z Q m.place (free_to_centre q z Q off_q n)) (arrives q q record { x = refl; y = refl }))
+      goes p z q m.place (free_to_centre p z P off_p m)
+      (goes z q q Q (free_back r q z Q m.place (free_to_centre q z Q off_q n))
+      (arrives q q record { x = refl; y = refl }))

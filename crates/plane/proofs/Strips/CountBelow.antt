@@ -27,7 +27,8 @@ agrees_test e p q (inl h) = positive_is _ h.0 ∙ sym (positive_is _ h.1)
 agrees_test e p q (inr h) =
     let a = h.0 in
     let b = h.1 in
-    not_positive (side e p) (omega (arith, ints)) ∙ sym (not_positive (side e q) (omega (arith, ints)))
+    not_positive (side e p) (omega (arith, ints))
+    ∙ sym (not_positive (side e q) (omega (arith, ints)))
 
 -- ---- the count
 pub raised_agrees : (r : Replay) (p q : Vector) (es : List ℕ)
@@ -36,12 +37,14 @@ raised_agrees r p q [] h = refl
 raised_agrees r p q (e ∷ es) h =
     let a = agrees_test (r.edge e) p q (h e (inl refl)) in
     let k = raised_agrees r p q es (λ d m. h d (inr m)) in
-    ap (λ (t : Bool). cond t (suc (raised r p es)) (raised r p es)) a ∙ ap (λ (n : ℕ). cond (is_positive (side (r.edge e) q)) (suc n) n) k
+    ap (λ (t : Bool). cond t (suc (raised r p es)) (raised r p es)) a
+    ∙ ap (λ (n : ℕ). cond (is_positive (side (r.edge e) q)) (suc n) n) k
 
 pub raised_append : (r : Replay) (z : Vector) (xs ys : List ℕ)
     → raised r z (xs ++ ys) ≡ raised r z xs + raised r z ys
 raised_append r z [] ys = omega arith
-raised_append r z (e ∷ xs) ys = step (is_positive (side (r.edge e) z)) _ _ _ (raised_append r z xs ys)
+raised_append r z (e ∷ xs) ys =
+    step (is_positive (side (r.edge e) z)) _ _ _ (raised_append r z xs ys)
   where
     step : (t : Bool) (m n k : ℕ) → m ≡ n + k → cond t (suc m) m ≡ cond t (suc n) n + k
     step true m n k h = omega arith
@@ -52,14 +55,16 @@ pub raised_all : (r : Replay) (z : Vector) (es : List ℕ)
 raised_all r z [] h = refl
 raised_all r z (e ∷ es) h =
     let k = raised_all r z es (λ d m. h d (inr m)) in
-    ap (λ (t : Bool). cond t (suc (raised r z es)) (raised r z es)) (positive_is _ (h e (inl refl))) ∙ omega arith
+    ap (λ (t : Bool). cond t (suc (raised r z es)) (raised r z es)) (positive_is _ (h e (inl refl)))
+    ∙ omega arith
 
 pub raised_none : (r : Replay) (z : Vector) (es : List ℕ)
     → ((e : ℕ) → Has e es → side (r.edge e) z ≤ℤ pos 0) → raised r z es ≡ 0
 raised_none r z [] h = refl
 raised_none r z (e ∷ es) h =
     let k = raised_none r z es (λ d m. h d (inr m)) in
-    ap (λ (t : Bool). cond t (suc (raised r z es)) (raised r z es)) (not_positive _ (h e (inl refl))) ∙ k
+    ap (λ (t : Bool). cond t (suc (raised r z es)) (raised r z es))
+    (not_positive _ (h e (inl refl))) ∙ k
 
 pub raised_most : (r : Replay) (z : Vector) (es : List ℕ) → raised r z es ≤ length es
 raised_most r z [] = omega arith

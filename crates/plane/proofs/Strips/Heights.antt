@@ -31,7 +31,9 @@ tied : (d t a b m n : ℤ)
     → a *ℤ ((d *ℤ n) +ℤ (t *ℤ b)) ≡ (d *ℤ ((a *ℤ n) -ℤ (b *ℤ m))) +ℤ (b *ℤ ((d *ℤ m) +ℤ (t *ℤ a)))
 tied d t a b m n =
     let D = at 0 in let T = at 1 in let A = at 2 in let B = at 3 in let M = at 4 in let N = at 5 in
-    ring (times A (plus (times D N) (times T B))) (plus (times D (minus (times A N) (times B M))) (times B (plus (times D M) (times T A)))) (vars (d ∷ t ∷ a ∷ b ∷ m ∷ n ∷ [])) refl
+    ring (times A (plus (times D N) (times T B)))
+    (plus (times D (minus (times A N) (times B M))) (times B (plus (times D M) (times T A))))
+    (vars (d ∷ t ∷ a ∷ b ∷ m ∷ n ∷ [])) refl
 
 -- what is under a wall is under the higher ones
 under_next : (d t : ℤ) (a b : Wall) → pos 0 <ℤ d → pos 0 <ℤ a.rise → pos 0 <ℤ b.rise → IsLower a b
@@ -71,7 +73,9 @@ below_one a A = by_lt_z a.side (pos 0)
     (λ (l : a.side <ℤ pos 0). (pos 0, omega (arith, ints)))
     (λ (l : pos 0 ≤ℤ a.side).
     let p = weight_at_most (a.side +ℤ pos 1) a.rise (omega (arith, ints)) A in
-    let e = ring (times (minus (num (pos 0)) (plus (at 0) (num (pos 1)))) (at 1)) (minus (num (pos 0)) (times (plus (at 0) (num (pos 1))) (at 1))) (vars (a.side ∷ a.rise ∷ [])) refl in
+    let e = ring (times (minus (num (pos 0)) (plus (at 0) (num (pos 1)))) (at 1))
+    (minus (num (pos 0)) (times (plus (at 0) (num (pos 1))) (at 1)))
+    (vars (a.side ∷ a.rise ∷ [])) refl in
     (pos 0 -ℤ (a.side +ℤ pos 1), omega (arith, ints, p, e)))
 
 above_one : (a : Wall) → pos 0 <ℤ a.rise → (t : ℤ) × (pos 0 <ℤ from_height (pos 1) t a)
@@ -85,20 +89,25 @@ middle_over : (a b m n : ℤ)
     → ((a +ℤ b) *ℤ m) +ℤ ((pos 0 -ℤ (m +ℤ n)) *ℤ a) ≡ pos 0 -ℤ ((a *ℤ n) -ℤ (b *ℤ m))
 middle_over a b m n =
     let A = at 0 in let B = at 1 in let M = at 2 in let N = at 3 in
-    ring (plus (times (plus A B) M) (times (minus (num (pos 0)) (plus M N)) A)) (minus (num (pos 0)) (minus (times A N) (times B M))) (vars (a ∷ b ∷ m ∷ n ∷ [])) refl
+    ring (plus (times (plus A B) M) (times (minus (num (pos 0)) (plus M N)) A))
+    (minus (num (pos 0)) (minus (times A N) (times B M))) (vars (a ∷ b ∷ m ∷ n ∷ [])) refl
 
 middle_under : (a b m n : ℤ) → ((a +ℤ b) *ℤ n) +ℤ ((pos 0 -ℤ (m +ℤ n)) *ℤ b) ≡ (a *ℤ n) -ℤ (b *ℤ m)
 middle_under a b m n =
     let A = at 0 in let B = at 1 in let M = at 2 in let N = at 3 in
-    ring (plus (times (plus A B) N) (times (minus (num (pos 0)) (plus M N)) B)) (minus (times A N) (times B M)) (vars (a ∷ b ∷ m ∷ n ∷ [])) refl
+    ring (plus (times (plus A B) N) (times (minus (num (pos 0)) (plus M N)) B))
+    (minus (times A N) (times B M)) (vars (a ∷ b ∷ m ∷ n ∷ [])) refl
 
 -- under the first wall is under all
 all_under : (d t : ℤ) → pos 0 <ℤ d → (a : Wall) (ws : List Wall)
     → ((b : Wall) → Has b (a ∷ ws) → pos 0 <ℤ b.rise) → Neighbours IsLower (a ∷ ws)
     → from_height d t a <ℤ pos 0 → Parts (from_height d t) 0 (a ∷ ws)
 all_under d t D a [] rises o h = (h, tt)
-all_under d t D a (b ∷ ws) rises o h =
-    (h, all_under d t D b ws (λ c m. rises c (inr m)) o.1 (under_next d t a b D (rises a (inl refl)) (rises b (inr (inl refl))) o.0 h))
+all_under d t D a (b ∷ ws) rises o h = (
+  h,
+  all_under d t D b ws (λ c m. rises c (inr m)) o.1
+      (under_next d t a b D (rises a (inl refl)) (rises b (inr (inl refl))) o.0 h),
+)
 
 -- in an ordered list there is room at each index
 pub room : (i : ℕ) (ws : List Wall) → i ≤ length ws → ((b : Wall) → Has b ws → pos 0 <ℤ b.rise)
@@ -122,9 +131,22 @@ room (suc zero) (a ∷ (b ∷ ws)) h rises o =
       d = a.rise +ℤ b.rise;
       t = pos 0 -ℤ (a.side +ℤ b.side);
       whole = D;
-      parts = (omega (arith, ints, e1, lower), all_under (a.rise +ℤ b.rise) (pos 0 -ℤ (a.side +ℤ b.side)) D b ws (λ c m. rises c (inr m)) o.1 (omega (arith, ints, e2, lower)));
+      parts = (
+        omega (arith, ints, e1, lower),
+        all_under (a.rise +ℤ b.rise) (pos 0 -ℤ (a.side +ℤ b.side)) D b ws
+            (λ c m. rises c (inr m)) o.1 (omega (arith, ints, e2, lower)),
+      );
     }
 room (suc (suc i)) (a ∷ []) h rises o = absurd (omega arith)
 room (suc (suc i)) (a ∷ (b ∷ ws)) h rises o =
     let k = room (suc i) (b ∷ ws) (omega arith) (λ c m. rises c (inr m)) o.1 in
-    record { d = k.d; t = k.t; whole = k.whole; parts = (over_previous k.d k.t a b k.whole (rises a (inl refl)) (rises b (inr (inl refl))) o.0 k.parts.0, k.parts) }
+    record {
+      d = k.d;
+      t = k.t;
+      whole = k.whole;
+      parts = (
+        over_previous k.d k.t a b k.whole (rises a (inl refl))
+            (rises b (inr (inl refl))) o.0 k.parts.0,
+        k.parts,
+      );
+    }

@@ -24,7 +24,8 @@ IsLevel r k o = sweep r.weight o ≡ reach r k *ℤ o.n
 pub side_from : (w : ℤ) (e : Edge) (o : Vector) (v : Point) → sweep w o ≡ sweep w (point v) *ℤ o.n
     → side e o ≡ (lift o (point v) *ℤ rise w e) +ℤ (o.n *ℤ side e (point v))
 side_from w e o v h =
-    let l = side-lift w e o (point v) (let c = product_comm o.n (sweep w (point v)) in omega (arith, ints, h, c)) in
+    let l = side-lift w e o (point v) (let c = product_comm o.n (sweep w (point v)) in
+    omega (arith, ints, h, c)) in
     omega (arith, ints, l)
 
 pub under_event : (w : ℤ) (e : Edge) (o : Vector) (v : Point) → Place o
@@ -51,27 +52,41 @@ pub at_event : (w : ℤ) (e : Edge) (o : Vector) (v : Point) → Place o
     → sweep w o ≡ sweep w (point v) *ℤ o.n → pos 0 <ℤ rise w e
     → lift o (point v) ≡ pos 0 → (e.low ≡ v) ⊎ (e.high ≡ v) → On w e o
 at_event w e o v O h u l (inl s) =
-    let z : side e (point v) ≡ pos 0 = subst (λ (p : Point). side e (point p) ≡ pos 0) s (side-low e) in
-    let low : sweep w (point e.low) *ℤ o.n ≡ sweep w (point v) *ℤ o.n = ap (λ (p : Point). sweep w (point p) *ℤ o.n) s in
+    let z : side e (point v) ≡ pos 0 = subst (λ (p : Point). side e (point p) ≡ pos 0) s
+    (side-low e) in
+    let low : sweep w (point e.low) *ℤ o.n
+    ≡ sweep w (point v) *ℤ o.n = ap (λ (p : Point). sweep w (point p) *ℤ o.n) s in
     let a = product_of_zero o.n (side e (point v)) z in
     let b = product_of_zero (rise w e) (lift o (point v)) l in
     let c = product_comm (rise w e) (lift o (point v)) in
     let f = side_from w e o v h in
-    let t = times_lt o.n (sweep w (point e.low)) (sweep w (point e.high)) O (let d = rise-is w e in omega (arith, ints, d, u)) in
+    let t = times_lt o.n (sweep w (point e.low)) (sweep w (point e.high)) O (let d = rise-is w e in
+    omega (arith, ints, d, u)) in
     let c1 = product_comm o.n (sweep w (point e.low)) in
     let c2 = product_comm o.n (sweep w (point e.high)) in
-    record { line = omega (arith, ints, a, b, c, f); low = omega (arith, ints, low, h); high = omega (arith, ints, low, h, t, c1, c2) }
+    record {
+      line = omega (arith, ints, a, b, c, f);
+      low = omega (arith, ints, low, h);
+      high = omega (arith, ints, low, h, t, c1, c2);
+    }
 at_event w e o v O h u l (inr s) =
-    let z : side e (point v) ≡ pos 0 = subst (λ (p : Point). side e (point p) ≡ pos 0) s (side-high e) in
-    let high : sweep w (point e.high) *ℤ o.n ≡ sweep w (point v) *ℤ o.n = ap (λ (p : Point). sweep w (point p) *ℤ o.n) s in
+    let z : side e (point v) ≡ pos 0 = subst (λ (p : Point). side e (point p) ≡ pos 0) s
+    (side-high e) in
+    let high : sweep w (point e.high) *ℤ o.n
+    ≡ sweep w (point v) *ℤ o.n = ap (λ (p : Point). sweep w (point p) *ℤ o.n) s in
     let a = product_of_zero o.n (side e (point v)) z in
     let b = product_of_zero (rise w e) (lift o (point v)) l in
     let c = product_comm (rise w e) (lift o (point v)) in
     let f = side_from w e o v h in
-    let t = times_lt o.n (sweep w (point e.low)) (sweep w (point e.high)) O (let d = rise-is w e in omega (arith, ints, d, u)) in
+    let t = times_lt o.n (sweep w (point e.low)) (sweep w (point e.high)) O (let d = rise-is w e in
+    omega (arith, ints, d, u)) in
     let c1 = product_comm o.n (sweep w (point e.low)) in
     let c2 = product_comm o.n (sweep w (point e.high)) in
-    record { line = omega (arith, ints, a, b, c, f); low = omega (arith, ints, high, h, t, c1, c2); high = omega (arith, ints, high, h) }
+    record {
+      line = omega (arith, ints, a, b, c, f);
+      low = omega (arith, ints, high, h, t, c1, c2);
+      high = omega (arith, ints, high, h);
+    }
 
 module _ (r : Replay) (run : IsRun r) (law : IsLawful r) where
   -- ---- which edges stand in the lists at a step
@@ -79,28 +94,38 @@ module _ (r : Replay) (run : IsRun r) (law : IsLawful r) where
   in_below k e h m = subst (λ (es : List ℕ). Has e es) (sym (run.before k h)) (has_front e _ _ m)
 
   pub in_ending : (k e : ℕ) → k < r.steps → Has e (r.step k).ending → Has e (r.list k)
-  in_ending k e h m = subst (λ (es : List ℕ). Has e es) (sym (run.before k h)) (has_back e _ _ (has_front e _ _ m))
+  in_ending k e h m =
+      subst (λ (es : List ℕ). Has e es) (sym (run.before k h)) (has_back e _ _ (has_front e _ _ m))
 
   pub in_above : (k e : ℕ) → k < r.steps → Has e (r.step k).above → Has e (r.list k)
-  in_above k e h m = subst (λ (es : List ℕ). Has e es) (sym (run.before k h)) (has_back e (r.step k).below _ (has_back e _ _ m))
+  in_above k e h m =
+      subst (λ (es : List ℕ). Has e es) (sym (run.before k h))
+      (has_back e (r.step k).below _ (has_back e _ _ m))
 
   pub in_starting : (k e : ℕ) → k < r.steps → Has e (r.step k).starting → Has e (r.list (suc k))
-  in_starting k e h m = subst (λ (es : List ℕ). Has e es) (sym (run.after k h)) (has_back e (r.step k).below _ (has_front e _ _ m))
+  in_starting k e h m =
+      subst (λ (es : List ℕ). Has e es) (sym (run.after k h))
+      (has_back e (r.step k).below _ (has_front e _ _ m))
 
   pub rise_of : (k e : ℕ) → k ≤ r.steps → Has e (r.list k) → pos 0 <ℤ rise r.weight (r.edge e)
   rise_of k e h m = run.rise e (law.live k e h m)
 
   pub ending_zero : (k e : ℕ) → k < r.steps → Has e (r.step k).ending
       → side (r.edge e) (point (r.step k).at) ≡ pos 0
-  ending_zero k e h m = subst (λ (p : Point). side (r.edge e) (point p) ≡ pos 0) (run.ending k h e m) (side-high (r.edge e))
+  ending_zero k e h m =
+      subst (λ (p : Point). side (r.edge e) (point p) ≡ pos 0) (run.ending k h e m)
+      (side-high (r.edge e))
 
   pub starting_zero : (k e : ℕ) → k < r.steps → Has e (r.step k).starting
       → side (r.edge e) (point (r.step k).at) ≡ pos 0
-  starting_zero k e h m = subst (λ (p : Point). side (r.edge e) (point p) ≡ pos 0) (run.starting k h e m) (side-low (r.edge e))
+  starting_zero k e h m =
+      subst (λ (p : Point). side (r.edge e) (point p) ≡ pos 0) (run.starting k h e m)
+      (side-low (r.edge e))
 
   -- ---- the counts before and after an event
   pub raised_before : (k : ℕ) (o : Vector) → k < r.steps
-      → raised r o (r.list k) ≡ raised r o (r.step k).below + (raised r o (r.step k).ending + raised r o (r.step k).above)
+      → raised r o (r.list k) ≡ raised r o (r.step k).below
+      + (raised r o (r.step k).ending + raised r o (r.step k).above)
   raised_before k o h =
       let a = ap (raised r o) (run.before k h) in
       let b = raised_append r o (r.step k).below ((r.step k).ending ++ (r.step k).above) in
@@ -108,7 +133,8 @@ module _ (r : Replay) (run : IsRun r) (law : IsLawful r) where
       omega (arith, a, b, c)
 
   pub raised_after : (k : ℕ) (o : Vector) → k < r.steps
-      → raised r o (r.list (suc k)) ≡ raised r o (r.step k).below + (raised r o (r.step k).starting + raised r o (r.step k).above)
+      → raised r o (r.list (suc k)) ≡ raised r o (r.step k).below
+      + (raised r o (r.step k).starting + raised r o (r.step k).above)
   raised_after k o h =
       let a = ap (raised r o) (run.after k h) in
       let b = raised_append r o (r.step k).below ((r.step k).starting ++ (r.step k).above) in
@@ -125,11 +151,29 @@ module _ (r : Replay) (run : IsRun r) (law : IsLawful r) where
       low l =
           let before = raised_before k o h in
           let after = raised_after k o h in
-          let e : raised r o (r.step k).ending ≡ 0 = raised_none r o (r.step k).ending (λ e m. strict (under_event r.weight (r.edge e) o (r.step k).at O level (rise_of k e (omega arith) (in_ending k e h m)) l (weak (ending_zero k e h m)))) in
-          let b : raised r o (r.step k).starting ≡ 0 = raised_none r o (r.step k).starting (λ e m. strict (under_event r.weight (r.edge e) o (r.step k).at O level (rise_of (suc k) e (omega arith) (in_starting k e h m)) l (weak (starting_zero k e h m)))) in
-          let a : raised r o (r.step k).above ≡ 0 = raised_none r o (r.step k).above (λ e m. strict (under_event r.weight (r.edge e) o (r.step k).at O level (rise_of k e (omega arith) (in_above k e h m)) l (strict (law.over k h e m)))) in
+          let e : raised r o (r.step k).ending
+          ≡ 0 = raised_none r o (r.step k).ending
+          (λ e m. strict
+          (under_event r.weight (r.edge e) o (r.step k).at O level
+          (rise_of k e (omega arith) (in_ending k e h m)) l (weak (ending_zero k e h m)))) in
+          let b : raised r o (r.step k).starting
+          ≡ 0 = raised_none r o (r.step k).starting
+          (λ e m. strict
+          (under_event r.weight (r.edge e) o (r.step k).at O level
+          (rise_of (suc k) e (omega arith) (in_starting k e h m)) l
+          (weak (starting_zero k e h m)))) in
+          let a : raised r o (r.step k).above
+          ≡ 0 = raised_none r o (r.step k).above
+          (λ e m. strict
+          (under_event r.weight (r.edge e) o (r.step k).at O level
+          (rise_of k e (omega arith) (in_above k e h m)) l (strict (law.over k h e m)))) in
           let n = raised_most r o (r.step k).below in
-          inl record { fits = h; next = refl; low = omega (arith, before, e, a, n); kept = omega (arith, before, after, e, b, a) }
+          inl record {
+            fits = h;
+            next = refl;
+            low = omega (arith, before, e, a, n);
+            kept = omega (arith, before, after, e, b, a);
+          }
         where
           strict : {z : ℤ} → z <ℤ pos 0 → z ≤ℤ pos 0
           strict l = omega (arith, ints)
@@ -138,18 +182,40 @@ module _ (r : Replay) (run : IsRun r) (law : IsLawful r) where
           weak l = omega (arith, ints)
 
       mid : lift o (point (r.step k).at) ≡ pos 0 → Opens r (sector_at r o k) (sector_at r o (suc k))
-      mid l = let m = run.met k h in absurd (off m.0 m.1 (at_event r.weight (r.edge m.0) o (r.step k).at O level (run.rise m.0 m.1) l m.2))
+      mid l =
+          let m = run.met k h in
+          absurd (off m.0 m.1
+          (at_event r.weight (r.edge m.0) o (r.step k).at O level (run.rise m.0 m.1) l m.2))
 
       high : pos 0 <ℤ lift o (point (r.step k).at)
           → Opens r (sector_at r o k) (sector_at r o (suc k))
       high l =
           let before = raised_before k o h in
           let after = raised_after k o h in
-          let e : raised r o (r.step k).ending ≡ length (r.step k).ending = raised_all r o (r.step k).ending (λ e m. over_event r.weight (r.edge e) o (r.step k).at O level (rise_of k e (omega arith) (in_ending k e h m)) l (weak (ending_zero k e h m))) in
-          let b : raised r o (r.step k).starting ≡ length (r.step k).starting = raised_all r o (r.step k).starting (λ e m. over_event r.weight (r.edge e) o (r.step k).at O level (rise_of (suc k) e (omega arith) (in_starting k e h m)) l (weak (starting_zero k e h m))) in
-          let u : raised r o (r.step k).below ≡ length (r.step k).below = raised_all r o (r.step k).below (λ e m. over_event r.weight (r.edge e) o (r.step k).at O level (rise_of k e (omega arith) (in_below k e h m)) l (strict (law.under k h e m))) in
+          let e : raised r o (r.step k).ending
+          ≡ length (r.step k).ending =
+          raised_all r o (r.step k).ending
+          (λ e m. over_event r.weight (r.edge e) o (r.step k).at O level
+          (rise_of k e (omega arith) (in_ending k e h m)) l (weak (ending_zero k e h m))) in
+          let b : raised r o (r.step k).starting
+          ≡ length (r.step k).starting =
+          raised_all r o (r.step k).starting
+          (λ e m. over_event r.weight (r.edge e) o (r.step k).at O level
+          (rise_of (suc k) e (omega arith) (in_starting k e h m)) l
+          (weak (starting_zero k e h m))) in
+          let u : raised r o (r.step k).below
+          ≡ length (r.step k).below =
+          raised_all r o (r.step k).below
+          (λ e m. over_event r.weight (r.edge e) o (r.step k).at O level
+          (rise_of k e (omega arith) (in_below k e h m)) l (strict (law.under k h e m))) in
           let n = raised_most r o (r.list k) in
-          inr record { fits = h; next = refl; top = n; high = omega (arith, before, e, u); kept = omega (arith, before, after, e, b, u) }
+          inr record {
+            fits = h;
+            next = refl;
+            top = n;
+            high = omega (arith, before, e, u);
+            kept = omega (arith, before, after, e, b, u);
+          }
         where
           strict : {z : ℤ} → pos 0 <ℤ z → pos 0 ≤ℤ z
           strict l = omega (arith, ints)

@@ -19,8 +19,10 @@ linked_join r _ _ e (back c x d o l) k = back c x e o (linked_join r x d e l k)
 
 pub linked_back : (r : Replay) (c d : Sector) → Linked r c d → Linked r d c
 linked_back r _ _ (stays c d h) = stays d c (sym h)
-linked_back r _ _ (onward c x d o l) = linked_join r d x c (linked_back r x d l) (back x c c o (stays c c refl))
-linked_back r _ _ (back c x d o l) = linked_join r d x c (linked_back r x d l) (onward x c c o (stays c c refl))
+linked_back r _ _ (onward c x d o l) =
+    linked_join r d x c (linked_back r x d l) (back x c c o (stays c c refl))
+linked_back r _ _ (back c x d o l) =
+    linked_join r d x c (linked_back r x d l) (onward x c c o (stays c c refl))
 
 -- what is kept where cells open to each other is kept by linked cells
 pub linked_keeps : {X : Type 0} (r : Replay) (f : Sector → X)
@@ -40,7 +42,8 @@ pub by_last : {P : Type 0} (j k : ℕ) → j < suc k → (j < k → P) → (j �
 by_last zero zero h below here = here refl
 by_last zero (suc k) h below here = below (omega arith)
 by_last (suc j) zero h below here = absurd (omega arith)
-by_last (suc j) (suc k) h below here = by_last j k (omega arith) (λ l. below (omega arith)) (λ e. here (ap (λ (n : ℕ). suc n) e))
+by_last (suc j) (suc k) h below here =
+    by_last j k (omega arith) (λ l. below (omega arith)) (λ e. here (ap (λ (n : ℕ). suc n) e))
 
 module _ (r : Replay) (run : IsRun r) where
   not_yet : (z : Vector) (k m : ℕ) → IsPassed r z k m → sweep r.weight z <ℤ (reach r k *ℤ z.n)
@@ -62,35 +65,52 @@ module _ (r : Replay) (run : IsRun r) where
       (λ (e : m ≡ k). record {
         most = omega arith;
         from = λ (j : ℕ) (c : j < suc m). by_last j m c (λ (n : j < m). b.from j n)
-            (λ (f : j ≡ m). subst (λ (i : ℕ). (reach r i *ℤ z.n) ≤ℤ sweep r.weight z) (sym (f ∙ e)) l);
+            (λ (f : j ≡ m). subst (λ (i : ℕ). (reach r i *ℤ z.n) ≤ℤ sweep r.weight z)
+            (sym (f ∙ e)) l);
         to = λ (j : ℕ) (a : suc m ≤ j) (c : j < suc k). absurd (omega arith);
       })
 
   passed_is : (z : Vector) → Place z → (k : ℕ) → k ≤ r.steps → IsPassed r z k (passed r z k)
-  passed_is z Z zero h = record { most = omega arith; from = λ (j : ℕ) (l : j < 0). absurd (omega arith); to = λ (j : ℕ) (l : 0 ≤ j) (m : j < 0). absurd (omega arith) }
+  passed_is z Z zero h = record {
+    most = omega arith;
+    from = λ (j : ℕ) (l : j < 0). absurd (omega arith);
+    to = λ (j : ℕ) (l : 0 ≤ j) (m : j < 0). absurd (omega arith);
+  }
   passed_is z Z (suc k) h =
       let b = passed_is z Z k (omega arith) in
       by_lt_z (sweep r.weight z) (reach r k *ℤ z.n)
       (λ (l : sweep r.weight z <ℤ (reach r k *ℤ z.n)).
-      let t : is_positive ((reach r k *ℤ z.n) -ℤ sweep r.weight z) ≡ true = positive_is _ (omega (arith, ints)) in
-      subst (λ (b : Bool). IsPassed r z (suc k) (cond b (passed r z k) (suc (passed r z k)))) (sym t) (not_yet z k (passed r z k) b l))
+      let t : is_positive ((reach r k *ℤ z.n) -ℤ sweep r.weight z)
+      ≡ true = positive_is _ (omega (arith, ints)) in
+      subst (λ (b : Bool). IsPassed r z (suc k) (cond b (passed r z k) (suc (passed r z k))))
+      (sym t) (not_yet z k (passed r z k) b l))
       (λ (l : (reach r k *ℤ z.n) ≤ℤ sweep r.weight z).
-      let t : is_positive ((reach r k *ℤ z.n) -ℤ sweep r.weight z) ≡ false = not_positive _ (omega (arith, ints)) in
-      subst (λ (b : Bool). IsPassed r z (suc k) (cond b (passed r z k) (suc (passed r z k)))) (sym t) (already z k (passed r z k) Z (omega arith) b l))
+      let t : is_positive ((reach r k *ℤ z.n) -ℤ sweep r.weight z)
+      ≡ false = not_positive _ (omega (arith, ints)) in
+      subst (λ (b : Bool). IsPassed r z (suc k) (cond b (passed r z k) (suc (passed r z k))))
+      (sym t) (already z k (passed r z k) Z (omega arith) b l))
 
   -- each place has a strip
   pub strip_is : (z : Vector) → Place z → IsStrip r (strip r z) z
-  strip_is z Z = let b = passed_is z Z r.steps (omega arith) in record { fits = b.most; from = b.from; to = b.to }
+  strip_is z Z =
+      let b = passed_is z Z r.steps (omega arith) in
+      record { fits = b.most; from = b.from; to = b.to }
 
   -- and no other
   pub strip_only : (k m : ℕ) (z : Vector) → IsStrip r k z → IsStrip r m z → k ≡ m
   strip_only k m z a b = by_last k (suc m) (not_above k m a b)
-      (λ (l : k < suc m). by_last k m l (λ (n : k < m). let f = b.from k n in let g = a.to k (omega arith) (let x = b.fits in omega arith) in absurd (omega (arith, ints, f, g))) (λ e. e))
-      (λ (e : k ≡ suc m). let f = a.from m (omega arith) in let g = b.to m (omega arith) (let x = a.fits in omega arith) in absurd (omega (arith, ints, f, g)))
+      (λ (l : k < suc m). by_last k m l (λ (n : k < m). let f = b.from k n in
+      let g = a.to k (omega arith) (let x = b.fits in omega arith) in
+      absurd (omega (arith, ints, f, g))) (λ e. e))
+      (λ (e : k ≡ suc m). let f = a.from m (omega arith) in
+      let g = b.to m (omega arith) (let x = a.fits in omega arith) in
+      absurd (omega (arith, ints, f, g)))
     where
       not_above : (k m : ℕ) → IsStrip r k z → IsStrip r m z → k < suc (suc m)
       not_above k m a b = either m k
-          (λ (l : suc m < k). let f = a.from m (omega arith) in let g = b.to m (omega arith) (let x = a.fits in omega arith) in absurd (omega (arith, ints, f, g)))
+          (λ (l : suc m < k). let f = a.from m (omega arith) in
+          let g = b.to m (omega arith) (let x = a.fits in omega arith) in
+          absurd (omega (arith, ints, f, g)))
           (λ (l : k ≤ suc m). omega arith)
         where
           either : {P : Type 0} (m k : ℕ) → (suc m < k → P) → (k ≤ suc m → P) → P
@@ -109,5 +129,8 @@ module _ (r : Replay) (run : IsRun r) (law : IsLawful r) where
   pub segment_linked : (p q : Vector) → Place p → Place q → IsFree r p q
       → Linked r (sector r p) (sector r q)
   segment_linked p q P Q free = by_order (strip r p) (strip r q)
-      (λ (d : ℕ) (e : strip r q ≡ strip r p + d). linked_right r run law d (strip r p) (strip r q) p q e P Q free (strip_is r run p P) (strip_is r run q Q))
-      (λ (d : ℕ) (e : strip r p ≡ strip r q + d). linked_back r _ _ (linked_right r run law d (strip r q) (strip r p) q p e Q P (free_back r p q P Q free) (strip_is r run q Q) (strip_is r run p P)))
+      (λ (d : ℕ) (e : strip r q ≡ strip r p + d). linked_right r run law d (strip r p)
+      (strip r q) p q e P Q free (strip_is r run p P) (strip_is r run q Q))
+      (λ (d : ℕ) (e : strip r p ≡ strip r q + d). linked_back r _ _
+      (linked_right r run law d (strip r q) (strip r p) q p e Q P (free_back r p q P Q free)
+      (strip_is r run q Q) (strip_is r run p P)))

@@ -22,13 +22,20 @@ use Rattle.plane.proofs.Algebra.Ring.{Expr, at, num, plus, minus, times, vars, r
 
 -- how far the edge's place at the sweep value of z is to the right
 span_x : (w : ℤ) (e : Edge) (z : Vector) → (rise w e *ℤ z.x) +ℤ side e z
-    ≡ (((sweep w (point e.high) *ℤ z.n) -ℤ sweep w z) *ℤ e.low.x) +ℤ ((sweep w z -ℤ (sweep w (point e.low) *ℤ z.n)) *ℤ e.high.x)
+    ≡ (((sweep w (point e.high) *ℤ z.n) -ℤ sweep w z) *ℤ e.low.x)
+    +ℤ ((sweep w z -ℤ (sweep w (point e.low) *ℤ z.n)) *ℤ e.high.x)
 unfolding side sweep rise
 span_x w e z =
-    let LX = at 0 in let LY = at 1 in let HX = at 2 in let HY = at 3 in let X = at 4 in let Y = at 5 in let N = at 6 in let W = at 7 in
+    let LX = at 0 in
+    let LY = at 1 in
+    let HX = at 2 in
+    let HY = at 3 in let X = at 4 in let Y = at 5 in let N = at 6 in let W = at 7 in
     let s : Expr → Expr → Expr = λ x y. plus (times W x) y in
-    ring (plus (times (minus (s HX HY) (s LX LY)) X) (minus (times (minus HX LX) (minus Y (times LY N))) (times (minus HY LY) (minus X (times LX N)))))
-    (plus (times (minus (times (s HX HY) N) (s X Y)) LX) (times (minus (s X Y) (times (s LX LY) N)) HX))
+    ring (plus (times (minus (s HX HY) (s LX LY)) X)
+    (minus (times (minus HX LX) (minus Y (times LY N)))
+    (times (minus HY LY) (minus X (times LX N)))))
+    (plus (times (minus (times (s HX HY) N) (s X Y)) LX)
+    (times (minus (s X Y) (times (s LX LY) N)) HX))
     (vars (e.low.x ∷ e.low.y ∷ e.high.x ∷ e.high.y ∷ z.x ∷ z.y ∷ z.n ∷ w ∷ [])) refl
 
 -- a place to the left of an edge's ends, with a sweep value in its span, is above it
@@ -51,11 +58,15 @@ left_of w b e z u l h s left =
         → (h -ℤ l) *ℤ (b *ℤ n) ≡ (((h *ℤ n) -ℤ s) *ℤ b) +ℤ ((s -ℤ (l *ℤ n)) *ℤ b)
     split h l n s b =
         let H = at 0 in let L = at 1 in let N = at 2 in let S = at 3 in let B = at 4 in
-        ring (times (minus H L) (times B N)) (plus (times (minus (times H N) S) B) (times (minus S (times L N)) B)) (vars (h ∷ l ∷ n ∷ s ∷ b ∷ [])) refl
+        ring (times (minus H L) (times B N))
+        (plus (times (minus (times H N) S) B) (times (minus S (times L N)) B))
+        (vars (h ∷ l ∷ n ∷ s ∷ b ∷ [])) refl
 
 -- ---- numbers below given ones
 low_of : (a b : ℤ) → (x : ℤ) × (x <ℤ a) × (x <ℤ b)
-low_of a b = by_lt_z a b (λ (l : a <ℤ b). (a -ℤ pos 1, omega (arith, ints), omega (arith, ints))) (λ (l : b ≤ℤ a). (b -ℤ pos 1, omega (arith, ints), omega (arith, ints)))
+low_of a b =
+    by_lt_z a b (λ (l : a <ℤ b). (a -ℤ pos 1, omega (arith, ints), omega (arith, ints)))
+    (λ (l : b ≤ℤ a). (b -ℤ pos 1, omega (arith, ints), omega (arith, ints)))
 
 low_of_three : (a b : ℤ) → (x : ℤ) × (x <ℤ a) × (x <ℤ b) × (x <ℤ pos 0)
 low_of_three a b =
@@ -74,13 +85,16 @@ low_ends E (suc n) =
     let g1 = g.1 in let g2 = g.2 in let h1 = h.1 in let h2 = h.2 in (
       h.0,
       λ (e : ℕ) (l : e < suc n). by_last e n l
-          (λ (m : e < n). let k = f.1 e m in let a = k.0 in let b = k.1 in (omega (arith, ints, a, g1, h1), omega (arith, ints, b, g1, h1)))
-          (λ (m : e ≡ n). subst (λ (i : ℕ). (h.0 ≤ℤ (E i).low.x) × (h.0 ≤ℤ (E i).high.x)) (sym m) (omega (arith, ints, g2, h1), omega (arith, ints, h2))),
+          (λ (m : e < n). let k = f.1 e m in let a = k.0 in let b = k.1 in
+          (omega (arith, ints, a, g1, h1), omega (arith, ints, b, g1, h1)))
+          (λ (m : e ≡ n). subst (λ (i : ℕ). (h.0 ≤ℤ (E i).low.x) × (h.0 ≤ℤ (E i).high.x)) (sym m)
+          (omega (arith, ints, g2, h1), omega (arith, ints, h2))),
     )
 
 sweep_x : (w x : ℤ) → sweep w (record { x = x; y = pos 0; n = pos 1 }) ≡ w *ℤ x
 unfolding sweep
-sweep_x w x = ring (plus (times (at 0) (at 1)) (num (pos 0))) (times (at 0) (at 1)) (vars (w ∷ x ∷ [])) refl
+sweep_x w x =
+    ring (plus (times (at 0) (at 1)) (num (pos 0))) (times (at 0) (at 1)) (vars (w ∷ x ∷ [])) refl
 
 module _ (r : Replay) (run : IsRun r) (law : IsLawful r) where
   -- a place to the left of all ends is above all edges of its strip
@@ -93,7 +107,8 @@ module _ (r : Replay) (run : IsRun r) (law : IsLawful r) where
       raised_all r q (r.list k) (λ e m.
       let l = law.live k e s.fits m in
       let h = ends e l in
-      left_of r.weight b (r.edge e) q (run.rise e l) h.0 h.1 (spans_strip r run law k e q s.fits m (closed_strip r k q s)) left)
+      left_of r.weight b (r.edge e) q (run.rise e l) h.0 h.1
+      (spans_strip r run law k e q s.fits m (closed_strip r k q s)) left)
 
   -- an outer place is linked to the first cell
   pub outer_linked : (p : Vector) → Place p → IsOffEdges r p → IsOuterByEdges r p
@@ -104,7 +119,8 @@ module _ (r : Replay) (run : IsRun r) (law : IsLawful r) where
       let q = g.0 in
       let Q = g.1 in
       let all = left_border f.0 f.1 q Q g.3 in
-      linked_join r (sector r p) (sector r q) corner (joined_linked r run law p q g.2 P Q off) (border_linked r run law (sector r q) (cell_is r run law q Q) (inr all))
+      linked_join r (sector r p) (sector r q) corner (joined_linked r run law p q g.2 P Q off)
+      (border_linked r run law (sector r q) (cell_is r run law q Q) (inr all))
 
   -- far to the left, before all events
   far : pos 0 <ℤ r.weight → (b : ℤ) → (q : Vector) × Place q × (q.x <ℤ (b *ℤ q.n)) × IsStrip r 0 q
@@ -114,7 +130,8 @@ module _ (r : Replay) (run : IsRun r) (law : IsLawful r) where
       let q : Vector = record { x = z; y = pos 0; n = pos 1 } in
       let x1 = x.1 in let x2 = x.2 in let x3 = x.3 in
       let a = weight_at_most (pos 0 -ℤ z) r.weight (omega (arith, ints)) heavy in
-      let c = ring (times (minus (num (pos 0)) (at 0)) (at 1)) (minus (num (pos 0)) (times (at 1) (at 0))) (vars (z ∷ r.weight ∷ [])) refl in
+      let c = ring (times (minus (num (pos 0)) (at 0)) (at 1))
+      (minus (num (pos 0)) (times (at 1) (at 0))) (vars (z ∷ r.weight ∷ [])) refl in
       let e = sweep_x r.weight z in
       let below : sweep r.weight q <ℤ reach r 0 = omega (arith, ints, a, c, e, x2) in (
         q,
@@ -123,7 +140,8 @@ module _ (r : Replay) (run : IsRun r) (law : IsLawful r) where
         record {
           fits = omega arith;
           from = λ (j : ℕ) (l : j < 0). absurd (omega arith);
-          to = λ (j : ℕ) (l : 0 ≤ j) (m : j < r.steps). let f = reach_most r run 0 j l m in omega (arith, ints, f, below);
+          to = λ (j : ℕ) (l : 0 ≤ j) (m : j < r.steps). let f = reach_most r run 0 j l m in
+              omega (arith, ints, f, below);
         },
       )
 
@@ -131,7 +149,8 @@ module _ (r : Replay) (run : IsRun r) (law : IsLawful r) where
   first_cell : (q : Vector) → Place q → IsStrip r 0 q → sector r q ≡ corner
   first_cell q Q s =
       let e : strip r q ≡ 0 = strip_only r run (strip r q) 0 q (strip_is r run q Q) s in
-      cells_eq (sector r q) corner e (ap (λ (k : ℕ). raised r q (r.list k)) e ∙ ap (λ (es : List ℕ). raised r q es) run.first)
+      cells_eq (sector r q) corner e (ap (λ (k : ℕ). raised r q (r.list k)) e
+      ∙ ap (λ (es : List ℕ). raised r q es) run.first)
 
   first_off : (q : Vector) → IsStrip r 0 q → IsOffEdges r q
   first_off q s e l on =
@@ -145,10 +164,16 @@ module _ (r : Replay) (run : IsRun r) (law : IsLawful r) where
       → Linked r (sector r p) corner → IsOuterByEdges r p
   linked_outer heavy p P off l b =
       let f = far heavy b in
-      let q = f.0 in
-      (q, f.1, linked_joined r run law p q P f.1 off (first_off q f.3) (subst (λ (c : Sector). Linked r (sector r p) c) (sym (first_cell q f.1 f.3)) l), f.2)
+      let q = f.0 in (
+        q,
+        f.1,
+        linked_joined r run law p q P f.1 off (first_off q f.3)
+            (subst (λ (c : Sector). Linked r (sector r p) c) (sym (first_cell q f.1 f.3)) l),
+        f.2,
+      )
 
   -- both ways
   pub outer_is_linked : pos 0 <ℤ r.weight → (p : Vector) → Place p → IsOffEdges r p
       → IsOuterByEdges r p ↔ Linked r (sector r p) corner
-  outer_is_linked heavy p P off = ((λ o. outer_linked p P off o), (λ l. linked_outer heavy p P off l))
+  outer_is_linked heavy p P off =
+      ((λ o. outer_linked p P off o), (λ l. linked_outer heavy p P off l))

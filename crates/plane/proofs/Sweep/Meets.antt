@@ -20,7 +20,12 @@ pub apart_fine : (a b : Edge) → Disjoint a b → Fine a b
 apart_fine a b h z hz oa ob = absurd (h z hz oa ob)
 
 pub touch_fine : (a b : Edge) → Touch a b → Fine a b
-touch_fine a b h z hz oa ob = record { at = h.at; of_first = h.of_first; of_second = h.of_second; is = h.only z hz oa ob }
+touch_fine a b h z hz oa ob = record {
+  at = h.at;
+  of_first = h.of_first;
+  of_second = h.of_second;
+  is = h.only z hz oa ob;
+}
 
 pub bad_not_apart : (a b : Edge) → Bad a b → Disjoint a b → ⊥
 bad_not_apart a b h k = k h.at h.place h.of_first h.of_second
@@ -30,7 +35,9 @@ bad_not_touch a b h k = h.no_end (touch_fine a b k h.at h.place h.of_first h.of_
 
 -- ---- points that are equal or not
 pub point_test : (p q : Point) → (p ≡ q) ⊎ (p ≡ q → ⊥)
-point_test p q = by_test (same_point p q) (λ h. inl (same_is p q h)) (λ h. inr (λ e. not_both (sym (same_self p) ∙ subst (λ r. same_point p r ≡ false) (sym e) h)))
+point_test p q =
+    by_test (same_point p q) (λ h. inl (same_is p q h))
+    (λ h. inr (λ e. not_both (sym (same_self p) ∙ subst (λ r. same_point p r ≡ false) (sym e) h)))
 
 pub end_test : (e : Edge) (p : Point) → IsEnd e p ⊎ (IsEnd e p → ⊥)
 end_test e p = elim (point_test e.low p) [
@@ -48,7 +55,11 @@ shared a b = elim (end_test b a.low) [
   | inl h ↦ inl (a.low, inl refl, h)
   | inr n ↦ elim (end_test b a.high) [
     | inl h ↦ inl (a.high, inr refl, h)
-    | inr k ↦ inr (λ p i j. elim i [ inl x ↦ n (subst (λ q. IsEnd b q) (sym x) j) | inr x ↦ k (subst (λ q. IsEnd b q) (sym x) j) ])
+    | inr k ↦ inr
+        (λ p i j. elim i [
+          | inl x ↦ n (subst (λ q. IsEnd b q) (sym x) j)
+          | inr x ↦ k (subst (λ q. IsEnd b q) (sym x) j)
+        ])
   ]
 ]
 
@@ -65,7 +76,9 @@ one_shared w a b ra rb fine p q pa pb qa qb = elim (point_test p q) [
     two_ends w a b ra rb fine h =
         let P : Place (middle a) = omega (arith, ints) in
         let oa = on_straight w a (middle a) ra P (middle_on w a ra) in
-        let ob : OnStraight b (middle a) = subst (λ l. OnStraight (record { low = l; high = b.high }) (middle a)) h.0 (subst (λ k. OnStraight (record { low = a.low; high = k }) (middle a)) h.1 oa) in
+        let ob : OnStraight b (middle a) = subst
+        (λ l. OnStraight (record { low = l; high = b.high }) (middle a)) h.0
+        (subst (λ k. OnStraight (record { low = a.low; high = k }) (middle a)) h.1 oa) in
         let c = fine (middle a) P oa ob in
         middle_end w a c.at ra (same_sweep w (middle a) c.at c.is) c.of_first
 
@@ -83,10 +96,12 @@ one_shared w a b ra rb fine p q pa pb qa qb = elim (point_test p q) [
     same_edge w a b ra rb p q n (inl x) (inl y) (inr u) (inl v) = absurd (n (sym y ∙ v))
     same_edge w a b ra rb p q n (inl x) (inl y) (inr u) (inr v) = (x ∙ sym y, u ∙ sym v)
     same_edge w a b ra rb p q n (inl x) (inr y) (inl u) v = absurd (n (sym x ∙ u))
-    same_edge w a b ra rb p q n (inl x) (inr y) (inr u) (inl v) = absurd (crossed w a b ra rb (x ∙ sym y) (u ∙ sym v))
+    same_edge w a b ra rb p q n (inl x) (inr y) (inr u) (inl v) =
+        absurd (crossed w a b ra rb (x ∙ sym y) (u ∙ sym v))
     same_edge w a b ra rb p q n (inl x) (inr y) (inr u) (inr v) = absurd (n (sym y ∙ v))
     same_edge w a b ra rb p q n (inr x) (inl y) (inl u) (inl v) = absurd (n (sym y ∙ v))
-    same_edge w a b ra rb p q n (inr x) (inl y) (inl u) (inr v) = absurd (crossed w a b ra rb (u ∙ sym v) (x ∙ sym y))
+    same_edge w a b ra rb p q n (inr x) (inl y) (inl u) (inr v) =
+        absurd (crossed w a b ra rb (u ∙ sym v) (x ∙ sym y))
     same_edge w a b ra rb p q n (inr x) (inl y) (inr u) v = absurd (n (sym x ∙ u))
     same_edge w a b ra rb p q n (inr x) (inr y) (inl u) (inl v) = (u ∙ sym v, x ∙ sym y)
     same_edge w a b ra rb p q n (inr x) (inr y) (inl u) (inr v) = absurd (n (sym y ∙ v))
@@ -100,7 +115,9 @@ fine_cases w a b ra rb fine = elim (shared a b) [
     at = p;
     of_first = pa;
     of_second = pb;
-    only = λ z hz oa ob. let c = fine z hz oa ob in subst (λ q. Same z (point q)) (one_shared w a b ra rb fine c.at p c.of_first c.of_second pa pb) c.is;
+    only = λ z hz oa ob. let c = fine z hz oa ob in
+        subst (λ q. Same z (point q))
+        (one_shared w a b ra rb fine c.at p c.of_first c.of_second pa pb) c.is;
   })
   | inr n ↦ inl (λ z hz oa ob. let c = fine z hz oa ob in n c.at c.of_first c.of_second)
 ]
@@ -122,6 +139,10 @@ cross = record {
   no_end = λ c. other c.at c.of_first c.is.x;
 }
   where
-    other : (p : Point) → IsEnd (record { low = record { x = pos 0; y = pos 0 }; high = record { x = pos 2; y = pos 2 } }) p → pos 1 *ℤ pos 1 ≡ p.x *ℤ pos 1 → ⊥
+    other : (p : Point)
+        → IsEnd (record {
+          low = record { x = pos 0; y = pos 0 };
+          high = record { x = pos 2; y = pos 2 };
+        }) p → pos 1 *ℤ pos 1 ≡ p.x *ℤ pos 1 → ⊥
     other p (inl q) h = let e : pos 0 ≡ p.x = ap (λ r. r.x) q in omega (arith, ints, e, h)
     other p (inr q) h = let e : pos 2 ≡ p.x = ap (λ r. r.x) q in omega (arith, ints, e, h)

@@ -21,21 +21,26 @@ is_fine a b (inr h) = touch_fine a b h
 module _ (m : ℕ) (E : ℕ → Edge) (pts : List Point) (done : List Step) where
   pub known_live : (coming : List Point) (e : ℕ) → IsUnderWay m E pts done coming
       → Has e (live done) → (e < m) × AtSome (E e).low done × Has (E e).high coming
-  known_live coming e u k = let s = live_started m E done e u.front.replayed k in (s.0, s.1, u.front.late e k)
+  known_live coming e u k =
+      let s = live_started m E done e u.front.replayed k in (s.0, s.1, u.front.late e k)
 
   pub once_live : (v : Point) (coming : List Point) → IsUnderWay m E pts done (v ∷ coming)
       → Once (live done)
-  once_live v coming u = front_once u.weight m E pts done v coming (ready u.weight m E pts u.heavy u.ends) u.front
+  once_live v coming u =
+      front_once u.weight m E pts done v coming (ready u.weight m E pts u.heavy u.ends) u.front
 
   pub room_live : (v : Point) (coming : List Point) → IsUnderWay m E pts done (v ∷ coming)
       → length (live done) ≤ m
-  room_live v coming u = room m (live done) (once_live v coming u) (λ e k. (known_live (v ∷ coming) e u k).0)
+  room_live v coming u =
+      room m (live done) (once_live v coming u) (λ e k. (known_live (v ∷ coming) e u k).0)
 
-pub neighbours_differ : (m : ℕ) (E : ℕ → Edge) (pts : List Point) (done : List Step) (s : Step) (coming : List Point)
+pub neighbours_differ : (m : ℕ) (E : ℕ → Edge) (pts : List Point) (done : List Step) (s : Step)
+    (coming : List Point)
     → IsUnderWay m E pts done (s.at ∷ coming) → Made m E (live done) s → Once s.starting
     → Neighbours (λ a b. a ≡ b → ⊥) (after s)
 neighbours_differ m E pts done s coming u made once =
     let D : ℕ → ℕ → Type 0 = λ a b. a ≡ b → ⊥ in
     let r = ready u.weight m E pts u.heavy u.ends in
-    let old : Neighbours D (live done) = once_neighbours D (live done) (front_once u.weight m E pts done s.at coming r u.front) (λ a b i j n. n) in
+    let old : Neighbours D (live done) = once_neighbours D (live done)
+    (front_once u.weight m E pts done s.at coming r u.front) (λ a b i j n. n) in
     by_difference D u.weight m E pts done s coming r u.front made once (λ a b la lb n. n) old

@@ -24,13 +24,22 @@ points_rise w [] h = tt
 points_rise w (p ∷ []) h = (tt, tt)
 points_rise w (p ∷ (q ∷ ps)) h =
     let rest = points_rise w (q ∷ ps) h.1 in
-    let l : sweep w (point p) <ℤ sweep w (point q) = h.0 in
-    ((l, each_map (λ r. sweep w (point q) <ℤ sweep w (point r)) (λ r. sweep w (point p) <ℤ sweep w (point r)) ps (λ r (k : sweep w (point q) <ℤ sweep w (point r)). omega (arith, ints, l, k)) rest.0), rest)
+    let l : sweep w (point p) <ℤ sweep w (point q) = h.0 in (
+      (
+        l,
+        each_map (λ r. sweep w (point q) <ℤ sweep w (point r))
+            (λ r. sweep w (point p) <ℤ sweep w (point r)) ps
+            (λ r (k : sweep w (point q) <ℤ sweep w (point r)). omega (arith, ints, l, k)) rest.0,
+      ),
+      rest,
+    )
 
 pub ready : (w : ℤ) (m : ℕ) (E : ℕ → Edge) (pts : List Point) → Weight w pts → IsEventList m E pts
     → Ready w m E pts
 ready w m E pts h ev = record {
-  rising = points_rise w pts (neighbours_map Before (λ p q. sweep w (point p) <ℤ sweep w (point q)) pts (λ p q kp kq b. h p q kp kq b) ev.rises);
+  rising = points_rise w pts
+      (neighbours_map Before (λ p q. sweep w (point p) <ℤ sweep w (point q)) pts
+      (λ p q kp kq b. h p q kp kq b) ev.rises);
   ends = ev.ends;
   rises = λ e l.
       let up = h (E e).low (E e).high (ev.ends e l).0 (ev.ends e l).1 (ev.edges e l) in
@@ -87,7 +96,12 @@ complete w m E pts done ev f =
     record {
       replays = replays_onto m E done [] f.replayed (nothing_live E (live done) f.late);
       rises = steps_rise (onto done []) (subst (λ ps. Neighbours Before ps) (sym same) ev.rises);
-      ends = λ e l. (at_point (E e).low (onto done []) (subst (λ ps. Has (E e).low ps) (sym same) (ev.ends e l).0), at_point (E e).high (onto done []) (subst (λ ps. Has (E e).high ps) (sym same) (ev.ends e l).1));
+      ends = λ e l. (
+        at_point (E e).low (onto done [])
+            (subst (λ ps. Has (E e).low ps) (sym same) (ev.ends e l).0),
+        at_point (E e).high (onto done [])
+            (subst (λ ps. Has (E e).high ps) (sym same) (ev.ends e l).1),
+      );
       events = λ s k. ev.events s.at (subst (λ ps. Has s.at ps) same (point_at s (onto done []) k));
       edges = ev.edges;
     }
@@ -96,22 +110,29 @@ pub complete_swept : (w : ℤ) (m : ℕ) (E : ℕ → Edge) (pts : List Point) (
     → Weight w pts → IsEventList m E pts → Front w m E pts done [] → WeighedRun w m E (onto done [])
 complete_swept w m E pts done h ev f =
     let same : points_of (onto done []) ≡ pts = sym (trail_onto done []) ∙ f.is in
-    swept w pts m E (onto done []) h (each_from (λ s. Has s.at pts) (onto done []) (λ s k. subst (λ ps. Has s.at ps) same (point_at s (onto done []) k))) (complete w m E pts done ev f)
+    swept w pts m E (onto done []) h
+    (each_from (λ s. Has s.at pts) (onto done [])
+    (λ s k. subst (λ ps. Has s.at ps) same (point_at s (onto done []) k)))
+    (complete w m E pts done ev f)
 
 -- ---- in a run no two edges are bad
 pub run_fine : (w : ℤ) (m : ℕ) (E : ℕ → Edge) (steps : List Step) (a b : ℕ) → WeighedRun w m E steps
     → a < m → b < m → (a ≡ b → ⊥) → Fine (E a) (E b)
-run_fine w m E steps a b h la lb differ z hz oa ob = meet_in_ends w m E steps z a b h la lb differ hz (straight_on w (E a) z (h.rises a la) hz oa) (straight_on w (E b) z (h.rises b lb) hz ob)
+run_fine w m E steps a b h la lb differ z hz oa ob =
+    meet_in_ends w m E steps z a b h la lb differ hz (straight_on w (E a) z (h.rises a la) hz oa)
+    (straight_on w (E b) z (h.rises b lb) hz ob)
 
 pub fine_not_bad : (a b : Edge) → Fine a b → Bad a b → ⊥
 fine_not_bad a b fine bad = bad.no_end (fine bad.at bad.place bad.of_first bad.of_second)
 
 pub run_not_bad : (w : ℤ) (m : ℕ) (E : ℕ → Edge) (steps : List Step) (a b : ℕ)
     → WeighedRun w m E steps → a < m → b < m → (a ≡ b → ⊥) → Bad (E a) (E b) → ⊥
-run_not_bad w m E steps a b h la lb differ = fine_not_bad (E a) (E b) (run_fine w m E steps a b h la lb differ)
+run_not_bad w m E steps a b h la lb differ =
+    fine_not_bad (E a) (E b) (run_fine w m E steps a b h la lb differ)
 
 -- no two edges are bad
 pub complete_fine : (w : ℤ) (m : ℕ) (E : ℕ → Edge) (pts : List Point) (done : List Step) (a b : ℕ)
     → Weight w pts → IsEventList m E pts → Front w m E pts done [] → a < m → b < m → (a ≡ b → ⊥)
     → Fine (E a) (E b)
-complete_fine w m E pts done a b h ev f = run_fine w m E (onto done []) a b (complete_swept w m E pts done h ev f)
+complete_fine w m E pts done a b h ev f =
+    run_fine w m E (onto done []) a b (complete_swept w m E pts done h ev f)

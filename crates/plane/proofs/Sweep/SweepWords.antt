@@ -17,13 +17,15 @@ pub record Ready (w : ℤ) (m : ℕ) (E : ℕ → Edge) (pts : List Point) : Typ
   pub ends : (e : ℕ) → e < m → Has (E e).low pts × Has (E e).high pts
   pub rises : (e : ℕ) → e < m → pos 0 <ℤ rise w (E e)
 
--- from neighbour to neighbour upwards at p: what is strictly above the upper one is strictly above the lower one,
+-- from neighbour to neighbour upwards at p: what is strictly above the upper one is strictly above
+-- the lower one,
 -- what is strictly below the lower one is strictly below the upper one
 pub record FallsUp (E : ℕ → Edge) (p : Point) (a b : ℕ) : Type 0 where
   pub above : pos 0 <ℤ side (E b) (point p) → pos 0 <ℤ side (E a) (point p)
   pub below : side (E a) (point p) <ℤ pos 0 → side (E b) (point p) <ℤ pos 0
 
--- the sweep has come to a fault: all is well up to some event, and that one is on a live edge or has bad neighbours after it
+-- the sweep has come to a fault: all is well up to some event, and that one is on a live edge or
+-- has bad neighbours after it
 pub record Found (w : ℤ) (m : ℕ) (E : ℕ → Edge) (pts : List Point) : Type 0 where
   pub done : List Step
   pub event : Point

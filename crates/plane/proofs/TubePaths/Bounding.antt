@@ -49,8 +49,10 @@ arrow_in t e z (inl q) h =
       c_least = omega (arith, ints);
       some = omega (arith, ints, s);
       is = record {
-        x = ap (λ (n : ℤ). z.x *ℤ n) (omega (arith, ints)) ∙ b.is.x ∙ ap (λ (n : ℤ). n *ℤ z.n) (omega (arith, ints));
-        y = ap (λ (n : ℤ). z.y *ℤ n) (omega (arith, ints)) ∙ b.is.y ∙ ap (λ (n : ℤ). n *ℤ z.n) (omega (arith, ints));
+        x = ap (λ (n : ℤ). z.x *ℤ n) (omega (arith, ints)) ∙ b.is.x
+            ∙ ap (λ (n : ℤ). n *ℤ z.n) (omega (arith, ints));
+        y = ap (λ (n : ℤ). z.y *ℤ n) (omega (arith, ints)) ∙ b.is.y
+            ∙ ap (λ (n : ℤ). n *ℤ z.n) (omega (arith, ints));
       };
     }
 arrow_in t e z (inr (inl q)) h =
@@ -65,8 +67,10 @@ arrow_in t e z (inr (inl q)) h =
       c_least = b.t_least;
       some = omega (arith, ints, s);
       is = record {
-        x = ap (λ (n : ℤ). z.x *ℤ n) (omega (arith, ints)) ∙ b.is.x ∙ ap (λ (n : ℤ). n *ℤ z.n) (omega (arith, ints));
-        y = ap (λ (n : ℤ). z.y *ℤ n) (omega (arith, ints)) ∙ b.is.y ∙ ap (λ (n : ℤ). n *ℤ z.n) (omega (arith, ints));
+        x = ap (λ (n : ℤ). z.x *ℤ n) (omega (arith, ints)) ∙ b.is.x
+            ∙ ap (λ (n : ℤ). n *ℤ z.n) (omega (arith, ints));
+        y = ap (λ (n : ℤ). z.y *ℤ n) (omega (arith, ints)) ∙ b.is.y
+            ∙ ap (λ (n : ℤ). n *ℤ z.n) (omega (arith, ints));
       };
     }
 arrow_in t e z (inr (inr (inl q))) h =
@@ -81,8 +85,10 @@ arrow_in t e z (inr (inr (inl q))) h =
       c_least = b.s_least;
       some = omega (arith, ints, s);
       is = record {
-        x = ap (λ (n : ℤ). z.x *ℤ n) (omega (arith, ints)) ∙ b.is.x ∙ ap (λ (n : ℤ). n *ℤ z.n) (omega (arith, ints));
-        y = ap (λ (n : ℤ). z.y *ℤ n) (omega (arith, ints)) ∙ b.is.y ∙ ap (λ (n : ℤ). n *ℤ z.n) (omega (arith, ints));
+        x = ap (λ (n : ℤ). z.x *ℤ n) (omega (arith, ints)) ∙ b.is.x
+            ∙ ap (λ (n : ℤ). n *ℤ z.n) (omega (arith, ints));
+        y = ap (λ (n : ℤ). z.y *ℤ n) (omega (arith, ints)) ∙ b.is.y
+            ∙ ap (λ (n : ℤ). n *ℤ z.n) (omega (arith, ints));
       };
     }
 arrow_in t e z (inr (inr (inr q))) h = absurd q
@@ -99,10 +105,17 @@ way_between w E (over e) z b = b
 way_between w E (under e) z b = between_back z _ _ b
 
 -- a place of an edge of the tube is in the tube
-pub wall_in : (r : Replay) (lab : Labels) (t : ℕ) (a : Point) (b : Bay) (bs : List Bay) (hs : List Half)
+pub wall_in : (r : Replay) (lab : Labels) (t : ℕ) (a : Point) (b : Bay) (bs : List Bay)
+    (hs : List Half)
     → IsDrawnTube r lab t a b bs hs → (h : Half) → Has h hs → (z : Vector) → Place z
-    → pos 0 <ℤ rise r.weight (r.edge (edge_of h)) → On r.weight (r.edge (edge_of h)) z → InSomeTile (tiles a (b ∷ bs)) z
+    → pos 0 <ℤ rise r.weight (r.edge (edge_of h)) → On r.weight (r.edge (edge_of h)) z
+    → InSomeTile (tiles a (b ∷ bs)) z
 wall_in r lab t a b bs hs tube h m z Z up on =
     let e = way r.edge h in
-    let i = tube_bound a b bs e (subst (λ (es : List Edge). Has e es) (sym tube.bounds) (way_in (way r.edge) h hs m)) in
-    (i.0, i.1, arrow_in i.0 e z i.2 (way_between r.weight r.edge h z (on_between r.weight (r.edge (edge_of h)) z up Z on)))
+    let i = tube_bound a b bs e
+    (subst (λ (es : List Edge). Has e es) (sym tube.bounds) (way_in (way r.edge) h hs m)) in (
+      i.0,
+      i.1,
+      arrow_in i.0 e z i.2
+          (way_between r.weight r.edge h z (on_between r.weight (r.edge (edge_of h)) z up Z on)),
+    )

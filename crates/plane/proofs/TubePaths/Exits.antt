@@ -19,7 +19,8 @@ use Rattle.plane.proofs.Windings.CommonPlaces.{decide_number}
 use Rattle.plane.proofs.Windings.Ways.{way_mix, way_start, way_end, way_place}
 use Rattle.plane.proofs.Algebra.Ring.{at, plus, minus, times, vars, ring}
 
--- x is on the edge of h, o is in a cell on the other side; between them only the edge of h is met, and only at x itself
+-- x is on the edge of h, o is in a cell on the other side; between them only the edge of h is met,
+-- and only at x itself
 pub record IsExit (r : Replay) (h : Half) (x o : Vector) : Type 0 where
   pub x_place : Place x
   pub o_place : Place o
@@ -36,18 +37,31 @@ same_start s t x o e = record { x = one s t x.x x.n o.x o.n e; y = one s t x.y x
   where
     one : (s t a m b n : ℤ) → t ≡ pos 0 → ((s *ℤ a) +ℤ (t *ℤ b)) *ℤ m ≡ a *ℤ ((s *ℤ m) +ℤ (t *ℤ n))
     one s t a m b n e =
-        let i = ring (minus (times (plus (times (at 0) (at 2)) (times (at 1) (at 4))) (at 3)) (times (at 2) (plus (times (at 0) (at 3)) (times (at 1) (at 5))))) (times (minus (times (at 4) (at 3)) (times (at 2) (at 5))) (at 1)) (vars (s ∷ t ∷ a ∷ m ∷ b ∷ n ∷ [])) refl in
+        let i = ring
+        (minus (times (plus (times (at 0) (at 2)) (times (at 1) (at 4))) (at 3))
+        (times (at 2) (plus (times (at 0) (at 3)) (times (at 1) (at 5)))))
+        (times (minus (times (at 4) (at 3)) (times (at 2) (at 5))) (at 1))
+        (vars (s ∷ t ∷ a ∷ m ∷ b ∷ n ∷ [])) refl in
         let j = product_of_zero ((b *ℤ m) -ℤ (a *ℤ n)) t e in
         omega (arith, ints, i, j)
 
 pub way_between : (p q z : Vector) → IsOnWay p q z → Between z p q
-way_between p q z w = subst (λ (v : Vector). Between v p q) (sym w.is) (record { s = w.s; t = w.t; s_least = w.s_least; t_least = w.t_least; some = w.some; is = record { x = refl; y = refl } })
+way_between p q z w =
+    subst (λ (v : Vector). Between v p q) (sym w.is) (record {
+      s = w.s;
+      t = w.t;
+      s_least = w.s_least;
+      t_least = w.t_least;
+      some = w.some;
+      is = record { x = refl; y = refl };
+    })
 
 not_zero : (s t u v : ℤ) → pos 0 ≤ℤ s → pos 0 ≤ℤ t → pos 0 <ℤ (s +ℤ t) → pos 0 <ℤ u
     → (v ≡ pos 0 → ⊥) → (s *ℤ (u *ℤ v)) +ℤ (t *ℤ v) ≡ pos 0 → ⊥
 not_zero s t u v hs ht some hu n e =
     let a = weight_at_most s u hs hu in
-    let i = ring (plus (times (at 0) (times (at 2) (at 3))) (times (at 1) (at 3))) (times (plus (times (at 0) (at 2)) (at 1)) (at 3)) (vars (s ∷ t ∷ u ∷ v ∷ [])) refl in
+    let i = ring (plus (times (at 0) (times (at 2) (at 3))) (times (at 1) (at 3)))
+    (times (plus (times (at 0) (at 2)) (at 1)) (at 3)) (vars (s ∷ t ∷ u ∷ v ∷ [])) refl in
     n (cancel_zero ((s *ℤ u) +ℤ t) v (omega (arith, ints, a, some)) (sym i ∙ e))
 
 on_the_line : (s a t b : ℤ) → a ≡ pos 0 → (s *ℤ a) +ℤ (t *ℤ b) ≡ t *ℤ b
@@ -79,20 +93,30 @@ module _ (r : Replay) (run : IsRun r) (law : IsLawful r) where
         X = way_place p q x P Q wx
 
         longer : (z : Vector) → IsOnWay x o z → IsOnWay p q z
-        longer z w = subst (λ (v : Vector). IsOnWay p q v) (sym w.is) (way_mix p q x o w.s w.t w.s_least w.t_least w.some wx wo)
+        longer z w =
+            subst (λ (v : Vector). IsOnWay p q v) (sym w.is)
+            (way_mix p q x o w.s w.t w.s_least w.t_least w.some wx wo)
 
         only : (z : Vector) → IsOnWay x o z → (f : ℕ) → f < r.edges → On r.weight (r.edge f) z
             → f ≡ e
         only z w f l k = elim (decide_number f e) [
           | inl i ↦ i
-          | inr i ↦ (let y = longer z w in absurd (cross.clear f l i record { z = z; place = way_place p q z P Q y; between = way_between p q z y; on = k }))
+          | inr i ↦ (let y = longer z w in
+              absurd (cross.clear f l i record {
+                z = z;
+                place = way_place p q z P Q y;
+                between = way_between p q z y;
+                on = k;
+              }))
         ]
 
         side_at : (z : Vector) (w : IsOnWay x o z) → side (r.edge e) z ≡ w.t *ℤ side (r.edge e) o
-        side_at z w = ap (λ (v : Vector). side (r.edge e) v) w.is ∙ side-mix (r.edge e) w.s x w.t o ∙ on_the_line w.s (side (r.edge e) x) w.t (side (r.edge e) o) on.line
+        side_at z w = ap (λ (v : Vector). side (r.edge e) v) w.is ∙ side-mix (r.edge e) w.s x w.t o
+            ∙ on_the_line w.s (side (r.edge e) x) w.t (side (r.edge e) o) on.line
 
         free : (z : Vector) (w : IsOnWay x o z) → pos 0 <ℤ w.t → IsFree r z o
-        free z w t f l = mix_clear r.weight (r.edge f) z o (way_place x o z X O w) O (λ s u hs hu some k.
+        free z w t f l =
+            mix_clear r.weight (r.edge f) z o (way_place x o z X O w) O (λ s u hs hu some k.
             let y = way_mix x o z o s u hs hu some w (way_end x o) in
             let i = only (mix s z u o) y f l k in
             let on_e = subst (λ (d : ℕ). On r.weight (r.edge d) (mix s z u o)) i k in
@@ -106,8 +130,16 @@ module _ (r : Replay) (run : IsRun r) (law : IsLawful r) where
         let b = cross.hits.between in
         let x = mix b.s p b.t q in (
           x,
-          record { s = b.s; t = b.t; s_least = b.s_least; t_least = b.t_least; some = b.some; is = refl },
-          on_same r.weight (r.edge e) cross.hits.z x b.is cross.hits.place (mix_place b.s p b.t q P Q b.s_least b.t_least b.some) cross.hits.on,
+          record {
+            s = b.s;
+            t = b.t;
+            s_least = b.s_least;
+            t_least = b.t_least;
+            some = b.some;
+            is = refl;
+          },
+          on_same r.weight (r.edge e) cross.hits.z x b.is cross.hits.place
+              (mix_place b.s p b.t q P Q b.s_least b.t_least b.some) cross.hits.on,
         )
 
   -- from each edge a way leads out on either side
@@ -115,10 +147,18 @@ module _ (r : Replay) (run : IsRun r) (law : IsLawful r) where
   exit (under e) l =
       let c = crossing_segment r run law e l in
       let m = met e c.0 c.1 c.2 in
-      let up = c.2.above in
-      (m.0, c.0, exit_to e c.0 c.1 c.2 (under e) m.0 c.0 refl m.1 (way_start c.0 c.1) c.2.p_place c.2.p_off m.2 (λ z. omega (arith, ints, up, z)) c.3)
+      let up = c.2.above in (
+        m.0,
+        c.0,
+        exit_to e c.0 c.1 c.2 (under e) m.0 c.0 refl m.1
+            (way_start c.0 c.1) c.2.p_place c.2.p_off m.2 (λ z. omega (arith, ints, up, z)) c.3,
+      )
   exit (over e) l =
       let c = crossing_segment r run law e l in
       let m = met e c.0 c.1 c.2 in
-      let down = c.2.below in
-      (m.0, c.1, exit_to e c.0 c.1 c.2 (over e) m.0 c.1 refl m.1 (way_end c.0 c.1) c.2.q_place c.2.q_off m.2 (λ z. omega (arith, ints, down, z)) c.4)
+      let down = c.2.below in (
+        m.0,
+        c.1,
+        exit_to e c.0 c.1 c.2 (over e) m.0 c.1 refl m.1
+            (way_end c.0 c.1) c.2.q_place c.2.q_off m.2 (λ z. omega (arith, ints, down, z)) c.4,
+      )

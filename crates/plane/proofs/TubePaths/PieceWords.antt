@@ -22,7 +22,8 @@ side_label T c inner_side = T.inner c
 side_label T c outer_side = T.outer c
 
 -- h faces tube c from within, at an edge of that side
-pub record IsSideWall (r : Replay) (lab : Labels) (T : Tubes) (c : ℕ) (s : Side) (h : Half) : Type 0 where
+pub record IsSideWall (r : Replay) (lab : Labels) (T : Tubes) (c : ℕ) (s : Side)
+    (h : Half) : Type 0 where
   pub has : Has h (T.halves c)
   pub label : mark lab (twin h) ≡ side_label T c s
   pub places : (z : Vector) → Place z → On r.weight (r.edge (edge_of h)) z
@@ -39,7 +40,8 @@ abbrev pub IsInSide : Tubes → ℕ → Side → Vector → Type 0
 IsInSide T c s z = InTubeAt T c z × IsOnSide T c s z
 
 -- what is known of the sides; Meets c p q: the segment from p to q hits the half arc of tube c
-pub record AreSides (r : Replay) (lab : Labels) (T : Tubes) (Meets : ℕ → Vector → Vector → Type 0) : Type 0 where
+pub record AreSides (r : Replay) (lab : Labels) (T : Tubes) (Meets : ℕ → Vector → Vector
+    → Type 0) : Type 0 where
   -- a segment that hits a half arc has a place in its tube, and is not on one side
   pub covers : (c : ℕ) → c < T.count → (u v : Vector) → Place u → Place v → Meets c u v
       → (z : Vector) × IsOnWay u v z × InTubeAt T c z
@@ -57,11 +59,13 @@ pub record AreSides (r : Replay) (lab : Labels) (T : Tubes) (Meets : ℕ → Vec
       → InTubeAt T c q → IsOnSide T c s p → IsOnSide T c s q → PathIn (IsInSide T c s) p q
 
 -- a list of places from p to q whose segments hit no curve
-pub data CurvePath (r : Replay) (T : Tubes) (Meets : ℕ → Vector → Vector → Type 0) : Vector → Vector → Type 0 where
+pub data CurvePath (r : Replay) (T : Tubes) (Meets : ℕ → Vector → Vector → Type 0) : Vector → Vector
+    → Type 0 where
   ends : (p q : Vector) → p ≡ q → CurvePath r T Meets p q
   leads : (p q v : Vector) → Place q → IsFreeOfCurves r T Meets p q → CurvePath r T Meets q v
       → CurvePath r T Meets p v
 
 -- joined, off the curves, to places as far to the left as wanted
 abbrev pub IsCurveOuter : Replay → Tubes → (ℕ → Vector → Vector → Type 0) → Vector → Type 0
-IsCurveOuter r T Meets p = (b : ℤ) → (q : Vector) × Place q × CurvePath r T Meets p q × (q.x <ℤ (b *ℤ q.n))
+IsCurveOuter r T Meets p =
+    (b : ℤ) → (q : Vector) × Place q × CurvePath r T Meets p q × (q.x <ℤ (b *ℤ q.n))

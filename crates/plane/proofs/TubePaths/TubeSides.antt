@@ -22,7 +22,8 @@ use Rattle.plane.proofs.TubePaths.AwayFrom.{path_more}
 are_inside : (h : HalfArc) (p : Point) (b : Bay) (bs : List Bay) (hc : IsCap (cap h))
     → IsRest h p b bs → AreInside h hc (b ∷ bs)
 are_inside h p b [] hc r = tt
-are_inside h p b (d ∷ ds) hc r = (first r.inside.0, are_inside h b.inner d ds hc (rest_of h p b d ds r))
+are_inside h p b (d ∷ ds) hc r =
+    (first r.inside.0, are_inside h b.inner d ds hc (rest_of h p b d ds r))
   where
     first : (power h (point b.inner) <ℤ pos 0) ⊎ (b.inner ≡ h.to) → power h (point b.inner) <ℤ pos 0
     first (inl k) = k
@@ -37,7 +38,8 @@ are_inside h p b (d ∷ ds) hc r = (first r.inside.0, are_inside h b.inner d ds 
 not_outside : (h : HalfArc) (hc : IsCap (cap h)) (b : Bay)
     → (power h (point b.inner) <ℤ pos 0) ⊎ (b.inner ≡ h.to) → NotOutside h hc b
 not_outside h hc b (inl k) = omega (arith, ints, k)
-not_outside h hc b (inr e) = let a = ap (λ (q : Point). power h (point q)) e ∙ power-to h in omega (arith, ints, a)
+not_outside h hc b (inr e) =
+    let a = ap (λ (q : Point). power h (point q)) e ∙ power-to h in omega (arith, ints, a)
 
 -- ---- the two parts
 abbrev pub Inner : HalfArc → List Bay → Vector → Type 0
@@ -51,15 +53,22 @@ pub inner_part : (h : HalfArc) (bs : List Bay) (p q : Vector) → IsTube h bs �
 inner_part h [] p q t P Q i j = absurd t.some
 inner_part h (b ∷ rest) p q t P Q i j =
     let hc = tube_cap h (b ∷ rest) t in
-    path_more (Within h hc (tiles h.from (b ∷ rest))) (Inner h (b ∷ rest)) (λ z k. (tiles_in_tube h.from b rest z k.0, k.1)) p q
-    (inner_piece h hc h.from b rest (are_inside h h.from b rest hc (tube_rest h b rest t)) p q P Q (tube_in_tiles h.from b rest p i.0, i.1) (tube_in_tiles h.from b rest q j.0, j.1))
+    path_more (Within h hc (tiles h.from (b ∷ rest))) (Inner h (b ∷ rest))
+    (λ z k. (tiles_in_tube h.from b rest z k.0, k.1)) p q
+    (inner_piece h hc h.from b rest (are_inside h h.from b rest hc (tube_rest h b rest t)) p q P Q
+    (tube_in_tiles h.from b rest p i.0, i.1) (tube_in_tiles h.from b rest q j.0, j.1))
 
 pub outer_part : (h : HalfArc) (bs : List Bay) (p q : Vector) → IsTube h bs → Place p → Place q
     → Outer h bs p → Outer h bs q → PathIn (Outer h bs) p q
 outer_part h [] p q t P Q i j = absurd t.some
 outer_part h (b ∷ rest) p q t P Q i j =
     let hc = tube_cap h (b ∷ rest) t in
-    let below : power h (point h.from) ≤ℤ pos 0 = (let e = power-from h in omega (arith, ints, e)) in
-    path_more (Without h hc (tiles h.from (b ∷ rest))) (Outer h (b ∷ rest)) (λ z k. (tiles_in_tube h.from b rest z k.0, k.1)) p q
-    (outer_piece h hc h.from h.to b rest (tube_outer h (b ∷ rest) t) (tube_outer_corners h (b ∷ rest) t)
-    (each_map (λ b. (power h (point b.inner) <ℤ pos 0) ⊎ (b.inner ≡ h.to)) (NotOutside h hc) (b ∷ rest) (not_outside h hc) t.inside) below p q P Q (tube_in_tiles h.from b rest p i.0, i.1) (tube_in_tiles h.from b rest q j.0, j.1))
+    let below : power h (point h.from) ≤ℤ pos 0 = (let e = power-from h in
+    omega (arith, ints, e)) in
+    path_more (Without h hc (tiles h.from (b ∷ rest))) (Outer h (b ∷ rest))
+    (λ z k. (tiles_in_tube h.from b rest z k.0, k.1)) p q
+    (outer_piece h hc h.from h.to b rest (tube_outer h (b ∷ rest) t)
+    (tube_outer_corners h (b ∷ rest) t)
+    (each_map (λ b. (power h (point b.inner) <ℤ pos 0) ⊎ (b.inner ≡ h.to)) (NotOutside h hc)
+    (b ∷ rest) (not_outside h hc) t.inside) below p q P Q
+    (tube_in_tiles h.from b rest p i.0, i.1) (tube_in_tiles h.from b rest q j.0, j.1))

@@ -1,4 +1,5 @@
--- Paths of a run with tubes are paths of the drawing; so a place of a tube is joined to a place beyond each edge of its side,
+-- Paths of a run with tubes are paths of the drawing; so a place of a tube is joined to a place
+-- beyond each edge of its side,
 -- and outside the tubes places joined off the edges are joined.
 use Rattle.std.proofs.Common.{◌≡◌, ℕ, ◌<◌, List, ℤ, pos, ◌<ℤ◌, inl, inr, refl, subst}
 use Rattle.plane.specs.Forms.Vectors.{Vector, Place, Same, Edge}
@@ -32,8 +33,10 @@ use Rattle.plane.proofs.TubedRuns.TubedOff.{label_off}
 use Rattle.plane.proofs.TubePaths.TubedSides.{part_of, are_sides, part_wall}
 use Rattle.plane.proofs.TubePaths.WaysOut.{way_out, free_last, joined_path}
 
-module _ (w : ℤ) (d : Plan) (bays : ℕ → List Bay) (m : ℕ) (E : ℕ → Edge) (steps : List Step) (lab : Labels) (within : ℕ → Half) (inside outside : ℕ → ℕ)
-    (swept : WeighedRun w m E steps) (is : IsTubedRun d bays m E steps) (L : AreTubeLabels d bays (replay w m E steps) lab within inside outside) where
+module _ (w : ℤ) (d : Plan) (bays : ℕ → List Bay) (m : ℕ) (E : ℕ → Edge) (steps : List Step)
+    (lab : Labels) (within : ℕ → Half) (inside outside : ℕ → ℕ)
+    (swept : WeighedRun w m E steps) (is : IsTubedRun d bays m E steps)
+    (L : AreTubeLabels d bays (replay w m E steps) lab within inside outside) where
   abbrev r : Replay
   r = replay w m E steps
 
@@ -52,10 +55,13 @@ module _ (w : ℤ) (d : Plan) (bays : ℕ → List Bay) (m : ℕ) (E : ℕ → E
   -- ---- paths
   path_rule : (p q : Vector) → CurvePath r T (MeetsArc d) p q → Place p → rule.IsOff d p
       → Path d p q
-  path_rule _ _ (paths.ends p q e) P none = steps_of.ends p q (subst (λ (z : Vector). Same p z) e (same_refl p)) none
+  path_rule _ _ (paths.ends p q e) P none =
+      steps_of.ends p q (subst (λ (z : Vector). Same p z) e (same_refl p)) none
   path_rule _ _ (paths.leads p x q X free j) P none =
-      let alone = free_clear w d bays m E steps lab within inside outside swept is L x x X X (free_last r whole lab L.matched T (MeetsArc d) all sides p x free) in
-      steps_of.goes p x q none X (free_clear w d bays m E steps lab within inside outside swept is L p x P X free)
+      let alone = free_clear w d bays m E steps lab within inside outside swept is L x x X X
+      (free_last r whole lab L.matched T (MeetsArc d) all sides p x free) in
+      steps_of.goes p x q none X
+      (free_clear w d bays m E steps lab within inside outside swept is L p x P X free)
       (path_rule x q j X (λ i li on. alone i li ((hits_alone (curve d i) x X).1 on)))
 
   pub curves_joined : (p q : Vector) → Place p → rule.IsOff d p → CurvePath r T (MeetsArc d) p q
@@ -80,24 +86,42 @@ module _ (w : ℤ) (d : Plan) (bays : ℕ → List Bay) (m : ℕ) (E : ℕ → E
       → IsOnSide T c s z → rule.IsOff d z
       → (o : Vector) × IsBeyond x z o
   beyond c l s x lx own part z Z i k none =
-      let o = way_out r whole lab L.matched T (MeetsArc d) all sides c l s (within x) (part_wall w d bays m E steps lab within inside outside swept is L c l s x lx own part) z Z i k in
-      (o.0, record { place = o.1.place; off = o.1.off; in_none = o.1.outside; beside = o.1.beside; joined = curves_joined z o.0 Z none o.1.path })
+      let o = way_out r whole lab L.matched T (MeetsArc d) all sides c l s (within x)
+      (part_wall w d bays m E steps lab within inside outside swept is L c l s x lx own part) z
+      Z i k in (
+        o.0,
+        record {
+          place = o.1.place;
+          off = o.1.off;
+          in_none = o.1.outside;
+          beside = o.1.beside;
+          joined = curves_joined z o.0 Z none o.1.path;
+        },
+      )
 
   pub beyond_inner : (c : ℕ) → c < T.count → (x : ℕ) → x < m → (owned d bays x).curve ≡ arc_at d c
       → (owned d bays x).part ≡ inner → (z : Vector) → Place z → InTubeAt T c z
       → power (arc (curve d (arc_at d c))) z <ℤ pos 0
       → (o : Vector) × IsBeyond x z o
-  beyond_inner c l x lx own part z Z i k = beyond c l inner_side x lx own part z Z i k (label_off w d bays m E steps lab within inside outside swept is L z Z (T.inner c) (inl (c, l, i, inl (k, refl))))
+  beyond_inner c l x lx own part z Z i k =
+      beyond c l inner_side x lx own part z Z i k
+      (label_off w d bays m E steps lab within inside outside swept is L z Z (T.inner c)
+      (inl (c, l, i, inl (k, refl))))
 
   pub beyond_outer : (c : ℕ) → c < T.count → (x : ℕ) → x < m → (owned d bays x).curve ≡ arc_at d c
       → (owned d bays x).part ≡ outer → (z : Vector) → Place z → InTubeAt T c z
       → pos 0 <ℤ power (arc (curve d (arc_at d c))) z
       → (o : Vector) × IsBeyond x z o
-  beyond_outer c l x lx own part z Z i k = beyond c l outer_side x lx own part z Z i k (label_off w d bays m E steps lab within inside outside swept is L z Z (T.outer c) (inl (c, l, i, inr (k, refl))))
+  beyond_outer c l x lx own part z Z i k =
+      beyond c l outer_side x lx own part z Z i k
+      (label_off w d bays m E steps lab within inside outside swept is L z Z (T.outer c)
+      (inl (c, l, i, inr (k, refl))))
 
   -- ---- outside the tubes
   pub joined_outside : (p q : Vector) → Place p → Place q → IsOffEdges r p
       → ((c : ℕ) → c < T.count → InTubeAt T c p → ⊥) → cells.JoinedByEdges r p q → Joined d p q
   joined_outside p q P Q off out j =
-      curves_joined p q P (label_off w d bays m E steps lab within inside outside swept is L p P (label_of lab r (sector r p)) (inr (out, off, refl)))
+      curves_joined p q P
+      (label_off w d bays m E steps lab within inside outside swept is L p P
+      (label_of lab r (sector r p)) (inr (out, off, refl)))
       (joined_path r whole lab L.matched T (MeetsArc d) all sides p q j P Q off out)

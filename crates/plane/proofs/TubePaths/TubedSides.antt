@@ -1,4 +1,5 @@
--- In a drawing with half arcs and a run over its edge list, each side of each half arc has an edge and is one piece in the tube.
+-- In a drawing with half arcs and a run over its edge list, each side of each half arc has an edge
+-- and is one piece in the tube.
 use Rattle.std.proofs.Common.{◌≡◌, ℕ, ◌<◌, List, ℤ, pos, ◌≤ℤ◌}
 use Rattle.plane.specs.Forms.Vectors.{Vector, Place, Same, mix, Edge}
 use Rattle.plane.specs.Rule.HalfArcs.{HalfArc}
@@ -29,8 +30,10 @@ abbrev pub part_of : Side → Part
 part_of inner_side = inner
 part_of outer_side = outer
 
-module _ (w : ℤ) (d : Plan) (bays : ℕ → List Bay) (m : ℕ) (E : ℕ → Edge) (steps : List Step) (lab : Labels) (within : ℕ → Half) (inside outside : ℕ → ℕ)
-    (swept : WeighedRun w m E steps) (is : IsTubedRun d bays m E steps) (L : AreTubeLabels d bays (replay w m E steps) lab within inside outside) where
+module _ (w : ℤ) (d : Plan) (bays : ℕ → List Bay) (m : ℕ) (E : ℕ → Edge) (steps : List Step)
+    (lab : Labels) (within : ℕ → Half) (inside outside : ℕ → ℕ)
+    (swept : WeighedRun w m E steps) (is : IsTubedRun d bays m E steps)
+    (L : AreTubeLabels d bays (replay w m E steps) lab within inside outside) where
   abbrev r : Replay
   r = replay w m E steps
 
@@ -45,7 +48,8 @@ module _ (w : ℤ) (d : Plan) (bays : ℕ → List Bay) (m : ℕ) (E : ℕ → E
     h = arc (curve d i)
 
     t : IsTube h (bays i)
-    t = is.tube i (arc_fits w d bays m E steps lab within inside outside swept is L c l) (arc_bent w d bays m E steps lab within inside outside swept is L c l)
+    t = is.tube i (arc_fits w d bays m E steps lab within inside outside swept is L c l)
+        (arc_bent w d bays m E steps lab within inside outside swept is L c l)
 
     to_one : (z : Vector) → InTubeAt T c z → one.InTube h.from (bays i) z
     to_one z k = (tube_places w d bays m E steps lab within inside outside swept is L c l z).0 k
@@ -57,18 +61,36 @@ module _ (w : ℤ) (d : Plan) (bays : ℕ → List Bay) (m : ℕ) (E : ℕ → E
     pub part_wall : (s : Side) (x : ℕ) → x < m → (owned d bays x).curve ≡ i
         → (owned d bays x).part ≡ part_of s → IsSideWall r lab T c s (within x)
     part_wall inner_side x k e p =
-        let f = inner_edge w d bays m E steps lab within inside outside swept is L i (arc_fits w d bays m E steps lab within inside outside swept is L c l) (arc_bent w d bays m E steps lab within inside outside swept is L c l) x k e p in
-        record { has = (edge_in_tube w d bays m E steps lab within inside outside swept is L c l x k e).0; label = f.0; places = f.1 }
+        let f = inner_edge w d bays m E steps lab within inside outside swept is L i
+        (arc_fits w d bays m E steps lab within inside outside swept is L c l)
+        (arc_bent w d bays m E steps lab within inside outside swept is L c l) x k e p in
+        record {
+          has = (edge_in_tube w d bays m E steps lab within inside outside swept is L c l x k
+              e).0;
+          label = f.0;
+          places = f.1;
+        }
     part_wall outer_side x k e p =
-        let f = outer_edge w d bays m E steps lab within inside outside swept is L i (arc_fits w d bays m E steps lab within inside outside swept is L c l) (arc_bent w d bays m E steps lab within inside outside swept is L c l) x k e p in
-        record { has = (edge_in_tube w d bays m E steps lab within inside outside swept is L c l x k e).0; label = f.0; places = f.1 }
+        let f = outer_edge w d bays m E steps lab within inside outside swept is L i
+        (arc_fits w d bays m E steps lab within inside outside swept is L c l)
+        (arc_bent w d bays m E steps lab within inside outside swept is L c l) x k e p in
+        record {
+          has = (edge_in_tube w d bays m E steps lab within inside outside swept is L c l x k
+              e).0;
+          label = f.0;
+          places = f.1;
+        }
 
     some_wall : (s : Side) → (g : Half) × IsSideWall r lab T c s g
     some_wall inner_side =
-        let x = some_inner d bays m E steps is i (arc_fits w d bays m E steps lab within inside outside swept is L c l) (arc_bent w d bays m E steps lab within inside outside swept is L c l) in
+        let x = some_inner d bays m E steps is i
+        (arc_fits w d bays m E steps lab within inside outside swept is L c l)
+        (arc_bent w d bays m E steps lab within inside outside swept is L c l) in
         (within x.0, part_wall inner_side x.0 x.1 x.2 x.3)
     some_wall outer_side =
-        let x = some_outer d bays m E steps is i (arc_fits w d bays m E steps lab within inside outside swept is L c l) (arc_bent w d bays m E steps lab within inside outside swept is L c l) in
+        let x = some_outer d bays m E steps is i
+        (arc_fits w d bays m E steps lab within inside outside swept is L c l)
+        (arc_bent w d bays m E steps lab within inside outside swept is L c l) in
         (within x.0, part_wall outer_side x.0 x.1 x.2 x.3)
 
     misses : (s : Side) (p q : Vector) → Place p → Place q
@@ -82,18 +104,24 @@ module _ (w : ℤ) (d : Plan) (bays : ℕ → List Bay) (m : ℕ) (E : ℕ → E
     same outer_side z v Z V e k = outside_same h z v Z V e k
 
     near : (s : Side) (x y : Vector) → IsOnSide T c s x
-        → (n : ℤ) × (pos 0 ≤ℤ n) × ((z : Vector) → IsOnWay x (mix n x (pos 1) y) z → IsOnSide T c s z)
+        → (n : ℤ) × (pos 0 ≤ℤ n) × ((z : Vector) → IsOnWay x (mix n x (pos 1) y) z
+        → IsOnSide T c s z)
     near inner_side x y k = near_inside h x y k
     near outer_side x y k = near_outside h x y k
 
     piece : (s : Side) (p q : Vector) → Place p → Place q → InTubeAt T c p → InTubeAt T c q
         → IsOnSide T c s p → IsOnSide T c s q → PathIn (IsInSide T c s) p q
-    piece inner_side p q P Q a b x y = path_more (Inner h (bays i)) (IsInSide T c inner_side) (λ z k. (from_one z k.0, k.1)) p q (inner_part h (bays i) p q t P Q (to_one p a, x) (to_one q b, y))
-    piece outer_side p q P Q a b x y = path_more (Outer h (bays i)) (IsInSide T c outer_side) (λ z k. (from_one z k.0, k.1)) p q (outer_part h (bays i) p q t P Q (to_one p a, x) (to_one q b, y))
+    piece inner_side p q P Q a b x y =
+        path_more (Inner h (bays i)) (IsInSide T c inner_side) (λ z k. (from_one z k.0, k.1)) p q
+        (inner_part h (bays i) p q t P Q (to_one p a, x) (to_one q b, y))
+    piece outer_side p q P Q a b x y =
+        path_more (Outer h (bays i)) (IsInSide T c outer_side) (λ z k. (from_one z k.0, k.1)) p q
+        (outer_part h (bays i) p q t P Q (to_one p a, x) (to_one q b, y))
 
   pub are_sides : AreSides r lab T (MeetsArc d)
   are_sides = record {
-    covers = λ c l u v U V k. tubes_cover w d bays m E steps lab within inside outside swept is L c l u v U V k;
+    covers = λ c l u v U V k. tubes_cover w d bays m E steps lab within inside outside swept is L c
+        l u v U V k;
     misses = λ c l s p q P Q f. misses c l s p q P Q f;
     same = λ c l s z v Z V e k. same c l s z v Z V e k;
     near = λ c l s x y X Y k. near c l s x y k;

@@ -13,17 +13,22 @@ use Rattle.plane.proofs.TubedRuns.ArcEdges.{group_curve}
 
 first_rises : (bays : ℕ → List Bay) (none : Curve) (j : ℕ) (cs : List Curve) (i k n : ℕ) → i < k
     → k < length cs → n ≡ j + i
-    → (first_edge bays j cs i + length (edges_of n (get_or cs i none).kind (get_or cs i none) (bays n))) ≤ first_edge bays j cs k
+    → (first_edge bays j cs i + length
+    (edges_of n (get_or cs i none).kind (get_or cs i none) (bays n))) ≤ first_edge bays j cs k
 first_rises bays none j [] i k n l h e = absurd (omega arith)
 first_rises bays none j (c ∷ cs) i zero n l h e = absurd (omega arith)
 first_rises bays none j (c ∷ cs) zero (suc k) n l h e =
-    let g : length (edges_of n c.kind c (bays n)) ≡ length (edges_of j c.kind c (bays j)) = ap (λ (x : ℕ). length (edges_of x c.kind c (bays x))) (omega (arith, e)) in
+    let g : length (edges_of n c.kind c (bays n))
+    ≡ length (edges_of j c.kind c (bays j)) =
+    ap (λ (x : ℕ). length (edges_of x c.kind c (bays x))) (omega (arith, e)) in
     omega (arith, g)
 first_rises bays none j (c ∷ cs) (suc i) (suc k) n l h e =
-    let g = first_rises bays none (suc j) cs i k n (omega (arith, l)) (omega (arith, h)) (omega (arith, e)) in
+    let g = first_rises bays none (suc j) cs i k n (omega (arith, l)) (omega (arith, h))
+    (omega (arith, e)) in
     omega (arith, g)
 
-module _ (d : Plan) (bays : ℕ → List Bay) (m : ℕ) (E : ℕ → Edge) (steps : List Step) (is : IsTubedRun d bays m E steps) where
+module _ (d : Plan) (bays : ℕ → List Bay) (m : ℕ) (E : ℕ → Edge) (steps : List Step)
+    (is : IsTubedRun d bays m E steps) where
   pub edge_before : (x e : ℕ) → x < m → e < m → (owned d bays x).curve < (owned d bays e).curve
       → x < e
   edge_before x e lx le l =
@@ -34,7 +39,8 @@ module _ (d : Plan) (bays : ℕ → List Bay) (m : ℕ) (E : ℕ → Edge) (step
       let nb = b.number in
       let oa = group_curve d bays m E steps is x a (omega (arith, na)) in
       let ob = group_curve d bays m E steps is e b (omega (arith, nb)) in
-      let r = first_rises bays no_curve 0 d.curves a.index b.index a.curve (omega (arith, oa, ob, l)) b.fits na in
+      let r = first_rises bays no_curve 0 d.curves a.index b.index a.curve
+      (omega (arith, oa, ob, l)) b.fits na in
       let t = a.there in
       let p = a.is in
       let q = b.is in

@@ -59,7 +59,9 @@ module _ (d : Plan) (bays : ℕ → List Bay) (E : ℕ → Edge) where
   tag e = tube_tag (owned d bays e).part (owned d bays e).curve
 
   pub edge_within : (e : ℕ) → edge_of (within e) ≡ e
-  edge_within e = side_edge (third_is_left (owner d bays e)) (owned d bays e).part (runs_on (owner d bays e) (E e)) e
+  edge_within e =
+      side_edge (third_is_left (owner d bays e)) (owned d bays e).part
+      (runs_on (owner d bays e) (E e)) e
 
   faced_at : (h : Half) (e : ℕ) → edge_of h ≡ e
       → faced d bays E h ≡ on_one_side h (within e) (tag e)
@@ -67,13 +69,17 @@ module _ (d : Plan) (bays : ℕ → List Bay) (E : ℕ → Edge) where
 
   pub faced_within : (e : ℕ) → IsOfTube (owned d bays e).part
       → faced d bays E (within e) ≡ suc (owned d bays e).curve
-  faced_within e o = faced_at (within e) e (edge_within e) ∙ self_tag (within e) (tag e) ∙ part_tag (owned d bays e).part (owned d bays e).curve o
+  faced_within e o = faced_at (within e) e (edge_within e) ∙ self_tag (within e) (tag e)
+      ∙ part_tag (owned d bays e).part (owned d bays e).curve o
 
   pub faced_twin : (e : ℕ) → faced d bays E (twin (within e)) ≡ 0
-  faced_twin e = faced_at (twin (within e)) e (edge_twin (within e) ∙ edge_within e) ∙ twin_tag (within e) (tag e)
+  faced_twin e = faced_at (twin (within e)) e (edge_twin (within e) ∙ edge_within e)
+      ∙ twin_tag (within e) (tag e)
 
   pub faced_whole : (h : Half) → (owned d bays (edge_of h)).part ≡ whole → faced d bays E h ≡ 0
-  faced_whole h p = ap (λ (x : Part). on_one_side h (within (edge_of h)) (tube_tag x (owned d bays (edge_of h)).curve)) p ∙ no_tag h (within (edge_of h))
+  faced_whole h p =
+      ap (λ (x : Part). on_one_side h (within (edge_of h))
+      (tube_tag x (owned d bays (edge_of h)).curve)) p ∙ no_tag h (within (edge_of h))
 
   -- what a number says of a half-edge
   pub record IsFaced (h : Half) (c : ℕ) : Type 0 where
@@ -83,7 +89,8 @@ module _ (d : Plan) (bays : ℕ → List Bay) (E : ℕ → Edge) where
 
   pub faced_is : (h : Half) (c : ℕ) → faced d bays E h ≡ suc c → IsFaced h c
   faced_is h c e =
-      let t = tag_same h (within (edge_of h)) (tag (edge_of h)) c (sym (edge_within (edge_of h))) e in
+      let t = tag_same h (within (edge_of h)) (tag (edge_of h)) c
+      (sym (edge_within (edge_of h))) e in
       let p = tag_part (owned d bays (edge_of h)).part (owned d bays (edge_of h)).curve c t.1 in
       record { part = p.0; curve = p.1; is = t.0 }
 
@@ -91,13 +98,16 @@ module _ (d : Plan) (bays : ℕ → List Bay) (E : ℕ → Edge) where
       → h ≡ twin (within (edge_of h))
   not_faced h o e = elim (half_or_twin (within (edge_of h)) h (edge_within (edge_of h))) [
     | inr q ↦ q
-    | inl q ↦ absurd (no_suc (faced d bays E h) (owned d bays (edge_of h)).curve e (ap (faced d bays E) q ∙ faced_within (edge_of h) o))
+    | inl q ↦ absurd
+        (no_suc (faced d bays E h) (owned d bays (edge_of h)).curve e (ap (faced d bays E) q
+        ∙ faced_within (edge_of h) o))
   ]
 
   -- one half-edge of an edge faces its tube
   before_differs : (p q : Point) → Before p q → p ≡ q → ⊥
   before_differs p q (inl l) e = let x = ap (λ (v : Point). v.x) e in omega (arith, ints, x, l)
-  before_differs p q (inr l) e = let y = ap (λ (v : Point). v.y) e in let k = l.1 in omega (arith, ints, y, k)
+  before_differs p q (inr l) e =
+      let y = ap (λ (v : Point). v.y) e in let k = l.1 in omega (arith, ints, y, k)
 
   way_back : (g : Half) → Before (E (edge_of g)).low (E (edge_of g)).high → way E (twin g) ≡ way E g
       → ⊥
@@ -111,5 +121,7 @@ module _ (d : Plan) (bays : ℕ → List Bay) (E : ℕ → Edge) where
       → FacesTube d bays E e h → h ≡ g
   one_faces e g h b fg fh = elim (half_or_twin g h (fg.edge ∙ sym fh.edge)) [
     | inl q ↦ q
-    | inr q ↦ absurd (way_back g (subst (λ (x : ℕ). Before (E x).low (E x).high) (sym fg.edge) b) (sym (ap (way E) q) ∙ fh.left ∙ sym fg.left))
+    | inr q ↦ absurd
+        (way_back g (subst (λ (x : ℕ). Before (E x).low (E x).high) (sym fg.edge) b)
+        (sym (ap (way E) q) ∙ fh.left ∙ sym fg.left))
   ]

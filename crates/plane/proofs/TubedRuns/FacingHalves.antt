@@ -1,4 +1,5 @@
--- The half-edge that faces a tube from within, as a program tells it: by the direction of the edge along the chord.
+-- The half-edge that faces a tube from within, as a program tells it: by the direction of the edge
+-- along the chord.
 use Rattle.std.proofs.Common.{◌≡◌, ℕ, suc, ◌+◌, ◌<◌, ◌≤◌, Bool, true, false, List, [], ◌∷◌, ◌++◌}
 use Rattle.std.proofs.Common.{length, ℤ, ◌-ℤ◌, ◌<ℤ◌, inl, inr, refl, arith, ap, sym, ◌∙◌, subst}
 use Rattle.std.proofs.lemmas.Int.{ints}
@@ -49,7 +50,8 @@ module _ (h : HalfArc) where
   outer_later : (i : ℕ) (q p e : Point) (bs : List Bay) → Rises q p → last_inner p bs ≡ e
       → AreBays h p bs → AllRise (chain i outer q (outer_corners bs ++ e ∷ []))
   outer_later i q p e [] r l a = (subst (λ (x : Point). Rises q x) l r, tt)
-  outer_later i q p e (b ∷ bs) r l a = (step_up _ _ _ r a.0.up, outer_later i b.outer b.inner e bs a.0.on l a.1)
+  outer_later i q p e (b ∷ bs) r l a =
+      (step_up _ _ _ r a.0.up, outer_later i b.outer b.inner e bs a.0.on l a.1)
 
   outer_rise : (i : ℕ) (p e : Point) (b : Bay) (bs : List Bay) → last_inner p (b ∷ bs) ≡ e
       → AreBays h p (b ∷ bs) → AllRise (chain i outer p (outer_corners (b ∷ bs) ++ e ∷ []))
@@ -60,7 +62,8 @@ module _ (h : HalfArc) where
   by_number f n x [] g a l k = absurd (omega (arith, l, k))
   by_number f n x (o ∷ os) g a l k = by_order n x
       (λ (j : n < x). by_number f (suc n) x os g.1 a.1 (omega (arith, j)) (omega (arith, k)))
-      (λ (j : x ≤ n). subst (λ (y : Owned). Rises y.from y.to) (sym (ap f (omega (arith, l, j)) ∙ g.0)) a.0)
+      (λ (j : x ≤ n). subst (λ (y : Owned). Rises y.from y.to)
+      (sym (ap f (omega (arith, l, j)) ∙ g.0)) a.0)
 
 -- an arrow between two points is that of the half-edge over or under the edge
 over_way : (E : ℕ → Edge) (e : ℕ) (p q : Point) → (E e).low ≡ p → (E e).high ≡ q
@@ -107,16 +110,20 @@ up_test a b x y e f l = positive_is (y -ℤ x) (omega (arith, ints, e, f, l))
 down_test : (a b x y : ℤ) → x ≡ b → y ≡ a → a <ℤ b → is_positive (y -ℤ x) ≡ false
 down_test a b x y e f l = not_positive (y -ℤ x) (omega (arith, ints, e, f, l))
 
-module _ (d : Plan) (bays : ℕ → List Bay) (m : ℕ) (E : ℕ → Edge) (steps : List Step) (is : IsTubedRun d bays m E steps) where
+module _ (d : Plan) (bays : ℕ → List Bay) (m : ℕ) (E : ℕ → Edge) (steps : List Step)
+    (is : IsTubedRun d bays m E steps) where
   abbrev f : ℕ → Owned
   f e = owned d bays e
 
   -- the edges of a tube rise along its chord
   pub edge_rises : (e : ℕ) → e < m → IsOfTube (f e).part
-      → along (arc (owner d bays e)) (point (f e).from) <ℤ along (arc (owner d bays e)) (point (f e).to)
+      → along (arc (owner d bays e)) (point (f e).from) <ℤ along (arc (owner d bays e))
+      (point (f e).to)
   edge_rises e l o = elim (owner_is d bays m E steps is e l) [
     | inl s ↦ absurd (subst IsOfTube s.part o)
-    | inr a ↦ subst (λ (i : ℕ). along (arc (curve d i)) (point (f e).from) <ℤ along (arc (curve d i)) (point (f e).to)) (sym a.number) (risen a)
+    | inr a ↦ subst
+        (λ (i : ℕ). along (arc (curve d i)) (point (f e).from) <ℤ along (arc (curve d i))
+        (point (f e).to)) (sym a.number) (risen a)
   ]
     where
       all_rise : (i : ℕ) → IsTube (arc (curve d i)) (bays i)
@@ -126,22 +133,36 @@ module _ (d : Plan) (bays : ℕ → List Bay) (m : ℕ) (E : ℕ → Edge) (step
           by_bays : (bs : List Bay) → IsTube (arc (curve d i)) bs
               → AllRise (arc (curve d i)) (edges_of i kind.HalfArc (curve d i) bs)
           by_bays [] t = absurd t.some
-          by_bays (b ∷ bs) t = all_append (arc (curve d i)) (chain i inner (curve d i).from (inner_corners (b ∷ bs))) _ (inner_rise (arc (curve d i)) i (curve d i).from (b ∷ bs) t.are_bays)
-              (outer_rise (arc (curve d i)) i (curve d i).from (curve d i).to b bs (last_is (curve d i).from (curve d i).to b bs t.ends) t.are_bays)
+          by_bays (b ∷ bs) t =
+              all_append (arc (curve d i)) (chain i inner (curve d i).from (inner_corners (b ∷ bs)))
+              _ (inner_rise (arc (curve d i)) i (curve d i).from (b ∷ bs) t.are_bays)
+              (outer_rise (arc (curve d i)) i (curve d i).from (curve d i).to b bs
+              (last_is (curve d i).from (curve d i).to b bs t.ends) t.are_bays)
 
       risen : (a : IsOfArc d bays m E steps is e)
-          → along (arc (curve d a.index)) (point (f e).from) <ℤ along (arc (curve d a.index)) (point (f e).to)
+          → along (arc (curve d a.index)) (point (f e).from) <ℤ along (arc (curve d a.index))
+          (point (f e).to)
       risen a =
-          by_number (arc (curve d a.index)) f (first_edge bays 0 d.curves a.index) e (edges_of a.index kind.HalfArc (curve d a.index) (bays a.index))
-          (subst (λ (kd : CurveKind). IsFrom f (first_edge bays 0 d.curves a.index) (edges_of a.index kd (curve d a.index) (bays a.index))) a.bent (group_at bays no_curve 0 d.curves a.index a.index a.fits (omega arith)))
+          by_number (arc (curve d a.index)) f (first_edge bays 0 d.curves a.index) e
+          (edges_of a.index kind.HalfArc (curve d a.index) (bays a.index))
+          (subst (λ (kd : CurveKind). IsFrom f (first_edge bays 0 d.curves a.index)
+          (edges_of a.index kd (curve d a.index) (bays a.index))) a.bent
+          (group_at bays no_curve 0 d.curves a.index a.index a.fits (omega arith)))
           (all_rise a.index (is.tube a.index a.fits a.bent)) a.from a.below
 
   pub faces : (e : ℕ) → e < m → IsOfTube (f e).part → FacesTube d bays E e (half_within d bays E e)
   faces e l o = record {
     edge = side_edge (third_is_left (owner d bays e)) (f e).part (runs_on (owner d bays e) (E e)) e;
     left = elim (is.edge e l) [
-      | inl k ↦ ap (λ (on : Bool). way E (side_within (third_is_left (owner d bays e)) (f e).part on e)) (up_test _ _ _ _ (value k.0) (value k.1) (edge_rises e l o)) ∙ along_way E e (third_is_left (owner d bays e)) (f e).part (f e).from (f e).to o k.0 k.1
-      | inr k ↦ ap (λ (on : Bool). way E (side_within (third_is_left (owner d bays e)) (f e).part on e)) (down_test _ _ _ _ (value k.0) (value k.1) (edge_rises e l o)) ∙ against_way E e (third_is_left (owner d bays e)) (f e).part (f e).from (f e).to o k.0 k.1
+      | inl k ↦ ap
+          (λ (on : Bool). way E (side_within (third_is_left (owner d bays e)) (f e).part on e))
+          (up_test _ _ _ _ (value k.0) (value k.1) (edge_rises e l o))
+          ∙ along_way E e (third_is_left (owner d bays e)) (f e).part (f e).from (f e).to o k.0 k.1
+      | inr k ↦ ap
+          (λ (on : Bool). way E (side_within (third_is_left (owner d bays e)) (f e).part on e))
+          (down_test _ _ _ _ (value k.0) (value k.1) (edge_rises e l o))
+          ∙ against_way E e (third_is_left (owner d bays e)) (f e).part (f e).from
+          (f e).to o k.0 k.1
     ];
   }
     where

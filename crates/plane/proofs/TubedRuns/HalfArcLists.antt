@@ -23,7 +23,15 @@ module _ (no_curve : Curve) where
 
   later : (j : ℕ) (c : Curve) (cs : List Curve) (i : ℕ) → IsArcOf (suc j) cs i
       → IsArcOf j (c ∷ cs) i
-  later j c cs i h = let a = h.fits in let b = h.number in record { index = suc h.index; fits = omega (arith, a); number = omega (arith, b); bent = h.bent }
+  later j c cs i h =
+      let a = h.fits in
+      let b = h.number in
+      record {
+        index = suc h.index;
+        fits = omega (arith, a);
+        number = omega (arith, b);
+        bent = h.bent;
+      }
 
   pub arc_of : (j : ℕ) (cs : List Curve) (k : ℕ) → k < length (half_arcs j cs)
       → IsArcOf j cs (get_or (half_arcs j cs) k 0)
@@ -31,14 +39,18 @@ module _ (no_curve : Curve) where
   arc_of j (c ∷ cs) k l = by_kind c.kind refl (λ n o. arc_of (suc j) cs n o) l
     where
       here : c.kind ≡ kind.HalfArc
-          → ((n : ℕ) → n < length (half_arcs (suc j) cs) → IsArcOf (suc j) cs (get_or (half_arcs (suc j) cs) n 0))
-          → (n : ℕ) → n < suc (length (half_arcs (suc j) cs)) → IsArcOf j (c ∷ cs) (get_or (j ∷ half_arcs (suc j) cs) n 0)
+          → ((n : ℕ) → n < length (half_arcs (suc j) cs)
+          → IsArcOf (suc j) cs (get_or (half_arcs (suc j) cs) n 0))
+          → (n : ℕ) → n < suc (length (half_arcs (suc j) cs))
+          → IsArcOf j (c ∷ cs) (get_or (j ∷ half_arcs (suc j) cs) n 0)
       here e again zero o = record { index = 0; fits = omega arith; number = omega arith; bent = e }
       here e again (suc n) o = later j c cs _ (again n (omega (arith, o)))
 
       by_kind : (kd : CurveKind) → c.kind ≡ kd
-          → ((n : ℕ) → n < length (half_arcs (suc j) cs) → IsArcOf (suc j) cs (get_or (half_arcs (suc j) cs) n 0))
-          → k < length (listed_arc kd j (half_arcs (suc j) cs)) → IsArcOf j (c ∷ cs) (get_or (listed_arc kd j (half_arcs (suc j) cs)) k 0)
+          → ((n : ℕ) → n < length (half_arcs (suc j) cs)
+          → IsArcOf (suc j) cs (get_or (half_arcs (suc j) cs) n 0))
+          → k < length (listed_arc kd j (half_arcs (suc j) cs))
+          → IsArcOf j (c ∷ cs) (get_or (listed_arc kd j (half_arcs (suc j) cs)) k 0)
       by_kind kind.Straight e again m = later j c cs _ (again k m)
       by_kind kind.HalfArc e again m = here e again k m
 
@@ -50,7 +62,8 @@ module _ (no_curve : Curve) where
     where
       here : Rises (half_arcs (suc j) cs) → Rises (j ∷ half_arcs (suc j) cs)
       here again a zero l m = absurd (omega arith)
-      here again zero (suc b) l m = let r = arc_of (suc j) cs b (omega (arith, m)) in let n = r.number in omega (arith, n)
+      here again zero (suc b) l m =
+          let r = arc_of (suc j) cs b (omega (arith, m)) in let n = r.number in omega (arith, n)
       here again (suc a) (suc b) l m = again a b (omega (arith, l)) (omega (arith, m))
 
       by_kind : (kd : CurveKind) → Rises (half_arcs (suc j) cs)
@@ -63,12 +76,17 @@ module _ (no_curve : Curve) where
       → (get_or cs i no_curve).kind ≡ kind.HalfArc
       → (k : ℕ) × (k < length (half_arcs j cs)) × (get_or (half_arcs j cs) k 0 ≡ j + i)
   arc_listed j [] i l e = absurd (omega arith)
-  arc_listed j (c ∷ cs) zero l e = subst (λ (kd : CurveKind). (k : ℕ) × (k < length (listed_arc kd j (half_arcs (suc j) cs))) × (get_or (listed_arc kd j (half_arcs (suc j) cs)) k 0 ≡ j + 0)) (sym e)
+  arc_listed j (c ∷ cs) zero l e =
+      subst (λ (kd : CurveKind). (k : ℕ) × (k < length (listed_arc kd j (half_arcs (suc j) cs)))
+      × (get_or (listed_arc kd j (half_arcs (suc j) cs)) k 0 ≡ j + 0)) (sym e)
       (0, omega arith, omega arith)
   arc_listed j (c ∷ cs) (suc i) l e = by_kind c.kind (arc_listed (suc j) cs i (omega (arith, l)) e)
     where
       by_kind : (kd : CurveKind)
-          → (k : ℕ) × (k < length (half_arcs (suc j) cs)) × (get_or (half_arcs (suc j) cs) k 0 ≡ suc j + i)
-          → (k : ℕ) × (k < length (listed_arc kd j (half_arcs (suc j) cs))) × (get_or (listed_arc kd j (half_arcs (suc j) cs)) k 0 ≡ j + suc i)
+          → (k : ℕ) × (k < length (half_arcs (suc j) cs))
+          × (get_or (half_arcs (suc j) cs) k 0 ≡ suc j + i)
+          → (k : ℕ) × (k < length (listed_arc kd j (half_arcs (suc j) cs)))
+          × (get_or (listed_arc kd j (half_arcs (suc j) cs)) k 0 ≡ j + suc i)
       by_kind kind.Straight h = let m = h.2 in (h.0, h.1, omega (arith, m))
-      by_kind kind.HalfArc h = let l = h.1 in let m = h.2 in (suc h.0, omega (arith, l), omega (arith, m))
+      by_kind kind.HalfArc h =
+          let l = h.1 in let m = h.2 in (suc h.0, omega (arith, l), omega (arith, m))

@@ -1,4 +1,5 @@
--- Where a place lies in a run with tubes and labels: on its least edge it is on that edge's curve and on none of a lesser number, and
+-- Where a place lies in a run with tubes and labels: on its least edge it is on that edge's curve
+-- and on none of a lesser number, and
 -- in a cell the label of the lower edge tells the tube.
 use Rattle.std.proofs.Common.{◌≡◌, ℕ, zero, suc, ◌+◌, ◌<◌, ◌≤◌, List, [], ◌∷◌, length, ℤ, pos, ◌<ℤ◌}
 use Rattle.std.proofs.Common.{◌≤ℤ◌, ◌⊎◌, inl, inr, refl, arith, ap, sym, ◌∙◌, subst}
@@ -64,14 +65,20 @@ some_before es (suc i) l = inr (some_at es i (omega (arith, l)))
 -- the half arc of an edge of a tube
 pub edge_arc : (d : Plan) (bays : ℕ → List Bay) (m : ℕ) (E : ℕ → Edge) (steps : List Step)
     → IsTubedRun d bays m E steps → (e : ℕ) → e < m → IsOfTube (owned d bays e).part
-    → ((owned d bays e).curve < length d.curves) × ((curve d (owned d bays e).curve).kind ≡ kind.HalfArc)
+    → ((owned d bays e).curve < length d.curves)
+    × ((curve d (owned d bays e).curve).kind ≡ kind.HalfArc)
 edge_arc d bays m E steps is e l o = elim (owner_is d bays m E steps is e l) [
   | inl s ↦ absurd (subst IsOfTube s.part o)
-  | inr a ↦ (subst (λ (i : ℕ). i < length d.curves) (sym a.number) a.fits, subst (λ (i : ℕ). (curve d i).kind ≡ kind.HalfArc) (sym a.number) a.bent)
+  | inr a ↦ (
+    subst (λ (i : ℕ). i < length d.curves) (sym a.number) a.fits,
+    subst (λ (i : ℕ). (curve d i).kind ≡ kind.HalfArc) (sym a.number) a.bent,
+  )
 ]
 
-module _ (w : ℤ) (d : Plan) (bays : ℕ → List Bay) (m : ℕ) (E : ℕ → Edge) (steps : List Step) (lab : Labels) (within : ℕ → Half) (inside outside : ℕ → ℕ)
-    (swept : WeighedRun w m E steps) (is : IsTubedRun d bays m E steps) (L : AreTubeLabels d bays (replay w m E steps) lab within inside outside) where
+module _ (w : ℤ) (d : Plan) (bays : ℕ → List Bay) (m : ℕ) (E : ℕ → Edge) (steps : List Step)
+    (lab : Labels) (within : ℕ → Half) (inside outside : ℕ → ℕ)
+    (swept : WeighedRun w m E steps) (is : IsTubedRun d bays m E steps)
+    (L : AreTubeLabels d bays (replay w m E steps) lab within inside outside) where
   abbrev r : Replay
   r = replay w m E steps
 
@@ -85,25 +92,40 @@ module _ (w : ℤ) (d : Plan) (bays : ℕ → List Bay) (m : ℕ) (E : ℕ → E
   all = are_tubes w d bays m E steps lab within inside outside swept is L
 
   end_on : (x : ℕ) → x < m → (v : Point) → IsEnd (E x) v → On w (E x) (point v)
-  end_on x l v (inl e) = subst (λ (p : Point). On w (E x) (point p)) e (low_on w (E x) (swept.rises x l))
-  end_on x l v (inr e) = subst (λ (p : Point). On w (E x) (point p)) e (high_on w (E x) (swept.rises x l))
+  end_on x l v (inl e) =
+      subst (λ (p : Point). On w (E x) (point p)) e (low_on w (E x) (swept.rises x l))
+  end_on x l v (inr e) =
+      subst (λ (p : Point). On w (E x) (point p)) e (high_on w (E x) (swept.rises x l))
 
   module _ (z : Vector) (Z : Place z) where
     -- where an edge of another curve meets a tube, an edge of the tube meets it
     touched : (c : ℕ) → c < T.count → (e : ℕ) → e < m → ((owned d bays e).curve ≡ arc_at d c → ⊥)
         → On w (E e) z → InTubeAt T c z
         → (x : ℕ) × (x < m) × ((owned d bays x).curve ≡ arc_at d c) × On w (E x) z
-    touched c lc e le n on inner = elim (look_below (λ k. Same z (point (r.step k).at)) r.steps (λ k. decide_same z (point (r.step k).at))) [
-      | inr none ↦ absurd (edge_outside r run_whole lab L.matched (T.label c) (T.first c) (T.bay c) (T.bays c) (T.halves c) (all.tube c lc) e z le not_its Z (λ k l s. none (k, l, s)) on inner)
-      | inl s ↦
-          let v = (r.step s.0).at in
-          let h = event_corner r run_whole lab L.matched (T.label c) (T.first c) (T.bay c) (T.bays c) (T.halves c) (all.tube c lc) s.0 s.1 (in_some_same (tiles (T.first c) (T.bay c ∷ T.bays c)) z (point v) Z s.2 inner) in
-          let k = (all.tube c lc).faced.fits h.0 h.1 in
-          (edge_of h.0, k, tube_owner w d bays m E steps lab within inside outside swept is L c lc h.0 h.1, on_same w (E (edge_of h.0)) (point v) z (same_sym z (point v) s.2) (place_point v) Z (end_on (edge_of h.0) k v h.2))
-    ]
+    touched c lc e le n on inner =
+        elim (look_below (λ k. Same z (point (r.step k).at)) r.steps
+        (λ k. decide_same z (point (r.step k).at))) [
+          | inr none ↦ absurd
+              (edge_outside r run_whole lab L.matched (T.label c) (T.first c) (T.bay c) (T.bays c)
+              (T.halves c) (all.tube c lc) e z le not_its Z (λ k l s. none (k, l, s)) on inner)
+          | inl s ↦
+              let v = (r.step s.0).at in
+              let h = event_corner r run_whole lab L.matched (T.label c) (T.first c) (T.bay c)
+              (T.bays c) (T.halves c) (all.tube c lc) s.0 s.1
+              (in_some_same (tiles (T.first c) (T.bay c ∷ T.bays c)) z (point v) Z s.2 inner) in
+              let k = (all.tube c lc).faced.fits h.0 h.1 in (
+                edge_of h.0,
+                k,
+                tube_owner w d bays m E steps lab within inside outside swept is L c lc h.0 h.1,
+                on_same w (E (edge_of h.0)) (point v) z (same_sym z (point v) s.2) (place_point v) Z
+                    (end_on (edge_of h.0) k v h.2),
+              )
+        ]
       where
         not_its : (h : Half) → Has h (T.halves c) → edge_of h ≡ e → ⊥
-        not_its h k q = n (ap (λ (y : ℕ). (owned d bays y).curve) (sym q) ∙ tube_owner w d bays m E steps lab within inside outside swept is L c lc h k)
+        not_its h k q =
+            n (ap (λ (y : ℕ). (owned d bays y).curve) (sym q)
+            ∙ tube_owner w d bays m E steps lab within inside outside swept is L c lc h k)
 
     -- on its least edge a place is on no curve of a lesser number
     least : (e : ℕ) → e < m → On w (E e) z → ((x : ℕ) → x < e → On w (E x) z → ⊥) → (j : ℕ)
@@ -111,9 +133,11 @@ module _ (w : ℤ) (d : Plan) (bays : ℕ → List Bay) (m : ℕ) (E : ℕ → E
     least e le on first j lj fits there = elim (decide_kind (curve d j).kind) [
       | inl k ↦
           let x = straight_edge d bays m E steps is j fits k in
-          first x.0 (edge_before d bays m E steps is x.0 e x.1 le (below x.0 x.2)) (on_edge w (E x.0) (curve d j) z x.3 k (swept.rises x.0 x.1) Z there)
+          first x.0 (edge_before d bays m E steps is x.0 e x.1 le (below x.0 x.2))
+          (on_edge w (E x.0) (curve d j) z x.3 k (swept.rises x.0 x.1) Z there)
       | inr k ↦
-          let c = in_its_tube w d bays m E steps lab within inside outside swept is L z Z j fits k there in
+          let c = in_its_tube w d bays m E steps lab within inside outside swept is L z Z j fits k
+          there in
           let x = touched c.0 c.1 e le (λ q. differ (q ∙ c.2)) on c.3 in
           first x.0 (edge_before d bays m E steps is x.0 e x.1 le (below x.0 (x.2 ∙ c.2))) x.3
     ]
@@ -133,8 +157,10 @@ module _ (w : ℤ) (d : Plan) (bays : ℕ → List Bay) (m : ℕ) (E : ℕ → E
           let fits = subst (λ (i : ℕ). i < length d.curves) (sym s.number) s.fits in
           record {
             there = fits;
-            on = subst (λ (i : ℕ). IsOn (curve d i) z) (sym s.number) (on_curve w (E e) (curve d s.index) z s.edge s.straight (swept.rises e le) Z on);
-            least = λ j l there. least e le on first j l (let f = fits in omega (arith, f, l)) there;
+            on = subst (λ (i : ℕ). IsOn (curve d i) z) (sym s.number)
+                (on_curve w (E e) (curve d s.index) z s.edge s.straight (swept.rises e le) Z on);
+            least = λ j l there. least e le on first j l (let f = fits in
+                omega (arith, f, l)) there;
           }
     ]
 
@@ -142,18 +168,29 @@ module _ (w : ℤ) (d : Plan) (bays : ℕ → List Bay) (m : ℕ) (E : ℕ → E
     on_arc : (c : ℕ) → c < T.count → InTubeAt T c z → power (arc (curve d (arc_at d c))) z ≡ pos 0
         → IsOn (curve d (arc_at d c)) z
     on_arc c lc inner y =
-        (hits_alone (curve d (arc_at d c)) z Z).0 (hits_bent w d bays m E steps lab within inside outside swept is L (arc_at d c) z z (arc_bent w d bays m E steps lab within inside outside swept is L c lc) (all.circle c lc z Z inner y))
+        (hits_alone (curve d (arc_at d c)) z Z).0
+        (hits_bent w d bays m E steps lab within inside outside swept is L (arc_at d c) z z
+        (arc_bent w d bays m E steps lab within inside outside swept is L c lc)
+        (all.circle c lc z Z inner y))
 
     off_arc : (c : ℕ) → c < T.count → InTubeAt T c z
         → (power (arc (curve d (arc_at d c))) z ≡ pos 0 → ⊥) → IsOff d z
-    off_arc c lc inner n = from_tube w d bays m E steps lab within inside outside swept is L z Z c lc inner (by_lt_z (power (arc (curve d (arc_at d c))) z) (pos 0) (λ l. inl l)
-        (λ (k : pos 0 ≤ℤ power (arc (curve d (arc_at d c))) z). by_lt_z (pos 0) (power (arc (curve d (arc_at d c))) z) (λ l. inr l) (λ (j : power (arc (curve d (arc_at d c))) z ≤ℤ pos 0). absurd (n (omega (arith, ints, k, j))))))
+    off_arc c lc inner n =
+        from_tube w d bays m E steps lab within inside outside swept is L z Z c lc inner
+        (by_lt_z (power (arc (curve d (arc_at d c))) z) (pos 0) (λ l. inl l)
+        (λ (k : pos 0 ≤ℤ power (arc (curve d (arc_at d c))) z). by_lt_z (pos 0)
+        (power (arc (curve d (arc_at d c))) z) (λ l. inr l)
+        (λ (j : power (arc (curve d (arc_at d c))) z ≤ℤ pos 0). absurd
+        (n (omega (arith, ints, k, j))))))
 
     on_tube : (e : ℕ) → e < m → (c : ℕ) → c < T.count → (owned d bays e).curve ≡ arc_at d c
         → On w (E e) z → InTubeAt T c z
     on_tube e le c lc q on =
         let h = edge_in_tube w d bays m E steps lab within inside outside swept is L c lc e le q in
-        wall_in r lab (T.label c) (T.first c) (T.bay c) (T.bays c) (T.halves c) (all.tube c lc) (within e) h.0 z Z (subst (λ (x : ℕ). pos 0 <ℤ rise w (E x)) (sym h.1) (swept.rises e le)) (subst (λ (x : ℕ). On w (E x) z) (sym h.1) on)
+        wall_in r lab (T.label c) (T.first c) (T.bay c) (T.bays c) (T.halves c) (all.tube c lc)
+        (within e) h.0 z Z
+        (subst (λ (x : ℕ). pos 0 <ℤ rise w (E x)) (sym h.1) (swept.rises e le))
+        (subst (λ (x : ℕ). On w (E x) z) (sym h.1) on)
 
   -- a point in the tube of half arc i
   lies : (i : ℕ) → i < length d.curves → (curve d i).kind ≡ kind.HalfArc → (v : Point)
@@ -167,13 +204,18 @@ module _ (w : ℤ) (d : Plan) (bays : ℕ → List Bay) (m : ℕ) (E : ℕ → E
       record {
         there = fits;
         bent = bent;
-        holds = subst (λ (n : ℕ). one.InTube (curve d n).from (bays n) (point v)) c.2 ((tube_places w d bays m E steps lab within inside outside swept is L c.0 c.1 (point v)).0 there);
+        holds = subst (λ (n : ℕ). one.InTube (curve d n).from (bays n) (point v)) c.2
+            ((tube_places w d bays m E steps lab within inside outside swept is L c.0 c.1
+            (point v)).0 there);
         on = λ y. record {
           there = fits;
-          on = subst (λ (n : ℕ). IsOn (curve d n) (point v)) c.2 (on_arc (point v) V c.0 c.1 there (subst (λ (n : ℕ). power (arc (curve d n)) (point v) ≡ pos 0) (sym c.2) y));
+          on = subst (λ (n : ℕ). IsOn (curve d n) (point v)) c.2
+              (on_arc (point v) V c.0 c.1 there
+              (subst (λ (n : ℕ). power (arc (curve d n)) (point v) ≡ pos 0) (sym c.2) y));
           least = λ j l on. lesser j l (let f = fits in omega (arith, f, l)) on;
         };
-        off = λ n. off_arc (point v) V c.0 c.1 there (λ y. n (subst (λ (n : ℕ). power (arc (curve d n)) (point v) ≡ pos 0) c.2 y));
+        off = λ n. off_arc (point v) V c.0 c.1 there
+            (λ y. n (subst (λ (n : ℕ). power (arc (curve d n)) (point v) ≡ pos 0) c.2 y));
       }
 
   pub tube_first : (e : ℕ) → e < m → IsOfTube (owned d bays e).part → (v : Point)
@@ -181,7 +223,9 @@ module _ (w : ℤ) (d : Plan) (bays : ℕ → List Bay) (m : ℕ) (E : ℕ → E
       → LiesInTube d bays (owned d bays e).curve v
   tube_first e le o v on first =
       let a = edge_arc d bays m E steps is e le o in
-      lies (owned d bays e).curve a.0 a.1 v (λ c lc q. on_tube (point v) (place_point v) e le c lc (sym q) on) (λ j l fits there. least (point v) (place_point v) e le on first j l fits there)
+      lies (owned d bays e).curve a.0 a.1 v
+      (λ c lc q. on_tube (point v) (place_point v) e le c lc (sym q) on)
+      (λ j l fits there. least (point v) (place_point v) e le on first j l fits there)
 
   -- ---- in a cell
   -- the label over an edge that faces no tube is that of a region
@@ -189,11 +233,16 @@ module _ (w : ℤ) (d : Plan) (bays : ℕ → List Bay) (m : ℕ) (E : ℕ → E
   region_most e le t = elim (owner_is d bays m E steps is e le) [
     | inl s ↦ (L.straight_label e le s.part).1
     | inr a ↦
-        let same : within e ≡ half_within d bays E e = one_faces d bays E e (half_within d bays E e) (within e) (is.run.edges e le) (faces d bays m E steps is e le a.part) (L.faces e le a.part) in
-        subst (λ (n : ℕ). n ≤ length d.points) (sym (ap (mark lab) (not_faced d bays E (over e) a.part t ∙ ap twin (sym same)))) (L.outer_label e le a.part)
+        let same : within e ≡ half_within d bays E e = one_faces d bays E e (half_within d bays E e)
+        (within e) (is.run.edges e le) (faces d bays m E steps is e le a.part)
+        (L.faces e le a.part) in
+        subst (λ (n : ℕ). n ≤ length d.points)
+        (sym (ap (mark lab) (not_faced d bays E (over e) a.part t ∙ ap twin (sym same))))
+        (L.outer_label e le a.part)
   ]
 
-  module _ (pts : List Point) (v : Point) (k i : ℕ) (heavy : Weight w pts) (known : Has v pts) (events : (j : ℕ) → j < r.steps → Has (r.step j).at pts) (p : IsLocated r v k i) where
+  module _ (pts : List Point) (v : Point) (k i : ℕ) (heavy : Weight w pts) (known : Has v pts)
+      (events : (j : ℕ) → j < r.steps → Has (r.step j).at pts) (p : IsLocated r v k i) where
     abbrev z : Vector
     z = point v
 
@@ -207,18 +256,23 @@ module _ (w : ℤ) (d : Plan) (bays : ℕ → List Bay) (m : ℕ) (E : ℕ → E
     q = located_point r run_whole.run run_whole.law pts v k i heavy known events p
 
     fits_edge : (e : ℕ) → AtBefore (r.list k) i e → e < m
-    fits_edge e b = beside_fits r run_whole.run run_whole.law (over e) here (located_is r run_whole.run run_whole.law k i v p) b
+    fits_edge e b =
+        beside_fits r run_whole.run run_whole.law (over e) here
+        (located_is r run_whole.run run_whole.law k i v p) b
 
     cell_label : (e : ℕ) → AtBefore (r.list k) i e → label_of lab r (sector r z) ≡ lab.above e
     cell_label e b = ap (label_of lab r) q.1 ∙ label_before lab 0 i (r.list k) e b
 
     tube_label_is : (c : ℕ) → c < T.count → InTubeAt T c z → label_of lab r (sector r z) ≡ T.label c
-    tube_label_is c lc inner = (in_tube r run_whole.run run_whole.law run_whole.once lab L.matched (T.label c) (T.first c) (T.bay c) (T.bays c) (T.halves c) (all.tube c lc) z Z q.0).0 inner
+    tube_label_is c lc inner =
+        (in_tube r run_whole.run run_whole.law run_whole.once lab L.matched (T.label c) (T.first c)
+        (T.bay c) (T.bays c) (T.halves c) (all.tube c lc) z Z q.0).0 inner
 
     one_number : (n a b l : ℕ) → l ≡ suc (n + a) → l ≡ suc (n + b) → b ≡ a
     one_number n a b l e f = omega (arith, e, f)
 
-    module _ (e : ℕ) (b : AtBefore (r.list k) i e) (c : ℕ) (t : faced d bays E (over e) ≡ suc c) where
+    module _ (e : ℕ) (b : AtBefore (r.list k) i e) (c : ℕ)
+        (t : faced d bays E (over e) ≡ suc c) where
       of_tube : IsFaced d bays E (over e) c
       of_tube = faced_is d bays E (over e) c t
 
@@ -226,23 +280,33 @@ module _ (w : ℤ) (d : Plan) (bays : ℕ → List Bay) (m : ℕ) (E : ℕ → E
       le = fits_edge e b
 
       its_arc : (c < length d.curves) × ((curve d c).kind ≡ kind.HalfArc)
-      its_arc = subst (λ (j : ℕ). (j < length d.curves) × ((curve d j).kind ≡ kind.HalfArc)) of_tube.curve (edge_arc d bays m E steps is e le of_tube.part)
+      its_arc = subst (λ (j : ℕ). (j < length d.curves) × ((curve d j).kind ≡ kind.HalfArc))
+          of_tube.curve (edge_arc d bays m E steps is e le of_tube.part)
 
       label_is : label_of lab r (sector r z) ≡ tube_label d c
       label_is =
-          let same : within e ≡ half_within d bays E e = one_faces d bays E e (half_within d bays E e) (within e) (is.run.edges e le) (faces d bays m E steps is e le of_tube.part) (L.faces e le of_tube.part) in
-          cell_label e b ∙ ap (mark lab) (of_tube.is ∙ sym same) ∙ L.within_label e le of_tube.part ∙ ap (tube_label d) of_tube.curve
+          let same : within e ≡ half_within d bays E e = one_faces d bays E e
+          (half_within d bays E e) (within e) (is.run.edges e le)
+          (faces d bays m E steps is e le of_tube.part) (L.faces e le of_tube.part) in
+          cell_label e b ∙ ap (mark lab) (of_tube.is ∙ sym same) ∙ L.within_label e le of_tube.part
+          ∙ ap (tube_label d) of_tube.curve
 
       in_its : (x : ℕ) → x < T.count → arc_at d x ≡ c → InTubeAt T x z
-      in_its x lx y = (in_tube r run_whole.run run_whole.law run_whole.once lab L.matched (T.label x) (T.first x) (T.bay x) (T.bays x) (T.halves x) (all.tube x lx) z Z q.0).1 (label_is ∙ ap (tube_label d) (sym y))
+      in_its x lx y =
+          (in_tube r run_whole.run run_whole.law run_whole.once lab L.matched (T.label x)
+          (T.first x) (T.bay x) (T.bays x) (T.halves x) (all.tube x lx) z Z q.0).1 (label_is
+          ∙ ap (tube_label d) (sym y))
 
       -- on no other curve
       pub cell_only : (j : ℕ) → j < length d.curves → IsOn (curve d j) z → j ≡ c
       cell_only j fits on = elim (decide_kind (curve d j).kind) [
-        | inl y ↦ let x = straight_edge d bays m E steps is j fits y in absurd (q.0 x.0 x.1 (on_edge w (E x.0) (curve d j) z x.3 y (swept.rises x.0 x.1) Z on))
+        | inl y ↦ let x = straight_edge d bays m E steps is j fits y in
+            absurd (q.0 x.0 x.1 (on_edge w (E x.0) (curve d j) z x.3 y (swept.rises x.0 x.1) Z on))
         | inr y ↦
-            let x = in_its_tube w d bays m E steps lab within inside outside swept is L z Z j fits y on in
-            one_number (length d.points) c j (label_of lab r (sector r z)) label_is (tube_label_is x.0 x.1 x.3 ∙ ap (tube_label d) x.2)
+            let x = in_its_tube w d bays m E steps lab within inside outside swept is L z Z j fits y
+            on in
+            one_number (length d.points) c j (label_of lab r (sector r z)) label_is
+            (tube_label_is x.0 x.1 x.3 ∙ ap (tube_label d) x.2)
       ]
 
       pub cell_lies : LiesInTube d bays c v
@@ -255,8 +319,10 @@ module _ (w : ℤ) (d : Plan) (bays : ℕ → List Bay) (m : ℕ) (E : ℕ → E
     module _ (t : (e : ℕ) → AtBefore (r.list k) i e → faced d bays E (over e) ≡ 0) where
       low_label : label_of lab r (sector r z) ≤ length d.points
       low_label = elim (some_before (r.list k) i p.index) [
-        | inl y ↦ zero_most (ap (label_of lab r) (q.1 ∙ ap (λ (n : ℕ). record { strip = k; index = n }) y))
-        | inr y ↦ subst (λ (n : ℕ). n ≤ length d.points) (sym (cell_label y.0 y.1)) (region_most y.0 (fits_edge y.0 y.1) (t y.0 y.1))
+        | inl y ↦ zero_most
+            (ap (label_of lab r) (q.1 ∙ ap (λ (n : ℕ). record { strip = k; index = n }) y))
+        | inr y ↦ subst (λ (n : ℕ). n ≤ length d.points) (sym (cell_label y.0 y.1))
+            (region_most y.0 (fits_edge y.0 y.1) (t y.0 y.1))
       ]
         where
           zero_most : label_of lab r (sector r z) ≡ 0
@@ -267,13 +333,18 @@ module _ (w : ℤ) (d : Plan) (bays : ℕ → List Bay) (m : ℕ) (E : ℕ → E
       too_great n a l y h = omega (arith, y, h)
 
       no_tube : (c : ℕ) → c < T.count → InTubeAt T c z → ⊥
-      no_tube c lc inner = too_great (length d.points) (arc_at d c) (label_of lab r (sector r z)) (tube_label_is c lc inner) low_label
+      no_tube c lc inner =
+          too_great (length d.points) (arc_at d c) (label_of lab r (sector r z))
+          (tube_label_is c lc inner) low_label
 
       pub cell_off : IsOff d z
-      cell_off = label_off w d bays m E steps lab within inside outside swept is L z Z (label_of lab r (sector r z)) (inr (no_tube, q.0, refl))
+      cell_off = label_off w d bays m E steps lab within inside outside swept is L z Z
+          (label_of lab r (sector r z)) (inr (no_tube, q.0, refl))
 
       pub cell_outside : (j : ℕ) → j < length d.curves → (curve d j).kind ≡ kind.HalfArc
           → one.InTube (curve d j).from (bays j) z → ⊥
       cell_outside j fits bent inner =
           let c = tube_of w d bays m E steps lab within inside outside swept is L j fits bent in
-          no_tube c.0 c.1 ((tube_places w d bays m E steps lab within inside outside swept is L c.0 c.1 z).1 (subst (λ (n : ℕ). one.InTube (curve d n).from (bays n) z) (sym c.2) inner))
+          no_tube c.0 c.1
+          ((tube_places w d bays m E steps lab within inside outside swept is L c.0 c.1 z).1
+          (subst (λ (n : ℕ). one.InTube (curve d n).from (bays n) z) (sym c.2) inner))

@@ -1,4 +1,5 @@
--- Where a point lies in a settled run, by its least edge or by its cell, and what label it has; the weight in a replay may be any.
+-- Where a point lies in a settled run, by its least edge or by its cell, and what label it has; the
+-- weight in a replay may be any.
 use Rattle.std.proofs.Common.{◌≡◌, ℕ, suc, ◌<◌, List, [], ◌∷◌, length, ℤ, pos, ◌<ℤ◌, inl, inr, refl}
 use Rattle.std.proofs.Common.{arith}
 use Rattle.plane.specs.declared.kinds.Point.{Point}
@@ -39,7 +40,9 @@ use Rattle.plane.proofs.Settling.BlankLabels.{blank_are_labels}
 use Rattle.plane.proofs.TubedRuns.PointTubes as points
 
 -- ---- P
-module _ (d : Plan) (bays : ℕ → List Bay) (m : ℕ) (E : ℕ → Edge) (steps : List Step) (is : IsTubedRun d bays m E steps) (wide : AreWide d bays) (settled : IsSettledRun d bays m E) where
+module _ (d : Plan) (bays : ℕ → List Bay) (m : ℕ) (E : ℕ → Edge) (steps : List Step)
+    (is : IsTubedRun d bays m E steps) (wide : AreWide d bays)
+    (settled : IsSettledRun d bays m E) where
   abbrev lab : Labels
   lab = blank_labels d bays E
 
@@ -65,15 +68,20 @@ module _ (d : Plan) (bays : ℕ → List Bay) (m : ℕ) (E : ℕ → Edge) (step
     from_on : (e : ℕ) → e < m → On u.weight (E e) (point v) → OnStraight (E e) (point v)
     from_on e l on = (on_is u.weight (E e) (point v) (u.swept.rises e l) (place_point v)).0 on
 
-    module _ (e : ℕ) (le : e < m) (on : OnStraight (E e) (point v)) (first : (x : ℕ) → x < e → OnStraight (E x) (point v) → ⊥) where
+    module _ (e : ℕ) (le : e < m) (on : OnStraight (E e) (point v)) (first : (x : ℕ) → x < e
+        → OnStraight (E x) (point v) → ⊥) where
       none_before : (x : ℕ) → x < e → On u.weight (E x) (point v) → ⊥
       none_before x l there = first x l (from_on x (let k = le in omega (arith, l, k)) there)
 
       pub on_straight : (owned d bays e).part ≡ whole → IsFirstOn d (owned d bays e).curve (point v)
-      on_straight p = points.straight_first u.weight d bays m E steps lab within none none u.swept is L (point v) (place_point v) e le p (to_on e le on) none_before
+      on_straight p =
+          points.straight_first u.weight d bays m E steps lab within none none u.swept is L
+          (point v) (place_point v) e le p (to_on e le on) none_before
 
       pub on_chain : IsOfTube (owned d bays e).part → LiesInTube d bays (owned d bays e).curve v
-      on_chain o = points.tube_first u.weight d bays m E steps lab within none none u.swept is L e le o v (to_on e le on) none_before
+      on_chain o =
+          points.tube_first u.weight d bays m E steps lab within none none u.swept is L e le o v
+          (to_on e le on) none_before
 
     module _ (w : ℤ) (k i : ℕ) (p : IsLocated (replay w m E steps) v k i) where
       here : IsLocated r v k i
@@ -81,38 +89,67 @@ module _ (d : Plan) (bays : ℕ → List Bay) (m : ℕ) (E : ℕ → Edge) (step
 
       pub in_cell : (e c : ℕ) → AtBefore ((replay w m E steps).list k) i e
           → faced d bays E (over e) ≡ suc c → LiesInTube d bays c v
-      in_cell e c b t = points.cell_lies u.weight d bays m E steps lab within none none u.swept is L u.points v k i u.heavy (u.known v (inl refl)) (event_known m E steps (v ∷ []) u) here e b c t
+      in_cell e c b t =
+          points.cell_lies u.weight d bays m E steps lab within none none u.swept is L u.points v k
+          i u.heavy (u.known v (inl refl)) (event_known m E steps (v ∷ []) u) here e b c t
 
       pub in_cell_only : (e c j : ℕ) → AtBefore ((replay w m E steps).list k) i e
           → faced d bays E (over e) ≡ suc c → j < length d.curves → IsOn (curve d j) (point v)
           → j ≡ c
-      in_cell_only e c j b t fits on = points.cell_only u.weight d bays m E steps lab within none none u.swept is L u.points v k i u.heavy (u.known v (inl refl)) (event_known m E steps (v ∷ []) u) here e b c t j fits on
+      in_cell_only e c j b t fits on =
+          points.cell_only u.weight d bays m E steps lab within none none u.swept is L u.points v k
+          i u.heavy (u.known v (inl refl)) (event_known m E steps (v ∷ []) u) here e b c t j fits on
 
-      pub off_curves : ((e : ℕ) → AtBefore ((replay w m E steps).list k) i e → faced d bays E (over e) ≡ 0)
+      pub off_curves : ((e : ℕ) → AtBefore ((replay w m E steps).list k) i e
+          → faced d bays E (over e) ≡ 0)
           → IsOff d (point v)
-      off_curves t = points.cell_off u.weight d bays m E steps lab within none none u.swept is L u.points v k i u.heavy (u.known v (inl refl)) (event_known m E steps (v ∷ []) u) here t
+      off_curves t =
+          points.cell_off u.weight d bays m E steps lab within none none u.swept is L u.points v k i
+          u.heavy (u.known v (inl refl)) (event_known m E steps (v ∷ []) u) here t
 
-      pub in_no_tube : ((e : ℕ) → AtBefore ((replay w m E steps).list k) i e → faced d bays E (over e) ≡ 0)
+      pub in_no_tube : ((e : ℕ) → AtBefore ((replay w m E steps).list k) i e
+          → faced d bays E (over e) ≡ 0)
           → (j : ℕ) → j < length d.curves → (curve d j).kind ≡ kind.HalfArc
           → InTube (curve d j).from (bays j) (point v) → ⊥
-      in_no_tube t j fits bent inner = points.cell_outside u.weight d bays m E steps lab within none none u.swept is L u.points v k i u.heavy (u.known v (inl refl)) (event_known m E steps (v ∷ []) u) here t j fits bent inner
+      in_no_tube t j fits bent inner =
+          points.cell_outside u.weight d bays m E steps lab within none none u.swept is L u.points v
+          k i u.heavy (u.known v (inl refl))
+          (event_known m E steps (v ∷ []) u) here t j fits bent inner
 
 -- ---- P'
-module _ (w : ℤ) (d : Plan) (bays : ℕ → List Bay) (m : ℕ) (E : ℕ → Edge) (steps : List Step) (lab : Labels) (inside outside : ℕ → ℕ) where
+module _ (w : ℤ) (d : Plan) (bays : ℕ → List Bay) (m : ℕ) (E : ℕ → Edge) (steps : List Step)
+    (lab : Labels) (inside outside : ℕ → ℕ) where
   pub border_region : (v : Point) (k : ℕ) → IsLocated (replay w m E steps) v k 0
       → HasRegion d bays (replay w m E steps) lab inside outside v 0
-  border_region v k p = inl (record { strip = k; index = 0; located = p; label = refl; region = omega arith })
+  border_region v k p =
+      inl (record { strip = k; index = 0; located = p; label = refl; region = omega arith })
 
   pub tube_region : (c : ℕ) (v : Point) → LiesInTube d bays c v
-      → (power (arc (curve d c)) (point v) <ℤ pos 0 → HasRegion d bays (replay w m E steps) lab inside outside v (inside c))
-      × (pos 0 <ℤ power (arc (curve d c)) (point v) → HasRegion d bays (replay w m E steps) lab inside outside v (outside c))
+      → (power (arc (curve d c)) (point v) <ℤ pos 0
+      → HasRegion d bays (replay w m E steps) lab inside outside v (inside c))
+      × (pos 0 <ℤ power (arc (curve d c)) (point v)
+      → HasRegion d bays (replay w m E steps) lab inside outside v (outside c))
   tube_region c v h = (
-    (λ l. inr (record { number = c; fits = h.there; bent = h.bent; holds = h.holds; side = inl (l, refl) })),
-    (λ l. inr (record { number = c; fits = h.there; bent = h.bent; holds = h.holds; side = inr (l, refl) })),
+    (λ l. inr (record {
+      number = c;
+      fits = h.there;
+      bent = h.bent;
+      holds = h.holds;
+      side = inl (l, refl);
+    })),
+    (λ l. inr (record {
+      number = c;
+      fits = h.there;
+      bent = h.bent;
+      holds = h.holds;
+      side = inr (l, refl);
+    })),
   )
 
-module _ (w : ℤ) (d : Plan) (bays : ℕ → List Bay) (m : ℕ) (E : ℕ → Edge) (steps : List Step) (lab : Labels) (within : ℕ → Half) (inside outside : ℕ → ℕ)
-    (is : IsTubedRun d bays m E steps) (L : AreTubeLabels d bays (replay w m E steps) lab within inside outside) where
+module _ (w : ℤ) (d : Plan) (bays : ℕ → List Bay) (m : ℕ) (E : ℕ → Edge) (steps : List Step)
+    (lab : Labels) (within : ℕ → Half) (inside outside : ℕ → ℕ)
+    (is : IsTubedRun d bays m E steps)
+    (L : AreTubeLabels d bays (replay w m E steps) lab within inside outside) where
   module _ (v : Point) (k i : ℕ) (p : IsLocated (replay w m E steps) v k i) where
     run_at : RunWeight m E steps []
     run_at = run_weight m E steps [] is.run
@@ -121,8 +158,10 @@ module _ (w : ℤ) (d : Plan) (bays : ℕ → List Bay) (m : ℕ) (E : ℕ → E
     of_whole = swept_whole run_at.weight m E steps run_at.swept
 
     fits : (e : ℕ) → AtBefore ((replay w m E steps).list k) i e → e < m
-    fits e b = beside_fits (replay run_at.weight m E steps) of_whole.run of_whole.law (over e) (record { strip = k; index = i })
-        (located_is (replay run_at.weight m E steps) of_whole.run of_whole.law k i v (located_to w run_at.weight m E steps v k i p)) b
+    fits e b = beside_fits (replay run_at.weight m E steps) of_whole.run of_whole.law (over e)
+        (record { strip = k; index = i })
+        (located_is (replay run_at.weight m E steps) of_whole.run of_whole.law k i v
+        (located_to w run_at.weight m E steps v k i p)) b
 
     pub cell_region : (e : ℕ) → AtBefore ((replay w m E steps).list k) i e
         → faced d bays E (over e) ≡ 0
@@ -132,7 +171,9 @@ module _ (w : ℤ) (d : Plan) (bays : ℕ → List Bay) (m : ℕ) (E : ℕ → E
       index = i;
       located = p;
       label = label_before lab 0 i ((replay w m E steps).list k) e b;
-      region = points.region_most run_at.weight d bays m E steps lab within inside outside run_at.swept is (labels_to w run_at.weight d bays m E steps lab within inside outside L) e (fits e b) t;
+      region = points.region_most run_at.weight d bays m E steps lab within inside outside
+          run_at.swept is (labels_to w run_at.weight d bays m E steps lab within inside outside L) e
+          (fits e b) t;
     })
 
   pub has_label : (pts : List Point) (v : Point) (l : ℕ) → WeighedRun w m E steps → Weight w pts
@@ -140,4 +181,6 @@ module _ (w : ℤ) (d : Plan) (bays : ℕ → List Bay) (m : ℕ) (E : ℕ → E
       → HasRegion d bays (replay w m E steps) lab inside outside v l
       → HasLabel (replay w m E steps) lab (tubes d bays within inside outside) (point v) l
   has_label pts v l swept heavy known events h =
-      region_label w d bays m E steps lab within inside outside swept is L pts v l heavy known (λ j n. each_has (λ s. Has s.at pts) steps ((replay w m E steps).step j) events (has_nth steps j n)) h
+      region_label w d bays m E steps lab within inside outside swept is L pts v l heavy known
+      (λ j n. each_has (λ s. Has s.at pts) steps ((replay w m E steps).step j) events
+      (has_nth steps j n)) h

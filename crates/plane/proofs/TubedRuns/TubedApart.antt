@@ -48,13 +48,19 @@ apart_back c d a = record {
 -- an end of the edge of a straight is a control point
 end_control : (e : Edge) (c : Curve) (p : Point) (z : Vector) → IsEdgeOf e c → IsEnd e p
     → Same z (point p) → IsControl c z
-end_control e c p z (inl h) (inl k) s = inl (subst (λ (x : Point). Same z (point x)) (sym k ∙ h.0) s)
-end_control e c p z (inl h) (inr k) s = inr (subst (λ (x : Point). Same z (point x)) (sym k ∙ h.1) s)
-end_control e c p z (inr h) (inl k) s = inr (subst (λ (x : Point). Same z (point x)) (sym k ∙ h.0) s)
-end_control e c p z (inr h) (inr k) s = inl (subst (λ (x : Point). Same z (point x)) (sym k ∙ h.1) s)
+end_control e c p z (inl h) (inl k) s =
+    inl (subst (λ (x : Point). Same z (point x)) (sym k ∙ h.0) s)
+end_control e c p z (inl h) (inr k) s =
+    inr (subst (λ (x : Point). Same z (point x)) (sym k ∙ h.1) s)
+end_control e c p z (inr h) (inl k) s =
+    inr (subst (λ (x : Point). Same z (point x)) (sym k ∙ h.0) s)
+end_control e c p z (inr h) (inr k) s =
+    inl (subst (λ (x : Point). Same z (point x)) (sym k ∙ h.1) s)
 
-module _ (w : ℤ) (d : Plan) (bays : ℕ → List Bay) (m : ℕ) (E : ℕ → Edge) (steps : List Step) (lab : Labels) (within : ℕ → Half) (inside outside : ℕ → ℕ)
-    (swept : WeighedRun w m E steps) (is : IsTubedRun d bays m E steps) (L : AreTubeLabels d bays (replay w m E steps) lab within inside outside) where
+module _ (w : ℤ) (d : Plan) (bays : ℕ → List Bay) (m : ℕ) (E : ℕ → Edge) (steps : List Step)
+    (lab : Labels) (within : ℕ → Half) (inside outside : ℕ → ℕ)
+    (swept : WeighedRun w m E steps) (is : IsTubedRun d bays m E steps)
+    (L : AreTubeLabels d bays (replay w m E steps) lab within inside outside) where
   abbrev r : Replay
   r = replay w m E steps
 
@@ -70,12 +76,16 @@ module _ (w : ℤ) (d : Plan) (bays : ℕ → List Bay) (m : ℕ) (E : ℕ → E
   -- a place in the triangles of a half arc is in its tube
   to_tube : (i c : ℕ) → c < T.count → arc_at d c ≡ i → (z : Vector)
       → InSome (triangles (curve d i).from (bays i)) z → InTubeAt T c z
-  to_tube i c l e z h = (tube_places w d bays m E steps lab within inside outside swept is L c l z).1
-      (subst (λ (j : ℕ). one.InTube (curve d j).from (bays j) z) (sym e) ((triangle_places (curve d i).from (bays i) z).0 h))
+  to_tube i c l e z h =
+      (tube_places w d bays m E steps lab within inside outside swept is L c l z).1
+      (subst (λ (j : ℕ). one.InTube (curve d j).from (bays j) z) (sym e)
+      ((triangle_places (curve d i).from (bays i) z).0 h))
 
   end_of : (i c : ℕ) → c < T.count → arc_at d c ≡ i → (z : Vector) → AtArcEnd T c z
       → IsControl (curve d i) z
-  end_of i c l e z h = subst (λ (j : ℕ). IsControl (curve d j) z) e (arc_end w d bays m E steps lab within inside outside swept is L c l z h)
+  end_of i c l e z h =
+      subst (λ (j : ℕ). IsControl (curve d j) z) e
+      (arc_end w d bays m E steps lab within inside outside swept is L c l z h)
 
   -- ---- two straights
   two_straights : (i j : ℕ) → i < length d.curves → j < length d.curves → (i ≡ j → ⊥)
@@ -86,26 +96,37 @@ module _ (w : ℤ) (d : Plan) (bays : ℕ → List Bay) (m : ℕ) (E : ℕ → E
       let y = straight_edge d bays m E steps is j lj ej in
       (straights_apart_is (curve d i) (curve d j) ei ej).1 (λ z Z a b.
       controls_from (E x.0) (E y.0) (curve d i) (curve d j) z x.3 y.3
-      (meet_in_ends w m E steps z x.0 y.0 swept x.1 y.1 (λ q. n (sym x.2 ∙ ap (λ (k : ℕ). (owned d bays k).curve) q ∙ y.2)) Z
-      (on_edge w (E x.0) (curve d i) z x.3 ei (swept.rises x.0 x.1) Z a) (on_edge w (E y.0) (curve d j) z y.3 ej (swept.rises y.0 y.1) Z b)))
+      (meet_in_ends w m E steps z x.0 y.0 swept x.1 y.1
+      (λ q. n (sym x.2 ∙ ap (λ (k : ℕ). (owned d bays k).curve) q ∙ y.2)) Z
+      (on_edge w (E x.0) (curve d i) z x.3 ei (swept.rises x.0 x.1) Z a)
+      (on_edge w (E y.0) (curve d j) z y.3 ej (swept.rises y.0 y.1) Z b)))
 
   -- ---- a straight and a half arc
-  module _ (i j : ℕ) (li : i < length d.curves) (lj : j < length d.curves) (n : i ≡ j → ⊥) (ei : (curve d i).kind ≡ kind.Straight) (ej : (curve d j).kind ≡ kind.HalfArc) where
+  module _ (i j : ℕ) (li : i < length d.curves) (lj : j < length d.curves) (n : i ≡ j → ⊥)
+      (ei : (curve d i).kind ≡ kind.Straight) (ej : (curve d j).kind ≡ kind.HalfArc) where
     pub straight_arc : (x c : ℕ) → x < m → (owned d bays x).curve ≡ i → IsEdgeOf (E x) (curve d i)
         → c < T.count → arc_at d c ≡ j → (z : Vector) → Place z → On w (E x) z → InTubeAt T c z
         → IsControl (curve d i) z × IsControl (curve d j) z
     straight_arc x c lx ox edge lc at_c z Z on in_c =
-        elim (look_below (λ k. Same z (point (r.step k).at)) r.steps (λ k. decide_same z (point (r.step k).at))) [
-          | inr none ↦ absurd (edge_outside r whole lab L.matched (T.label c) (T.first c) (T.bay c) (T.bays c) (T.halves c) (all.tube c lc) x z lx not_its Z (λ k l s. none (k, l, s)) on in_c)
+        elim (look_below (λ k. Same z (point (r.step k).at)) r.steps
+        (λ k. decide_same z (point (r.step k).at))) [
+          | inr none ↦ absurd
+              (edge_outside r whole lab L.matched (T.label c) (T.first c) (T.bay c) (T.bays c)
+              (T.halves c) (all.tube c lc) x z lx not_its Z (λ k l s. none (k, l, s)) on in_c)
           | inl s ↦
               let v = (r.step s.0).at in
-              let end = whole.event_end s.0 s.1 x lx (on_same w (E x) z (point v) s.2 Z (place_point v) on) in
-              let corner = event_corner r whole lab L.matched (T.label c) (T.first c) (T.bay c) (T.bays c) (T.halves c) (all.tube c lc) s.0 s.1 (in_some_same (tiles (T.first c) (T.bay c ∷ T.bays c)) z (point v) Z s.2 in_c) in (
+              let end = whole.event_end s.0 s.1 x lx
+              (on_same w (E x) z (point v) s.2 Z (place_point v) on) in
+              let corner = event_corner r whole lab L.matched (T.label c) (T.first c) (T.bay c)
+              (T.bays c) (T.halves c) (all.tube c lc) s.0 s.1
+              (in_some_same (tiles (T.first c) (T.bay c ∷ T.bays c)) z (point v) Z s.2 in_c) in (
                 end_control (E x) (curve d i) v z edge end s.2,
                 elim ((all.clean c lc).clean s.0 s.1 corner) [
-                  | inl e ↦ end_of j c lc at_c z (inl (subst (λ (p : Point). Same z (point p)) e s.2))
+                  | inl e ↦ end_of j c lc at_c z
+                      (inl (subst (λ (p : Point). Same z (point p)) e s.2))
                   | inr rest ↦ elim rest [
-                    | inl e ↦ end_of j c lc at_c z (inr (subst (λ (p : Point). Same z (point p)) e s.2))
+                    | inl e ↦ end_of j c lc at_c z
+                        (inr (subst (λ (p : Point). Same z (point p)) e s.2))
                     | inr f ↦ let h = f x lx end in absurd (not_its h.0 h.1 h.2)
                   ]
                 ],
@@ -113,7 +134,9 @@ module _ (w : ℤ) (d : Plan) (bays : ℕ → List Bay) (m : ℕ) (E : ℕ → E
         ]
       where
         not_its : (h : Half) → Has h (T.halves c) → edge_of h ≡ x → ⊥
-        not_its h k e = n (sym ox ∙ ap (λ (y : ℕ). (owned d bays y).curve) (sym e) ∙ tube_owner w d bays m E steps lab within inside outside swept is L c lc h k ∙ at_c)
+        not_its h k e =
+            n (sym ox ∙ ap (λ (y : ℕ). (owned d bays y).curve) (sym e)
+            ∙ tube_owner w d bays m E steps lab within inside outside swept is L c lc h k ∙ at_c)
 
     straight_and_arc : Apart (curve d i) (curve d j)
     straight_and_arc =
@@ -125,7 +148,9 @@ module _ (w : ℤ) (d : Plan) (bays : ℕ → List Bay) (m : ℕ) (E : ℕ → E
           first_covers = flat_covers (curve d i) ei;
           second_covers = triangles_cover (curve d j) (bays j) ej (is.tube j lj ej);
           apart = λ z Z a b.
-              let on = on_edge w (E x.0) (curve d i) z x.3 ei (swept.rises x.0 x.1) Z (subst (λ (k : CurveKind). IsOnKind k (curve d i) z) (sym ei) (in_flat (curve d i) z Z a)) in
+              let on = on_edge w (E x.0) (curve d i) z x.3 ei (swept.rises x.0 x.1) Z
+              (subst (λ (k : CurveKind). IsOnKind k (curve d i) z) (sym ei)
+              (in_flat (curve d i) z Z a)) in
               straight_arc x.0 c.0 x.1 x.2 x.3 c.1 c.2 z Z on (to_tube j c.0 c.1 c.2 z b);
         }
 
@@ -133,8 +158,10 @@ module _ (w : ℤ) (d : Plan) (bays : ℕ → List Bay) (m : ℕ) (E : ℕ → E
   pub one_end : (i c e : ℕ) → c < T.count → e < T.count → (c ≡ e → ⊥) → arc_at d c ≡ i
       → (z : Vector) → Place z → InTubeAt T c z → InTubeAt T e z → IsControl (curve d i) z
   one_end i c e lc le n q z Z hc he = end_of i c lc q z
-      (common_place r whole lab L.matched (T.label c) (T.first c) (T.bay c) (T.bays c) (T.halves c) (T.label e) (T.first e) (T.bay e) (T.bays e) (T.halves e)
-      (all.tube c lc) (all.tube e le) (all.labels c e lc le n) (all.apart c e lc le n) (all.clean c lc) z Z hc he)
+      (common_place r whole lab L.matched (T.label c) (T.first c) (T.bay c) (T.bays c) (T.halves c)
+      (T.label e) (T.first e) (T.bay e) (T.bays e) (T.halves e)
+      (all.tube c lc) (all.tube e le) (all.labels c e lc le n) (all.apart c e lc le n)
+      (all.clean c lc) z Z hc he)
 
   two_arcs : (i j : ℕ) → i < length d.curves → j < length d.curves → (i ≡ j → ⊥)
       → (curve d i).kind ≡ kind.HalfArc → (curve d j).kind ≡ kind.HalfArc
@@ -150,8 +177,10 @@ module _ (w : ℤ) (d : Plan) (bays : ℕ → List Bay) (m : ℕ) (E : ℕ → E
         second_covers = triangles_cover (curve d j) (bays j) ej (is.tube j lj ej);
         apart = λ z Z a b.
             let hc = to_tube i c.0 c.1 c.2 z a in
-            let he = to_tube j e.0 e.1 e.2 z b in
-            (one_end i c.0 e.0 c.1 e.1 differ c.2 z Z hc he, one_end j e.0 c.0 e.1 c.1 (λ q. differ (sym q)) e.2 z Z he hc);
+            let he = to_tube j e.0 e.1 e.2 z b in (
+              one_end i c.0 e.0 c.1 e.1 differ c.2 z Z hc he,
+              one_end j e.0 c.0 e.1 c.1 (λ q. differ (sym q)) e.2 z Z he hc,
+            );
       }
 
   pub curves_apart : (i j : ℕ) → i < length d.curves → j < length d.curves → (i ≡ j → ⊥)
@@ -162,7 +191,8 @@ module _ (w : ℤ) (d : Plan) (bays : ℕ → List Bay) (m : ℕ) (E : ℕ → E
       | inr ej ↦ straight_and_arc i j li lj n ei ej
     ]
     | inr ei ↦ elim (decide_kind (curve d j).kind) [
-      | inl ej ↦ apart_back (curve d j) (curve d i) (straight_and_arc j i lj li (λ q. n (sym q)) ej ei)
+      | inl ej ↦ apart_back (curve d j) (curve d i)
+          (straight_and_arc j i lj li (λ q. n (sym q)) ej ei)
       | inr ej ↦ two_arcs i j li lj n ei ej
     ]
   ]

@@ -1,4 +1,5 @@
--- Each half arc of a drawing with a run over its edge list is crossed by a segment that hits no other curve; its ends have the labels of the two sides.
+-- Each half arc of a drawing with a run over its edge list is crossed by a segment that hits no
+-- other curve; its ends have the labels of the two sides.
 use Rattle.std.proofs.Common.{◌≡◌, ℕ, ◌<◌, List, [], ◌∷◌, length, ℤ, pos, ◌<ℤ◌, inl, inr, arith, ap}
 use Rattle.std.proofs.Common.{sym, ◌∙◌, subst}
 use Rattle.std.proofs.lemmas.Int.{ints}
@@ -29,8 +30,10 @@ use Rattle.plane.proofs.TubedRuns.TubedCurves.{way_between, between_way, tube_of
 use Rattle.plane.proofs.TubedRuns.TubedApart.{straight_arc, one_end}
 use Rattle.plane.proofs.TubedRuns.TubedOff.{label_off}
 
-module _ (w : ℤ) (d : Plan) (bays : ℕ → List Bay) (m : ℕ) (E : ℕ → Edge) (steps : List Step) (lab : Labels) (within : ℕ → Half) (inside outside : ℕ → ℕ)
-    (swept : WeighedRun w m E steps) (is : IsTubedRun d bays m E steps) (L : AreTubeLabels d bays (replay w m E steps) lab within inside outside) where
+module _ (w : ℤ) (d : Plan) (bays : ℕ → List Bay) (m : ℕ) (E : ℕ → Edge) (steps : List Step)
+    (lab : Labels) (within : ℕ → Half) (inside outside : ℕ → ℕ)
+    (swept : WeighedRun w m E steps) (is : IsTubedRun d bays m E steps)
+    (L : AreTubeLabels d bays (replay w m E steps) lab within inside outside) where
   abbrev r : Replay
   r = replay w m E steps
 
@@ -62,13 +65,31 @@ module _ (w : ℤ) (d : Plan) (bays : ℕ → List Bay) (m : ℕ) (E : ℕ → E
     tube = tube_of w d bays m E steps lab within inside outside swept is L i l bent
 
     in_tube : (z : Vector) → IsOnWay p q z → InTubeAt T tube.0 z
-    in_tube z k = (tube_places w d bays m E steps lab within inside outside swept is L tube.0 tube.1 z).1 (subst (λ (j : ℕ). one.InTube (curve d j).from (bays j) z) (sym tube.2) (x.there z k))
+    in_tube z k =
+        (tube_places w d bays m E steps lab within inside outside swept is L tube.0 tube.1 z).1
+        (subst (λ (j : ℕ). one.InTube (curve d j).from (bays j) z) (sym tube.2) (x.there z k))
 
     p_label : HasLabel r lab T p (inside i)
-    p_label = inl (tube.0, tube.1, in_tube p (way_start p q), inl (subst (λ (j : ℕ). power (arc (curve d j)) p <ℤ pos 0) (sym tube.2) x.inside, ap inside (sym tube.2)))
+    p_label = inl (
+      tube.0,
+      tube.1,
+      in_tube p (way_start p q),
+      inl (
+        subst (λ (j : ℕ). power (arc (curve d j)) p <ℤ pos 0) (sym tube.2) x.inside,
+        ap inside (sym tube.2),
+      ),
+    )
 
     q_label : HasLabel r lab T q (outside i)
-    q_label = inl (tube.0, tube.1, in_tube q (way_end p q), inr (subst (λ (j : ℕ). pos 0 <ℤ power (arc (curve d j)) q) (sym tube.2) x.outside, ap outside (sym tube.2)))
+    q_label = inl (
+      tube.0,
+      tube.1,
+      in_tube q (way_end p q),
+      inr (
+        subst (λ (j : ℕ). pos 0 <ℤ power (arc (curve d j)) q) (sym tube.2) x.outside,
+        ap outside (sym tube.2),
+      ),
+    )
 
     own : HitsHalfArc h p q
     own =
@@ -91,29 +112,40 @@ module _ (w : ℤ) (d : Plan) (bays : ℕ → List Bay) (m : ℕ) (E : ℕ → E
     clear j k n hit = elim (decide_kind (curve d j).kind) [
       | inl e ↦
           let y = straight_edge d bays m E steps is j k e in
-          let g = hits_edge w (E y.0) (curve d j) p q y.3 e (swept.rises y.0 y.1) x.p_place x.q_place hit in
+          let g = hits_edge w (E y.0) (curve d j) p q y.3 e
+          (swept.rises y.0 y.1) x.p_place x.q_place hit in
           let b = g.between in
           let way = between_way p q g.z b in
           let z = mix b.s p b.t q in
           let Z = way_place p q z x.p_place x.q_place way in
           let on = on_same w (E y.0) g.z z b.is g.place Z g.on in
-          x.inner z way (straight_arc w d bays m E steps lab within inside outside swept is L j i k l n e bent y.0 tube.0 y.1 y.2 y.3 tube.1 tube.2 z Z on (in_tube z way)).1
+          x.inner z way
+          (straight_arc w d bays m E steps lab within inside outside swept is L j i k l n e bent
+          y.0 tube.0 y.1 y.2 y.3 tube.1 tube.2 z Z on (in_tube z way)).1
       | inr e ↦
           let c = tube_of w d bays m E steps lab within inside outside swept is L j k e in
           let g = bent_hits w d bays m E steps lab within inside outside swept is L j p q e hit in
-          let o = tubes_cover w d bays m E steps lab within inside outside swept is L c.0 c.1 p q x.p_place x.q_place (subst (λ (y : ℕ). HitsHalfArc (arc (curve d y)) p q) (sym c.2) g) in
-          x.inner o.0 o.1 (one_end w d bays m E steps lab within inside outside swept is L i tube.0 c.0 tube.1 c.1 (λ s. n (sym c.2 ∙ sym (ap (λ (y : ℕ). arc_at d y) s) ∙ tube.2)) tube.2 o.0 (way_place p q o.0 x.p_place x.q_place o.1) (in_tube o.0 o.1) o.2)
+          let o = tubes_cover w d bays m E steps lab within inside outside swept is L c.0 c.1 p q
+          x.p_place x.q_place
+          (subst (λ (y : ℕ). HitsHalfArc (arc (curve d y)) p q) (sym c.2) g) in
+          x.inner o.0 o.1
+          (one_end w d bays m E steps lab within inside outside swept is L i tube.0 c.0 tube.1
+          c.1 (λ s. n (sym c.2 ∙ sym (ap (λ (y : ℕ). arc_at d y) s) ∙ tube.2)) tube.2 o.0
+          (way_place p q o.0 x.p_place x.q_place o.1) (in_tube o.0 o.1) o.2)
     ]
 
-    pub arc_crossed : (u : Vector) × (v : Vector) × CrossesHalfArc d i u v × (HasLabel r lab T u (inside i) × HasLabel r lab T v (outside i))
+    pub arc_crossed : (u : Vector) × (v : Vector) × CrossesHalfArc d i u v
+        × (HasLabel r lab T u (inside i) × HasLabel r lab T v (outside i))
     arc_crossed = (
       p,
       q,
       record {
         p_place = x.p_place;
         q_place = x.q_place;
-        p_off = label_off w d bays m E steps lab within inside outside swept is L p x.p_place (inside i) p_label;
-        q_off = label_off w d bays m E steps lab within inside outside swept is L q x.q_place (outside i) q_label;
+        p_off = label_off w d bays m E steps lab within inside outside swept is L p x.p_place
+            (inside i) p_label;
+        q_off = label_off w d bays m E steps lab within inside outside swept is L q x.q_place
+            (outside i) q_label;
         p_away = x.p_away;
         q_away = x.q_away;
         inside = x.inside;

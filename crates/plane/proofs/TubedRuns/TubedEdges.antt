@@ -1,4 +1,5 @@
--- The bounds of the tubes in a run over the edge list of a drawing: the half-edges that face a tube, in the order of its bounds. No label is asked.
+-- The bounds of the tubes in a run over the edge list of a drawing: the half-edges that face a
+-- tube, in the order of its bounds. No label is asked.
 use Rattle.std.proofs.Common.{◌≡◌, ℕ, suc, ◌+◌, ◌<◌, List, [], ◌∷◌, ◌++◌, map, length, inl, inr}
 use Rattle.std.proofs.Common.{refl, ap, sym, ◌∙◌, subst}
 use Rattle.plane.specs.declared.kinds.Curve.{Curve}
@@ -22,8 +23,10 @@ use Rattle.plane.proofs.TubedRuns.TubeBounds.{edges_back, map_same, map_twice, I
 use Rattle.plane.proofs.TubedRuns.TubeNumbers.{tube_among, among_tube, tube_once, oriented}
 use Rattle.plane.proofs.TubedRuns.ArcEdges as arc
 
-module _ (d : Plan) (bays : ℕ → List Bay) (m : ℕ) (E : ℕ → Edge) (steps : List Step) (within : ℕ → Half) (is : IsTubedRun d bays m E steps)
-    (faced : (e : ℕ) → e < m → IsOfTube (owned d bays e).part → FacesTube d bays E e (within e)) where
+module _ (d : Plan) (bays : ℕ → List Bay) (m : ℕ) (E : ℕ → Edge) (steps : List Step) (within : ℕ
+    → Half) (is : IsTubedRun d bays m E steps)
+    (faced : (e : ℕ) → e < m → IsOfTube (owned d bays e).part
+    → FacesTube d bays E e (within e)) where
   abbrev f : ℕ → Owned
   f e = owned d bays e
 
@@ -52,7 +55,9 @@ module _ (d : Plan) (bays : ℕ → List Bay) (m : ℕ) (E : ℕ → Edge) (step
     -- each bound is the half-edge that faces the tube
     faces_at : (x : ℕ) → IsIts x
         → way E (within x) ≡ inward (third_is_left c) (f x).part (f x).from (f x).to
-    faces_at x h = (faced x (below_m x h) (of_tube x h)).left ∙ ap (λ (j : ℕ). inward (third_is_left (curve d j)) (f x).part (f x).from (f x).to) (its_curve x h)
+    faces_at x h = (faced x (below_m x h) (of_tube x h)).left
+        ∙ ap (λ (j : ℕ). inward (third_is_left (curve d j)) (f x).part (f x).from (f x).to)
+        (its_curve x h)
 
     pub edge_at : (x : ℕ) → IsIts x → edge_of (within x) ≡ x
     edge_at x h = (faced x (below_m x h) (of_tube x h)).edge
@@ -75,14 +80,24 @@ module _ (d : Plan) (bays : ℕ → List Bay) (m : ℕ) (E : ℕ → Edge) (step
     half_in (n ∷ ns) x (inl e) = inl (ap within e)
     half_in (n ∷ ns) x (inr k) = inr (half_in ns x k)
 
-    pub its_bounds : bounds (tube_start c) (first_bay (tube_bays c bs) ∷ later_bays (tube_bays c bs)) ≡ map (way E) halves
+    pub its_bounds : bounds (tube_start c)
+        (first_bay (tube_bays c bs) ∷ later_bays (tube_bays c bs)) ≡ map (way E) halves
     its_bounds =
-        arc.with_bay d bays m E steps is i l bent (λ ks. bounds (tube_start c) (first_bay (tube_bays c ks) ∷ later_bays (tube_bays c ks)) ≡ map (λ n. inward (third_is_left c) (f n).part (f n).from (f n).to) (tube_edges (third_is_left c) (first i) ks))
+        arc.with_bay d bays m E steps is i l bent
+        (λ ks. bounds (tube_start c) (first_bay (tube_bays c ks) ∷ later_bays (tube_bays c ks))
+        ≡ map (λ n. inward (third_is_left c) (f n).part (f n).from (f n).to)
+        (tube_edges (third_is_left c) (first i) ks))
         (λ b rest e. oriented (third_is_left c) f i (first i) c.from c.to b rest
-        (subst (λ (ks : List Bay). IsFrom f (first i) (chain i inner c.from (inner_corners ks))) e (arc.inner_from d bays m E steps is i l bent))
-        (subst (λ (ks : List Bay). IsFrom f (first i + length ks) (chain i outer c.from (outer_corners ks ++ c.to ∷ []))) e (arc.outer_from d bays m E steps is i l bent))
-        (subst (λ (ks : List Bay). last_inner c.from ks ≡ c.to) e (arc.ends_at d bays m E steps is i l bent)))
-        ∙ sym (map_same (λ n. way E (within n)) (λ n. inward (third_is_left c) (f n).part (f n).from (f n).to) numbers (λ n k. faces_at n (tube_among (third_is_left c) (first i) n bs k)))
+        (subst (λ (ks : List Bay). IsFrom f (first i) (chain i inner c.from (inner_corners ks))) e
+        (arc.inner_from d bays m E steps is i l bent))
+        (subst (λ (ks : List Bay). IsFrom f (first i + length ks)
+        (chain i outer c.from (outer_corners ks ++ c.to ∷ []))) e
+        (arc.outer_from d bays m E steps is i l bent))
+        (subst (λ (ks : List Bay). last_inner c.from ks ≡ c.to) e
+        (arc.ends_at d bays m E steps is i l bent)))
+        ∙ sym (map_same (λ n. way E (within n))
+        (λ n. inward (third_is_left c) (f n).part (f n).from (f n).to) numbers
+        (λ n k. faces_at n (tube_among (third_is_left c) (first i) n bs k)))
         ∙ sym (map_twice (way E) within numbers)
 
     pub half_fits : (h : Half) → Has h halves → edge_of h < m
@@ -92,11 +107,16 @@ module _ (d : Plan) (bays : ℕ → List Bay) (m : ℕ) (E : ℕ → Edge) (step
         subst (λ (n : ℕ). n < m) (sym (ap edge_of x.2 ∙ edge_at x.0 a)) (below_m x.0 a)
 
     pub half_once : Once (map edge_of halves)
-    half_once = subst Once (sym (edges_back within numbers (λ n k. edge_at n (tube_among (third_is_left c) (first i) n bs k)))) (tube_once (third_is_left c) (first i) bs)
+    half_once = subst Once
+        (sym (edges_back within numbers
+        (λ n k. edge_at n (tube_among (third_is_left c) (first i) n bs k))))
+        (tube_once (third_is_left c) (first i) bs)
 
     pub facing : (x : ℕ) → x < m → (f x).curve ≡ i
         → Has (within x) halves × (edge_of (within x) ≡ x)
-    facing x k e = let a = arc.owned_in d bays m E steps is i l bent x k e in (half_in numbers x (among_tube (third_is_left c) (first i) x bs a), edge_at x a)
+    facing x k e =
+        let a = arc.owned_in d bays m E steps is i l bent x k e in
+        (half_in numbers x (among_tube (third_is_left c) (first i) x bs a), edge_at x a)
 
     -- the curve of a half-edge of the tube
     pub half_curve : (h : Half) → Has h halves → (f (edge_of h)).curve ≡ i

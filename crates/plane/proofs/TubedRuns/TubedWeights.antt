@@ -1,4 +1,5 @@
--- Laws on drawings with half arcs with any weight in the replay: what is said of labels and edges does not read it.
+-- Laws on drawings with half arcs with any weight in the replay: what is said of labels and edges
+-- does not read it.
 use Rattle.std.proofs.Common.{◌≡◌, ℕ, ◌<◌, List, [], length, ℤ}
 use Rattle.plane.specs.Forms.Vectors.{Edge}
 use Rattle.plane.specs.Rule.Plans.{Plan, curve}
@@ -12,7 +13,8 @@ use Rattle.plane.specs.CurveRuns.TubedRuns.{IsTubedRun, AreTubeLabels}
 use Rattle.plane.proofs.Runs.RunWeights.{run_weight}
 use Rattle.plane.proofs.TubedRuns.TubedApart as apart
 
-module _ (v w : ℤ) (d : Plan) (bays : ℕ → List Bay) (m : ℕ) (E : ℕ → Edge) (steps : List Step) (lab : Labels) (within : ℕ → Half) (inside outside : ℕ → ℕ) where
+module _ (v w : ℤ) (d : Plan) (bays : ℕ → List Bay) (m : ℕ) (E : ℕ → Edge) (steps : List Step)
+    (lab : Labels) (within : ℕ → Half) (inside outside : ℕ → ℕ) where
   pub labels_to : AreTubeLabels d bays (replay v m E steps) lab within inside outside
       → AreTubeLabels d bays (replay w m E steps) lab within inside outside
   labels_to L = record {
@@ -25,8 +27,12 @@ module _ (v w : ℤ) (d : Plan) (bays : ℕ → List Bay) (m : ℕ) (E : ℕ →
     outer_chain = L.outer_chain;
   }
 
-pub curves_apart : (v : ℤ) (d : Plan) (bays : ℕ → List Bay) (m : ℕ) (E : ℕ → Edge) (steps : List Step) (lab : Labels) (within : ℕ → Half) (inside outside : ℕ → ℕ)
-    → IsTubedRun d bays m E steps → AreTubeLabels d bays (replay v m E steps) lab within inside outside → (i j : ℕ) → i < length d.curves → j < length d.curves → (i ≡ j → ⊥) → Apart (curve d i) (curve d j)
+pub curves_apart : (v : ℤ) (d : Plan) (bays : ℕ → List Bay) (m : ℕ) (E : ℕ → Edge)
+    (steps : List Step) (lab : Labels) (within : ℕ → Half) (inside outside : ℕ → ℕ)
+    → IsTubedRun d bays m E steps
+    → AreTubeLabels d bays (replay v m E steps) lab within inside outside → (i j : ℕ)
+    → i < length d.curves → j < length d.curves → (i ≡ j → ⊥) → Apart (curve d i) (curve d j)
 curves_apart v d bays m E steps lab within inside outside is L =
     let u = run_weight m E steps [] is.run in
-    apart.curves_apart u.weight d bays m E steps lab within inside outside u.swept is (labels_to v u.weight d bays m E steps lab within inside outside L)
+    apart.curves_apart u.weight d bays m E steps lab within inside outside u.swept is
+    (labels_to v u.weight d bays m E steps lab within inside outside L)

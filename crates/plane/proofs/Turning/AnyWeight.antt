@@ -1,5 +1,7 @@
--- What is said of a replay by numbers alone does not depend on its weight: cells, what opens, what is linked, next half-edges,
--- connections and face numbers. So each law on these takes a weight of its own, and asks none of a caller.
+-- What is said of a replay by numbers alone does not depend on its weight: cells, what opens, what
+-- is linked, next half-edges,
+-- connections and face numbers. So each law on these takes a weight of its own, and asks none of a
+-- caller.
 use Rattle.std.proofs.Common.{ℕ, inl, inr, List, ℤ}
 use Rattle.plane.specs.declared.kinds.Point.{Point}
 use Rattle.plane.specs.Forms.Vectors.{Edge}
@@ -24,7 +26,8 @@ module _ (v w : ℤ) (m : ℕ) (E : ℕ → Edge) (steps : List Step) where
 
   pub opens_to : (c d : Sector) → Opens from c d → Opens to c d
   opens_to c d (inl o) = inl (record { fits = o.fits; next = o.next; low = o.low; kept = o.kept })
-  opens_to c d (inr o) = inr (record { fits = o.fits; next = o.next; top = o.top; high = o.high; kept = o.kept })
+  opens_to c d (inr o) =
+      inr (record { fits = o.fits; next = o.next; top = o.top; high = o.high; kept = o.kept })
 
   pub linked_to : (c d : Sector) → Linked from c d → Linked to c d
   linked_to _ _ (stays c d e) = stays c d e
@@ -42,19 +45,40 @@ module _ (v w : ℤ) (m : ℕ) (E : ℕ → Edge) (steps : List Step) where
 
   pub connected_to : (g h : Half) → Connected from g h → Connected to g h
   connected_to _ _ (faces.same g h e) = faces.same g h e
-  connected_to _ _ (faces.cross g h i a k) = faces.cross g h i (across_to g h a) (connected_to h i k)
+  connected_to _ _ (faces.cross g h i a k) =
+      faces.cross g h i (across_to g h a) (connected_to h i k)
   connected_to _ _ (faces.go g h i n k) = faces.go g h i (next_to g h n) (connected_to h i k)
-  connected_to _ _ (faces.return g h i n k) = faces.return g h i (next_to h g n) (connected_to h i k)
-  connected_to _ _ (faces.outside g h i a b k) = faces.outside g h i (touches_to g a) (touches_to h b) (connected_to h i k)
+  connected_to _ _ (faces.return g h i n k) =
+      faces.return g h i (next_to h g n) (connected_to h i k)
+  connected_to _ _ (faces.outside g h i a b k) =
+      faces.outside g h i (touches_to g a) (touches_to h b) (connected_to h i k)
 
   abbrev pub placed_to : (p : Point) (k i : ℕ) → IsPlaced from p k i → IsPlaced to p k i
-  placed_to p k i a = record { fits = a.fits; passed = a.passed; coming = a.coming; lower = a.lower; upper = a.upper; is_lower = a.is_lower; is_upper = a.is_upper; above = a.above; below = a.below }
+  placed_to p k i a = record {
+    fits = a.fits;
+    passed = a.passed;
+    coming = a.coming;
+    lower = a.lower;
+    upper = a.upper;
+    is_lower = a.is_lower;
+    is_upper = a.is_upper;
+    above = a.above;
+    below = a.below;
+  }
 
   pub located_to : (p : Point) (k i : ℕ) → IsLocated from p k i → IsLocated to p k i
-  located_to p k i a = record { fits = a.fits; index = a.index; passed = a.passed; coming = a.coming; above = a.above; below = a.below }
+  located_to p k i a = record {
+    fits = a.fits;
+    index = a.index;
+    passed = a.passed;
+    coming = a.coming;
+    above = a.above;
+    below = a.below;
+  }
 
   -- links, where the roots of the one replay are roots of the other
-  module _ (lab rank : Half → ℕ) (Here There : Half → Type 0) (roots : (h : Half) → Here h → There h) where
+  module _ (lab rank : Half → ℕ) (Here There : Half → Type 0) (roots : (h : Half) → Here h
+      → There h) where
     falls_to : (h g : Half) → Falls from lab rank h g → Falls to lab rank h g
     falls_to h g f = record { fits = f.fits; kept = f.kept; less = f.less }
 
@@ -73,5 +97,6 @@ module _ (v w : ℤ) (m : ℕ) (E : ℕ → Edge) (steps : List Step) where
     across = λ g h a. f.across g h (across_to w v m E steps g h a);
     border = λ h t. f.border h (touches_to w v m E steps h t);
     one = λ g h l k e. connected_to v w m E steps g h (f.one g h l k e);
-    outside = λ h l e. let t = f.outside h l e in (t.0, connected_to v w m E steps h t.0 t.1, touches_to v w m E steps t.0 t.2);
+    outside = λ h l e. let t = f.outside h l e in
+        (t.0, connected_to v w m E steps h t.0 t.1, touches_to v w m E steps t.0 t.2);
   }

@@ -1,4 +1,5 @@
--- Each cell has a wall or is at the border, and cells that open to each other have a wall in common.
+-- Each cell has a wall or is at the border, and cells that open to each other have a wall in
+-- common.
 -- So half-edges are connected exactly where the cells beside them are linked.
 use Rattle.std.proofs.Common.{◌≡◌, ℕ, zero, suc, ◌+◌, ◌-◌, ◌<◌, ◌≤◌, List, ◌++◌, length, refl}
 use Rattle.std.proofs.Common.{arith, ap, sym, ◌∙◌, ◌⊎◌, inl, inr, subst}
@@ -30,7 +31,9 @@ module _ (r : Replay) (run : IsRun r) (law : IsLawful r) where
   -- a half-edge at the border
   pub touches_linked : (h : Half) (c : Sector) → Touches r h → IsSector r c → Beside r h c
       → Linked r c corner
-  touches_linked h c t C b = linked_join r c t.0 corner (beside_linked r run law h c t.0 C t.1 b t.2) (border_linked r run law t.0 t.1 t.3)
+  touches_linked h c t C b =
+      linked_join r c t.0 corner (beside_linked r run law h c t.0 C t.1 b t.2)
+      (border_linked r run law t.0 t.1 t.3)
 
   -- a wall, or the border
   pub wall : (c : Sector) → IsSector r c → IsBorder r c ⊎ ((h : Half) × Beside r h c)
@@ -41,7 +44,11 @@ module _ (r : Replay) (run : IsRun r) (law : IsLawful r) where
       split (suc n) q =
           let i = C.index in
           let a = at_some (r.list c.strip) n (omega (arith, i, q)) in
-          inr (over a.0, subst (λ (m : ℕ). Beside r (over a.0) (record { strip = c.strip; index = m })) (sym q) a.1)
+          inr (
+            over a.0,
+            subst (λ (m : ℕ). Beside r (over a.0) (record { strip = c.strip; index = m }))
+                (sym q) a.1,
+          )
 
   -- a common wall
   pub common_wall : (c d : Sector) → Opens r c d
@@ -56,13 +63,20 @@ module _ (r : Replay) (run : IsRun r) (law : IsLawful r) where
           let low = o.low in
           let s = r.step c.strip in
           let a = at_some s.below n (omega (arith, low, q)) in
-          let stand : (now zs : List ℕ) → now ≡ s.below ++ zs → At now n a.0 = λ now zs e. subst (λ (es : List ℕ). At es n a.0) (sym e) (at_front s.below zs n a.0 a.1) in
-          let b : At (r.list c.strip) n a.0 = stand (r.list c.strip) (s.ending ++ s.above) (run.before c.strip l) in
-          let k : At (r.list d.strip) n a.0 = stand (r.list d.strip) (s.starting ++ s.above) (ap r.list o.next ∙ run.after c.strip l) in
+          let stand : (now zs : List ℕ) → now ≡ s.below ++ zs
+          → At now n a.0 =
+          λ now zs e. subst (λ (es : List ℕ). At es n a.0) (sym e)
+          (at_front s.below zs n a.0 a.1) in
+          let b : At (r.list c.strip) n a.0 = stand (r.list c.strip) (s.ending ++ s.above)
+          (run.before c.strip l) in
+          let k : At (r.list d.strip) n a.0 = stand (r.list d.strip) (s.starting ++ s.above)
+          (ap r.list o.next ∙ run.after c.strip l) in
           inr (
             over a.0,
-            subst (λ (m : ℕ). Beside r (over a.0) (record { strip = c.strip; index = m })) (sym q) b,
-            subst (λ (m : ℕ). Beside r (over a.0) (record { strip = d.strip; index = m })) (sym (o.kept ∙ q)) k,
+            subst (λ (m : ℕ). Beside r (over a.0) (record { strip = c.strip; index = m }))
+                (sym q) b,
+            subst (λ (m : ℕ). Beside r (over a.0) (record { strip = d.strip; index = m }))
+                (sym (o.kept ∙ q)) k,
           )
   common_wall c d (inr o) =
       let l = o.fits in
@@ -72,22 +86,37 @@ module _ (r : Replay) (run : IsRun r) (law : IsLawful r) where
       let s = r.step c.strip in
       let m = c.index - (length s.below + length s.ending) in
       let size = lengths_before r run law c.strip l in
-      let size2 = ap (λ (es : List ℕ). length es) (ap r.list o.next) ∙ lengths_after r run law c.strip l in
+      let size2 = ap (λ (es : List ℕ). length es) (ap r.list o.next)
+      ∙ lengths_after r run law c.strip l in
       by_less m (length s.above)
       (λ (f : m < length s.above).
       let a = at_some s.above m f in
-      let stand : (now ys : List ℕ) (n : ℕ) → now ≡ s.below ++ (ys ++ s.above) → n ≡ length s.below + (length ys + m) → At now n a.0 =
-      λ now ys n e q. subst (λ (es : List ℕ). At es n a.0) (sym e) (at_back s.below (ys ++ s.above) n (length ys + m) a.0 q (at_back ys s.above (length ys + m) m a.0 refl a.1)) in
-      inr (under a.0, stand (r.list c.strip) s.ending c.index (run.before c.strip l) (omega (arith, high)), stand (r.list d.strip) s.starting d.index (ap r.list o.next ∙ run.after c.strip l) (omega (arith, high, kept))))
-      (λ (f : length s.above ≤ m). inl (inr (omega (arith, size, top, high)), inr (omega (arith, size, size2, top, high, kept))))
+      let stand : (now ys : List ℕ) (n : ℕ) → now ≡ s.below ++ (ys ++ s.above)
+      → n ≡ length s.below + (length ys + m) → At now n a.0 =
+      λ now ys n e q. subst (λ (es : List ℕ). At es n a.0) (sym e)
+      (at_back s.below (ys ++ s.above) n (length ys + m) a.0 q
+      (at_back ys s.above (length ys + m) m a.0 refl a.1)) in
+      inr (
+        under a.0,
+        stand (r.list c.strip) s.ending c.index (run.before c.strip l)
+            (omega (arith, high)),
+        stand (r.list d.strip) s.starting d.index (ap r.list o.next
+            ∙ run.after c.strip l) (omega (arith, high, kept)),
+      ))
+      (λ (f : length s.above ≤ m). inl (
+        inr (omega (arith, size, top, high)),
+        inr (omega (arith, size, size2, top, high, kept)),
+      ))
 
   -- ---- by cells between two edges alone
   -- g is so connected to a half-edge beside the cell, or to one that touches the border
   abbrev Reaches : Half → Sector → Type 0
-  Reaches g c = ((h : Half) × Crossing r g h × Beside r h c) ⊎ ((h : Half) × Crossing r g h × Touches r h)
+  Reaches g c =
+      ((h : Half) × Crossing r g h × Beside r h c) ⊎ ((h : Half) × Crossing r g h × Touches r h)
 
   crossing_more : (g h i : Half) → Crossing r g h → Across r h i → Crossing r g i
-  crossing_more _ _ i (same g h e) a = cross g i i (subst (λ (x : Half). Across r x i) (sym e) a) (same i i refl)
+  crossing_more _ _ i (same g h e) a =
+      cross g i i (subst (λ (x : Half). Across r x i) (sym e) a) (same i i refl)
   crossing_more _ _ i (cross g x h a k) b = cross g x i a (crossing_more x h i k b)
 
   reach_on : (g : Half) (c d : Sector) → Reaches g c → IsSector r c
@@ -104,8 +133,11 @@ module _ (r : Replay) (run : IsRun r) (law : IsLawful r) where
 
   reach_linked : (g : Half) (c d : Sector) → Linked r c d → IsSector r c → Reaches g c → Reaches g d
   reach_linked g _ _ (stays c d e) C x = subst (λ (u : Sector). Reaches g u) e x
-  reach_linked g _ _ (onward c u d o l) C x = reach_linked g u d l (opens_to r run law c u o) (reach_on g c u x C (common_wall c u o))
-  reach_linked g _ _ (back c u d o l) C x = reach_linked g u d l (opens_from r run law u c o) (reach_on g c u x C (turned u c (common_wall u c o)))
+  reach_linked g _ _ (onward c u d o l) C x =
+      reach_linked g u d l (opens_to r run law c u o) (reach_on g c u x C (common_wall c u o))
+  reach_linked g _ _ (back c u d o l) C x =
+      reach_linked g u d l (opens_from r run law u c o)
+      (reach_on g c u x C (turned u c (common_wall u c o)))
 
   pub crossing_linked : (g h : Half) (c d : Sector) → IsSector r c → IsSector r d → Beside r g c
       → Beside r h d → Linked r c d
@@ -133,24 +165,36 @@ module _ (r : Replay) (run : IsRun r) (law : IsLawful r) where
     | inl x ↦ crossing_connected g h x
     | inr x ↦ elim (crossing_linked h g d c D C k b (linked_back r c d l)) [
       | inl y ↦ connected_back_cross h g y
-      | inr y ↦ connected_join g x.0 h (crossing_connected g x.0 x.1) (outside x.0 y.0 h x.2 y.2 (connected_back_cross h y.0 y.1))
+      | inr y ↦ connected_join g x.0 h (crossing_connected g x.0 x.1)
+          (outside x.0 y.0 h x.2 y.2 (connected_back_cross h y.0 y.1))
     ]
   ]
     where
       connected_back_cross : (g h : Half) → Crossing r g h → Connected r h g
       connected_back_cross _ _ (same g h e) = same h g (sym e)
-      connected_back_cross _ _ (cross g x h a j) = connected_join h x g (connected_back_cross x h j) (cross x g g (a.0, a.1, a.3, a.2) (same g g refl))
+      connected_back_cross _ _ (cross g x h a j) =
+          connected_join h x g (connected_back_cross x h j)
+          (cross x g g (a.0, a.1, a.3, a.2) (same g g refl))
 
   pub connected_linked : (g h : Half) → Connected r g h → (c d : Sector) → IsSector r c
       → IsSector r d → Beside r g c → Beside r h d → Linked r c d
-  connected_linked _ _ (same g h e) c d C D b k = beside_linked r run law h c d C D (subst (λ (x : Half). Beside r x c) e b) k
+  connected_linked _ _ (same g h e) c d C D b k =
+      beside_linked r run law h c d C D (subst (λ (x : Half). Beside r x c) e b) k
   connected_linked _ _ (cross g x h a j) c d C D b k =
-      linked_join r c a.0 d (beside_linked r run law g c a.0 C a.1 b a.2) (connected_linked x h j a.0 d a.1 D a.3 k)
+      linked_join r c a.0 d (beside_linked r run law g c a.0 C a.1 b a.2)
+      (connected_linked x h j a.0 d a.1 D a.3 k)
   connected_linked _ _ (go g x h n j) c d C D b k =
       let m = next_cells r run law x g n in
-      linked_join r c m.1 d (linked_join r c m.0 m.1 (beside_linked r run law g c m.0 C m.2 b m.4) m.6) (connected_linked x h j m.1 d m.3 D m.5 k)
+      linked_join r c m.1 d
+      (linked_join r c m.0 m.1 (beside_linked r run law g c m.0 C m.2 b m.4) m.6)
+      (connected_linked x h j m.1 d m.3 D m.5 k)
   connected_linked _ _ (return g x h n j) c d C D b k =
       let m = next_cells r run law g x n in
-      linked_join r c m.0 d (linked_join r c m.1 m.0 (beside_linked r run law g c m.1 C m.3 b m.5) (linked_back r m.0 m.1 m.6)) (connected_linked x h j m.0 d m.2 D m.4 k)
+      linked_join r c m.0 d
+      (linked_join r c m.1 m.0 (beside_linked r run law g c m.1 C m.3 b m.5)
+      (linked_back r m.0 m.1 m.6)) (connected_linked x h j m.0 d m.2 D m.4 k)
   connected_linked _ _ (outside g x h s t j) c d C D b k =
-      linked_join r c t.0 d (linked_join r c corner t.0 (touches_linked g c s C b) (linked_back r t.0 corner (border_linked r run law t.0 t.1 t.3))) (connected_linked x h j t.0 d t.1 D t.2 k)
+      linked_join r c t.0 d
+      (linked_join r c corner t.0 (touches_linked g c s C b)
+      (linked_back r t.0 corner (border_linked r run law t.0 t.1 t.3)))
+      (connected_linked x h j t.0 d t.1 D t.2 k)

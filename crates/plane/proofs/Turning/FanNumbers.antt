@@ -1,4 +1,5 @@
--- The fan of an event by numbers: which they are, that none stands twice, and that a list of next numbers which turns round each fan
+-- The fan of an event by numbers: which they are, that none stands twice, and that a list of next
+-- numbers which turns round each fan
 -- leads from each half-edge to its next one.
 use Rattle.std.proofs.Common.{◌≡◌, ◌↔◌, ℕ, zero, suc, ◌+◌, ◌-◌, ◌*◌, ◌<◌, ℤ, inl, inr, List, []}
 use Rattle.std.proofs.Common.{◌∷◌, ◌++◌, length, map, get_or, slice_index, refl, arith, ap, sym}
@@ -61,9 +62,12 @@ once_place : (xs : List Half) (j k : ℕ) → Once xs → j < length xs → k < 
     → nth xs j ≡ nth xs k → j ≡ k
 once_place [] j k o a b e = absurd (omega (arith, a))
 once_place (x ∷ xs) zero zero o a b e = refl
-once_place (x ∷ xs) zero (suc k) o a b e = absurd (o.0 (subst (λ (y : Half). Has y xs) (sym e) (has_at xs k (under 0) (omega (arith, b)))))
-once_place (x ∷ xs) (suc j) zero o a b e = absurd (o.0 (subst (λ (y : Half). Has y xs) e (has_at xs j (under 0) (omega (arith, a)))))
-once_place (x ∷ xs) (suc j) (suc k) o a b e = ap (λ (n : ℕ). suc n) (once_place xs j k o.1 (omega (arith, a)) (omega (arith, b)) e)
+once_place (x ∷ xs) zero (suc k) o a b e =
+    absurd (o.0 (subst (λ (y : Half). Has y xs) (sym e) (has_at xs k (under 0) (omega (arith, b)))))
+once_place (x ∷ xs) (suc j) zero o a b e =
+    absurd (o.0 (subst (λ (y : Half). Has y xs) e (has_at xs j (under 0) (omega (arith, a)))))
+once_place (x ∷ xs) (suc j) (suc k) o a b e =
+    ap (λ (n : ℕ). suc n) (once_place xs j k o.1 (omega (arith, a)) (omega (arith, b)) e)
 
 -- ---- what follows round
 last_at : (x : Half) (xs : List Half) (g : Half) → IsLast g (x ∷ xs) → nth (x ∷ xs) (length xs) ≡ g
@@ -81,8 +85,10 @@ first_at (x ∷ xs) h f = (omega arith, sym f)
 follows_at : (xs : List Half) (g h : Half) → Follows xs g h
     → (k : ℕ) × (suc k < length xs) × (nth xs (suc k) ≡ h) × (nth xs k ≡ g)
 follows_at [] g h f = absurd f
-follows_at (x ∷ xs) g h (inl f) = let a = first_at xs h f.1 in let l = a.0 in (0, omega (arith, l), a.1, sym f.0)
-follows_at (x ∷ xs) g h (inr f) = let (k, l, a, b) = follows_at xs g h f in (suc k, omega (arith, l), a, b)
+follows_at (x ∷ xs) g h (inl f) =
+    let a = first_at xs h f.1 in let l = a.0 in (0, omega (arith, l), a.1, sym f.0)
+follows_at (x ∷ xs) g h (inr f) =
+    let (k, l, a, b) = follows_at xs g h f in (suc k, omega (arith, l), a, b)
 
 at_follows : (xs : List Half) (k : ℕ) (g h : Half) → suc k < length xs → nth xs (suc k) ≡ h
     → nth xs k ≡ g → Follows xs g h
@@ -93,7 +99,8 @@ at_follows (x ∷ (y ∷ ys)) (suc k) g h l a b = inr (at_follows (y ∷ ys) k g
 
 -- h at some place, and g at the one before it
 abbrev Stands : List Half → Half → Half → Type 0
-Stands xs g h = (k : ℕ) × (k < length xs) × (nth xs k ≡ h) × (nth xs (place_before (length xs) k) ≡ g)
+Stands xs g h =
+    (k : ℕ) × (k < length xs) × (nth xs k ≡ h) × (nth xs (place_before (length xs) k) ≡ g)
 
 round_at : (xs : List Half) (g h : Half) → FollowsRound xs g h → Stands xs g h
 round_at xs g h (inl f) = let (k, l, a, b) = follows_at xs g h f in (suc k, l, a, b)
@@ -111,7 +118,8 @@ at_round (x ∷ xs) g h zero l a b =
 at_round (x ∷ xs) g h (suc k) l a b = inl (at_follows (x ∷ xs) k g h l a b)
 
 pub round_is : (s : Step) (g h : Half) → FollowsRound (fan s) g h
-    ↔ ((k : ℕ) × (k < length (fan_numbers s)) × (slice_index (fan_numbers s) k ≡ number h) × (slice_index (fan_numbers s) (place_before (length (fan_numbers s)) k) ≡ number g))
+    ↔ ((k : ℕ) × (k < length (fan_numbers s)) × (slice_index (fan_numbers s) k ≡ number h)
+    × (slice_index (fan_numbers s) (place_before (length (fan_numbers s)) k) ≡ number g))
 round_is s g h = (
   (λ f.
       let (k, l, a, b) = round_at (fan s) g h f in
@@ -119,14 +127,17 @@ round_is s g h = (
         k,
         omega (arith, l, n),
         number_at (fan s) k ∙ ap number a,
-        ap (λ (i : ℕ). slice_index (fan_numbers s) (place_before i k)) n ∙ number_at (fan s) (place_before (length (fan s)) k) ∙ ap number b,
+        ap (λ (i : ℕ). slice_index (fan_numbers s) (place_before i k)) n
+            ∙ number_at (fan s) (place_before (length (fan s)) k) ∙ ap number b,
       )),
   (λ z.
       let (k, l, a, b) = z in
       let n = length-map (fan s) number in
-      at_round (fan s) g h k (omega (arith, l, n)) (number_one (nth (fan s) k) h (sym (number_at (fan s) k) ∙ a))
+      at_round (fan s) g h k (omega (arith, l, n))
+      (number_one (nth (fan s) k) h (sym (number_at (fan s) k) ∙ a))
       (number_one (nth (fan s) (place_before (length (fan s)) k)) g
-      (sym (number_at (fan s) (place_before (length (fan s)) k)) ∙ sym (ap (λ (i : ℕ). slice_index (fan_numbers s) (place_before i k)) n) ∙ b))),
+      (sym (number_at (fan s) (place_before (length (fan s)) k))
+      ∙ sym (ap (λ (i : ℕ). slice_index (fan_numbers s) (place_before i k)) n) ∙ b))),
 )
 
 -- ---- what the fan holds
@@ -154,21 +165,28 @@ over_not_under d e q = subst is_over q tt
 
 outward_once : (es : List ℕ) → Once es → Once (starting_halves es)
 outward_once [] o = tt
-outward_once (e ∷ es) o = ((λ i. let (d, j, q) = has_outward (over e) es i in o.0 (subst (λ (x : ℕ). Has x es) (sym (ap edge_of q)) j)), outward_once es o.1)
+outward_once (e ∷ es) o = (
+  (λ i. let (d, j, q) = has_outward (over e) es i in
+      o.0 (subst (λ (x : ℕ). Has x es) (sym (ap edge_of q)) j)),
+  outward_once es o.1,
+)
 
 inward_once : (es : List ℕ) → Once es → Once (ending_halves es)
 inward_once [] o = tt
 inward_once (e ∷ es) o =
     once_append (ending_halves es) (under e ∷ []) (inward_once es o.1) ((λ i. i), tt)
     (λ h i j. elim j [
-      | inl q ↦ (let (d, k, p) = has_inward h es i in o.0 (subst (λ (x : ℕ). Has x es) (sym (ap edge_of (sym q ∙ p))) k))
+      | inl q ↦ (let (d, k, p) = has_inward h es i in
+          o.0 (subst (λ (x : ℕ). Has x es) (sym (ap edge_of (sym q ∙ p))) k))
       | inr n ↦ n
     ])
 
 fan_once : (s : Step) → Once s.starting → Once s.ending → Once (fan s)
 fan_once s a b =
-    once_append (starting_halves s.starting) (ending_halves s.ending) (outward_once s.starting a) (inward_once s.ending b)
-    (λ h i j. let (d, k, p) = has_outward h s.starting i in let (e, l, q) = has_inward h s.ending j in over_not_under d e (sym p ∙ q))
+    once_append (starting_halves s.starting) (ending_halves s.ending) (outward_once s.starting a)
+    (inward_once s.ending b)
+    (λ h i j. let (d, k, p) = has_outward h s.starting i in
+    let (e, l, q) = has_inward h s.ending j in over_not_under d e (sym p ∙ q))
 
 pub fan_is : (m : ℕ) (E : ℕ → Edge) (s : Step) → GoodStep m E s → (h : Half)
     → Has h (fan s) ↔ ((edge_of h < m) × (origin E h ≡ s.at))
@@ -176,33 +194,51 @@ fan_is m E s good h = ((λ i. only h i), (λ a. all h a.0 a.1))
   where
     only : (h : Half) → Has h (fan s) → (edge_of h < m) × (origin E h ≡ s.at)
     only h i = elim (has_append h (starting_halves s.starting) (ending_halves s.ending) i) [
-      | inl j ↦ (let (e, k, q) = has_outward h s.starting j in subst (λ (x : Half). (edge_of x < m) × (origin E x ≡ s.at)) (sym q) (good.starting_only e k))
-      | inr j ↦ (let (e, k, q) = has_inward h s.ending j in subst (λ (x : Half). (edge_of x < m) × (origin E x ≡ s.at)) (sym q) (good.ending_only e k))
+      | inl j ↦ (let (e, k, q) = has_outward h s.starting j in
+          subst (λ (x : Half). (edge_of x < m) × (origin E x ≡ s.at)) (sym q)
+          (good.starting_only e k))
+      | inr j ↦ (let (e, k, q) = has_inward h s.ending j in
+          subst (λ (x : Half). (edge_of x < m) × (origin E x ≡ s.at)) (sym q)
+          (good.ending_only e k))
     ]
 
     all : (h : Half) → edge_of h < m → origin E h ≡ s.at → Has h (fan s)
-    all (under e) l q = has_back (under e) (starting_halves s.starting) (ending_halves s.ending) (inward_has e s.ending (good.ending_all e l q))
-    all (over e) l q = has_front (over e) (starting_halves s.starting) (ending_halves s.ending) (outward_has e s.starting (good.starting_all e l q))
+    all (under e) l q =
+        has_back (under e) (starting_halves s.starting) (ending_halves s.ending)
+        (inward_has e s.ending (good.ending_all e l q))
+    all (over e) l q =
+        has_front (over e) (starting_halves s.starting) (ending_halves s.ending)
+        (outward_has e s.starting (good.starting_all e l q))
 
-module _ (m : ℕ) (E : ℕ → Edge) (s : Step) (edges : (e : ℕ) → e < m → Before (E e).low (E e).high) (good : GoodStep m E s) where
+module _ (m : ℕ) (E : ℕ → Edge) (s : Step) (edges : (e : ℕ) → e < m → Before (E e).low (E e).high)
+    (good : GoodStep m E s) where
   starting_once : Once s.starting
   starting_once =
-      let at : (e : ℕ) → Has e s.starting → StartsAt E s.at e = λ e k. let g = good.starting_only e k in (g.1, edges e g.0) in
-      sorted_once (BySlope E) (StartsAt E s.at) (slope_never E s.at) (slope_trans E s.at) s.starting at
-      (neighbours_map (Turns E) (BySlope E) s.starting (λ a b i j t. let z = side-cross (E a) (E b).high in inl (omega (arith, ints, z, t))) good.turns)
+      let at : (e : ℕ) → Has e s.starting
+      → StartsAt E s.at e = λ e k. let g = good.starting_only e k in
+      (g.1, edges e g.0) in
+      sorted_once (BySlope E) (StartsAt E s.at) (slope_never E s.at)
+      (slope_trans E s.at) s.starting at
+      (neighbours_map (Turns E) (BySlope E) s.starting
+      (λ a b i j t. let z = side-cross (E a) (E b).high in
+      inl (omega (arith, ints, z, t))) good.turns)
 
   pub numbers_once : (j k : ℕ) → j < length (fan_numbers s) → k < length (fan_numbers s)
       → slice_index (fan_numbers s) j ≡ slice_index (fan_numbers s) k → j ≡ k
   numbers_once j k a b e =
       let n = length-map (fan s) number in
-      once_place (fan s) j k (fan_once s starting_once good.ending_once) (omega (arith, a, n)) (omega (arith, b, n))
-      (number_one (nth (fan s) j) (nth (fan s) k) (sym (number_at (fan s) j) ∙ e ∙ number_at (fan s) k))
+      once_place (fan s) j k (fan_once s starting_once good.ending_once) (omega (arith, a, n))
+      (omega (arith, b, n))
+      (number_one (nth (fan s) j) (nth (fan s) k) (sym (number_at (fan s) j) ∙ e
+      ∙ number_at (fan s) k))
 
 pub numbers_in : (s : Step) (k : ℕ) → k < length (fan_numbers s)
     → Has (half_of (slice_index (fan_numbers s) k)) (fan s)
 numbers_in s k l =
     let n = length-map (fan s) number in
-    subst (λ (x : Half). Has x (fan s)) (sym (ap half_of (number_at (fan s) k) ∙ half_number (nth (fan s) k))) (has_at (fan s) k (under 0) (omega (arith, l, n)))
+    subst (λ (x : Half). Has x (fan s))
+    (sym (ap half_of (number_at (fan s) k) ∙ half_number (nth (fan s) k)))
+    (has_at (fan s) k (under 0) (omega (arith, l, n)))
 
 pub in_numbers : (s : Step) (h : Half) → Has h (fan s)
     → (k : ℕ) × (k < length (fan_numbers s)) × (slice_index (fan_numbers s) k ≡ number h)
@@ -218,7 +254,9 @@ outward_length (e ∷ es) = ap (λ (n : ℕ). suc n) (outward_length es)
 
 inward_length : (es : List ℕ) → length (ending_halves es) ≡ length es
 inward_length [] = refl
-inward_length (e ∷ es) = let a = inward_length es in let b = length-append (ending_halves es) (under e ∷ []) in omega (arith, a, b)
+inward_length (e ∷ es) =
+    let a = inward_length es in
+    let b = length-append (ending_halves es) (under e ∷ []) in omega (arith, a, b)
 
 pub fan_length : (s : Step) → length (fan_numbers s) ≡ length s.starting + length s.ending
 fan_length s =
@@ -240,35 +278,44 @@ inward_at [] i j q = absurd (omega (arith, q))
 inward_at (e ∷ es) i zero q =
     let n = inward_length es in
     let at : i ≡ length (ending_halves es) = omega (arith, q, n) in
-    ap (λ (k : ℕ). nth (ending_halves es ++ (under e ∷ [])) k) at ∙ get_or-append_seam (ending_halves es) (under e) [] (under 0)
+    ap (λ (k : ℕ). nth (ending_halves es ++ (under e ∷ [])) k) at
+    ∙ get_or-append_seam (ending_halves es) (under e) [] (under 0)
 inward_at (e ∷ es) i (suc j) q =
     let n = inward_length es in
-    get_or_append_left (ending_halves es) (under e ∷ []) (under 0) i (omega (arith, q, n)) ∙ inward_at es i j (omega (arith, q))
+    get_or_append_left (ending_halves es) (under e ∷ []) (under 0) i (omega (arith, q, n))
+    ∙ inward_at es i j (omega (arith, q))
 
 pub over_at : (s : Step) (i : ℕ) → i < length s.starting
     → slice_index (fan_numbers s) i ≡ 2 * slice_index s.starting i + 1
 over_at s i l =
     let n = outward_length s.starting in
-    let e = number_at (fan s) i ∙ ap number (get_or_append_left (starting_halves s.starting) (ending_halves s.ending) (under 0) i (omega (arith, l, n)) ∙ outward_at s.starting i l) in
+    let e = number_at (fan s) i
+    ∙ ap number (get_or_append_left (starting_halves s.starting) (ending_halves s.ending)
+    (under 0) i (omega (arith, l, n)) ∙ outward_at s.starting i l) in
     omega (arith, e)
 
 pub under_at : (s : Step) (i j : ℕ) → i + suc j ≡ length s.ending
     → slice_index (fan_numbers s) (length s.starting + i) ≡ 2 * slice_index s.ending j
 under_at s i j q =
     let n = outward_length s.starting in
-    let place : length s.starting + i ≡ length (starting_halves s.starting) + i = omega (arith, n) in
-    let e = ap (λ (k : ℕ). slice_index (fan_numbers s) k) place ∙ number_at (fan s) (length (starting_halves s.starting) + i)
-    ∙ ap number (get_or-append-add (starting_halves s.starting) (ending_halves s.ending) i (under 0) ∙ inward_at s.ending i j q) in
+    let place : length s.starting + i ≡ length (starting_halves s.starting)
+    + i = omega (arith, n) in
+    let e = ap (λ (k : ℕ). slice_index (fan_numbers s) k) place
+    ∙ number_at (fan s) (length (starting_halves s.starting) + i)
+    ∙ ap number (get_or-append-add (starting_halves s.starting) (ending_halves s.ending) i (under 0)
+    ∙ inward_at s.ending i j q) in
     omega (arith, e)
 
 -- ---- a run
 module _ (w : ℤ) (m : ℕ) (E : ℕ → Edge) (steps : List Step) (run : Run m E steps) (next : ℕ → ℕ)
-    (round : (k : ℕ) → k < length steps → TurnsRound next (fan_numbers (get_or steps k no_step))) where
+    (round : (k : ℕ) → k < length steps
+    → TurnsRound next (fan_numbers (get_or steps k no_step))) where
   next_number : (h g : Half) → Next (replay w m E steps) h g → next (number h) ≡ number g
   next_number h g n =
       let s = get_or steps n.event no_step in
       let (k, l, a, b) = (round_is s g (twin h)).0 n.turn in
-      let twins : twin_number (slice_index (fan_numbers s) k) ≡ number h = ap twin_number a ∙ sym (number_twin (twin h)) ∙ ap number (twice h) in
+      let twins : twin_number (slice_index (fan_numbers s) k) ≡ number h = ap twin_number a
+      ∙ sym (number_twin (twin h)) ∙ ap number (twice h) in
       sym (ap next twins) ∙ round n.event n.fits k l ∙ b
 
   pub next_number_is : (h g : Half) → edge_of h < m
@@ -276,7 +323,8 @@ module _ (w : ℤ) (m : ℕ) (E : ℕ → Edge) (steps : List Step) (run : Run m
   next_number_is h g l = (
     (λ e.
         let k = some_next w m E steps run h l in
-        subst (λ (x : Half). Next (replay w m E steps) h x) (number_one k.0 g (sym (next_number h k.0 k.2) ∙ e)) k.2),
+        subst (λ (x : Half). Next (replay w m E steps) h x)
+        (number_one k.0 g (sym (next_number h k.0 k.2) ∙ e)) k.2),
     (λ n. next_number h g n),
   )
 
@@ -292,6 +340,8 @@ run_filled m E steps k run l =
     let (e, f, q) = run.events s (has_nth steps k l) in
     let is = fan_is m E s (run_good m E steps k run l) in
     elim q [
-      | inl low ↦ (let (i, b, w) = in_numbers s (over e) ((is (over e)).1 (f, low)) in omega (arith, b))
-      | inr high ↦ (let (i, b, w) = in_numbers s (under e) ((is (under e)).1 (f, high)) in omega (arith, b))
+      | inl low ↦ (let (i, b, w) = in_numbers s (over e) ((is (over e)).1 (f, low)) in
+          omega (arith, b))
+      | inr high ↦ (let (i, b, w) = in_numbers s (under e) ((is (under e)).1 (f, high)) in
+          omega (arith, b))
     ]

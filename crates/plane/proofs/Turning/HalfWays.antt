@@ -1,4 +1,5 @@
--- Half-edges of a run as arrows: an arrow tells its edge, and where two half-edges alone start, the one is the next one after the twin of the other.
+-- Half-edges of a run as arrows: an arrow tells its edge, and where two half-edges alone start, the
+-- one is the next one after the twin of the other.
 use Rattle.std.proofs.Common.{◌≡◌, ℕ, ◌<◌, ◌⊎◌, inl, inr, List, ℤ, refl, arith, ap, sym, subst}
 use Rattle.std.proofs.lemmas.Int.{ints}
 use Rattle.plane.specs.declared.kinds.Point.{Point}
@@ -36,7 +37,8 @@ pub twin_twin : (g : Half) → twin (twin g) ≡ g
 twin_twin (over a) = refl
 twin_twin (under a) = refl
 
-module _ (m : ℕ) (E : ℕ → Edge) (steps : List Step) (complete : Run m E steps) (w : ℤ) (swept : WeighedRun w m E steps) where
+module _ (m : ℕ) (E : ℕ → Edge) (steps : List Step) (complete : Run m E steps) (w : ℤ)
+    (swept : WeighedRun w m E steps) where
   abbrev r : Replay
   r = replay w m E steps
 
@@ -45,7 +47,10 @@ module _ (m : ℕ) (E : ℕ → Edge) (steps : List Step) (complete : Run m E st
 
   -- ---- arrows tell their edges
   flat : (e : ℕ) → e < m → (E e).low ≡ (E e).high → ⊥
-  flat e f q = let x = rise-is w (E e) in let up = whole.run.rise e f in let y = ap (λ (p : Point). sweep w (point p)) q in omega (arith, ints, x, up, y)
+  flat e f q =
+      let x = rise-is w (E e) in
+      let up = whole.run.rise e f in
+      let y = ap (λ (p : Point). sweep w (point p)) q in omega (arith, ints, x, up, y)
 
   pub way_flat : (g : Half) → edge_of g < m → (way E g).low ≡ (way E g).high → ⊥
   way_flat (over e) f q = flat e f q
@@ -55,31 +60,40 @@ module _ (m : ℕ) (E : ℕ → Edge) (steps : List Step) (complete : Run m E st
   crossed a b la lb h k =
       let x = rise-is w (E a) in let y = rise-is w (E b) in
       let ra = whole.run.rise a la in let rb = whole.run.rise b lb in
-      let u = ap (λ (p : Point). sweep w (point p)) h in let v = ap (λ (p : Point). sweep w (point p)) k in
+      let u = ap (λ (p : Point). sweep w (point p)) h in
+      let v = ap (λ (p : Point). sweep w (point p)) k in
       omega (arith, ints, ra, rb, x, y, u, v)
 
   pub one_edge : (a b : ℕ) → a < m → b < m → (E a).low ≡ (E b).low → (E a).high ≡ (E b).high → a ≡ b
   one_edge a b la lb h k = elim (decide_number a b) [
     | inl e ↦ e
-    | inr n ↦ absurd (ends_differ w m E steps a b swept la lb n (λ i. record { low = h i; high = k i }))
+    | inr n ↦ absurd
+        (ends_differ w m E steps a b swept la lb n (λ i. record { low = h i; high = k i }))
   ]
 
   pub way_one : (f g : Half) → edge_of f < m → edge_of g < m → way E f ≡ way E g
       → edge_of f ≡ edge_of g
-  way_one (over a) (over b) la lb e = one_edge a b la lb (ap (λ (x : Edge). x.low) e) (ap (λ (x : Edge). x.high) e)
-  way_one (under a) (under b) la lb e = one_edge a b la lb (ap (λ (x : Edge). x.high) e) (ap (λ (x : Edge). x.low) e)
-  way_one (over a) (under b) la lb e = absurd (crossed a b la lb (ap (λ (x : Edge). x.low) e) (ap (λ (x : Edge). x.high) e))
-  way_one (under a) (over b) la lb e = absurd (crossed a b la lb (ap (λ (x : Edge). x.high) e) (ap (λ (x : Edge). x.low) e))
+  way_one (over a) (over b) la lb e =
+      one_edge a b la lb (ap (λ (x : Edge). x.low) e) (ap (λ (x : Edge). x.high) e)
+  way_one (under a) (under b) la lb e =
+      one_edge a b la lb (ap (λ (x : Edge). x.high) e) (ap (λ (x : Edge). x.low) e)
+  way_one (over a) (under b) la lb e =
+      absurd (crossed a b la lb (ap (λ (x : Edge). x.low) e) (ap (λ (x : Edge). x.high) e))
+  way_one (under a) (over b) la lb e =
+      absurd (crossed a b la lb (ap (λ (x : Edge). x.high) e) (ap (λ (x : Edge). x.low) e))
 
   -- ---- where two half-edges alone start, the one comes after the other's twin
   pub next_two : (h f : Half) → edge_of h < m → edge_of f < m → origin E f ≡ origin E (twin h)
       → (f ≡ twin h → ⊥)
-      → ((x : Half) → edge_of x < m → origin E x ≡ origin E (twin h) → (x ≡ twin h) ⊎ (x ≡ f)) → Next r h f
+      → ((x : Half) → edge_of x < m → origin E x ≡ origin E (twin h) → (x ≡ twin h) ⊎ (x ≡ f))
+      → Next r h f
   next_two h f lh lf o n all =
       let k = next_some r whole.run whole.law h lh in
       let c = next_is_clockwise w m E steps h k.0 complete swept k.1 in
       let fits = (next_has w m E steps complete h k.0 k.1).0 in
       elim (all k.0 fits c.start) [
         | inr e ↦ subst (λ (x : Half). Next r h x) e k.1
-        | inl e ↦ absurd (not_itself m E (twin h) f (subst (λ (x : Half). IsClockwiseNext m E (twin h) x) e c) lf o n)
+        | inl e ↦ absurd
+            (not_itself m E (twin h) f (subst (λ (x : Half). IsClockwiseNext m E (twin h) x) e c) lf
+            o n)
       ]

@@ -20,7 +20,11 @@ pub at_append : (xs ys : List ℕ) (n e : ℕ) → At (xs ++ ys) n e
     → At xs n e ⊎ ((i : ℕ) × (n ≡ length xs + i) × At ys i e)
 at_append [] ys n e h = inr (n, omega arith, h)
 at_append (x ∷ xs) ys zero e h = inl h
-at_append (x ∷ xs) ys (suc n) e h = elim (at_append xs ys n e h) [ inl a ↦ inl a | inr a ↦ inr (let l = a.1 in (a.0, omega (arith, l), a.2)) ]
+at_append (x ∷ xs) ys (suc n) e h =
+    elim (at_append xs ys n e h) [
+      | inl a ↦ inl a
+      | inr a ↦ inr (let l = a.1 in (a.0, omega (arith, l), a.2))
+    ]
 
 pub at_less : (xs : List ℕ) (i e : ℕ) → At xs i e → i < length xs
 at_less [] i e h = absurd h

@@ -37,7 +37,8 @@ pub beside_at : (r : Replay) (h : Half) (c : Sector) → Beside r h c
 beside_at r (under e) c b = (c.index, b, refl)
 beside_at r (over e) c b = split c.index refl b
   where
-    split : (n : ℕ) → c.index ≡ n → Beside r (over e) (record { strip = c.strip; index = n }) → (i : ℕ) × At (r.list c.strip) i e × (c ≡ cell_by (over e) c.strip i)
+    split : (n : ℕ) → c.index ≡ n → Beside r (over e) (record { strip = c.strip; index = n })
+        → (i : ℕ) × At (r.list c.strip) i e × (c ≡ cell_by (over e) c.strip i)
     split zero q b = absurd b
     split (suc n) q b = (n, b, cells_eq c (cell_by (over e) c.strip n) refl q)
 
@@ -57,12 +58,17 @@ spot_most (over e) i n l = omega arith
 module _ (r : Replay) (run : IsRun r) (law : IsLawful r) where
   -- no edge stands at two places of a live list
   pub at_unique : (k i j e : ℕ) → k ≤ r.steps → At (r.list k) i e → At (r.list k) j e → i ≡ j
-  at_unique k i j e h a b = by_less i j (λ l. absurd (apart i j a b l)) (λ m. by_less j i (λ l. absurd (apart j i b a l)) (λ n. omega arith))
+  at_unique k i j e h a b =
+      by_less i j (λ l. absurd (apart i j a b l))
+      (λ m. by_less j i (λ l. absurd (apart j i b a l)) (λ n. omega arith))
     where
       apart : (i j : ℕ) → At (r.list k) i e → At (r.list k) j e → i < j → ⊥
       apart i j a b l =
           let n = at_less (r.list k) j e b in
-          let z = centre r run law (record { strip = k; index = j }) record { strip = h; index = omega arith } in
+          let z = centre r run law (record { strip = k; index = j }) record {
+            strip = h;
+            index = omega arith;
+          } in
           let u = parts_under (sides r z.0) j i e (r.list k) z.1.parts a l in
           let o = parts_over (sides r z.0) j j e (r.list k) z.1.parts b (omega arith) in
           omega (arith, ints, u, o)
@@ -74,15 +80,24 @@ module _ (r : Replay) (run : IsRun r) (law : IsLawful r) where
   onward_by h k i l a n =
       let e = edge_of h in
       let s = r.step k in
-      let all : At (s.below ++ (s.ending ++ s.above)) i e = subst (λ (es : List ℕ). At es i e) (run.before k l) a in
+      let all : At (s.below ++ (s.ending ++ s.above)) i e = subst (λ (es : List ℕ). At es i e)
+      (run.before k l) a in
       let size = lengths_before r run law k l in
-      let after : (j : ℕ) → At (s.below ++ (s.starting ++ s.above)) j e → At (r.list (suc k)) j e = λ (j : ℕ) m. subst (λ (es : List ℕ). At es j e) (sym (run.after k l)) m in
+      let after : (j : ℕ) → At (s.below ++ (s.starting ++ s.above)) j e
+      → At (r.list (suc k)) j e =
+      λ (j : ℕ) m. subst (λ (es : List ℕ). At es j e) (sym (run.after k l)) m in
       elim (at_append s.below (s.ending ++ s.above) i e all) [
         | inl m ↦ (
           i,
           after i (at_front s.below (s.starting ++ s.above) i e m),
           onward (cell_by h k i) (cell_by h (suc k) i) (cell_by h (suc k) i)
-              (inl record { fits = l; next = refl; low = spot_least h i (length s.below) (at_less s.below i e m); kept = refl }) (stays _ _ refl),
+              (inl record {
+                fits = l;
+                next = refl;
+                low = spot_least h i (length s.below) (at_less s.below i e m);
+                kept = refl;
+              })
+              (stays _ _ refl),
         )
         | inr m ↦ elim (at_append s.ending s.above m.0 e m.2) [
           | inl q ↦ absurd (ended (at_has s.ending m.0 e q))
@@ -92,14 +107,16 @@ module _ (r : Replay) (run : IsRun r) (law : IsLawful r) where
               let f = at_less s.above q.0 e q.2 in
               let j = length s.below + (length s.starting + q.0) in (
                 j,
-                after j (at_back s.below (s.starting ++ s.above) j (length s.starting + q.0) e refl (at_back s.starting s.above (length s.starting + q.0) q.0 e refl q.2)),
+                after j (at_back s.below (s.starting ++ s.above) j (length s.starting + q.0) e refl
+                    (at_back s.starting s.above (length s.starting + q.0) q.0 e refl q.2)),
                 onward (cell_by h k i) (cell_by h (suc k) j) (cell_by h (suc k) j)
                     (inr record {
                       fits = l;
                       next = refl;
                       top = spot_least h i (length (r.list k)) (omega (arith, p, o, f, size));
                       high = spot_most h i (length s.below + length s.ending) (omega (arith, p, o));
-                      kept = spot_shift h i j (length s.ending) (length s.starting) (omega (arith, p, o));
+                      kept = spot_shift h i j (length s.ending) (length s.starting)
+                          (omega (arith, p, o));
                     }) (stays _ _ refl),
               ))
         ]
@@ -109,7 +126,8 @@ module _ (r : Replay) (run : IsRun r) (law : IsLawful r) where
       ended m =
           let o = law.open_still (suc k) (edge_of h) (omega arith) n in
           let f = run.rising k o.0 (omega (arith, o.1)) o.2 in
-          let g = ap (λ (p : Point). sweep r.weight (point p)) (o.3 ∙ run.ending k l (edge_of h) m) in
+          let g = ap (λ (p : Point). sweep r.weight (point p)) (o.3
+          ∙ run.ending k l (edge_of h) m) in
           omega (arith, ints, f, g)
 
   far_by : (h : Half) (n k m i j : ℕ) → m ≡ k + n → m ≤ r.steps → At (r.list k) i (edge_of h)
@@ -117,7 +135,8 @@ module _ (r : Replay) (run : IsRun r) (law : IsLawful r) where
   far_by h zero k m i j q l a b =
       let f : m ≡ k = omega arith in
       let b2 : At (r.list k) j (edge_of h) = subst (λ (x : ℕ). At (r.list x) j (edge_of h)) f b in
-      stays _ _ (cells_eq _ _ (sym f) (ap (spot h) (at_unique k i j (edge_of h) (omega arith) a b2)))
+      stays _ _ (cells_eq _ _ (sym f)
+      (ap (spot h) (at_unique k i j (edge_of h) (omega arith) a b2)))
   far_by h (suc n) k m i j q l a b =
       let e = edge_of h in
       let here = at_has (r.list k) i e a in
@@ -126,9 +145,11 @@ module _ (r : Replay) (run : IsRun r) (law : IsLawful r) where
       let o = law.open_still m e l there in
       let s1 = s.1 in
       let o1 = o.1 in
-      let still : Has e (r.list (suc k)) = law.alive (suc k) e s.0 o.0 (law.live m e l there) (omega (arith, s1)) s.2 (omega (arith, o1)) o.2 o.3 in
+      let still : Has e (r.list (suc k)) = law.alive (suc k) e s.0 o.0 (law.live m e l there)
+      (omega (arith, s1)) s.2 (omega (arith, o1)) o.2 o.3 in
       let x = onward_by h k i (omega arith) a still in
-      linked_join r (cell_by h k i) (cell_by h (suc k) x.0) (cell_by h m j) x.2 (far_by h n (suc k) m x.0 j (omega arith) l x.1 b)
+      linked_join r (cell_by h k i) (cell_by h (suc k) x.0) (cell_by h m j) x.2
+      (far_by h n (suc k) m x.0 j (omega arith) l x.1 b)
 
   -- two cells beside one half-edge
   pub beside_linked : (h : Half) (c d : Sector) → IsSector r c → IsSector r d → Beside r h c
@@ -139,7 +160,8 @@ module _ (r : Replay) (run : IsRun r) (law : IsLawful r) where
       let q : Linked r (cell_by h c.strip x.0) (cell_by h d.strip y.0) = by_order c.strip d.strip
       (λ (n : ℕ) e. far_by h n c.strip d.strip x.0 y.0 e D.strip x.1 y.1)
       (λ (n : ℕ) e. linked_back r _ _ (far_by h n d.strip c.strip y.0 x.0 e C.strip y.1 x.1)) in
-      subst (λ (u : Sector). Linked r u d) (sym x.2) (subst (λ (u : Sector). Linked r (cell_by h c.strip x.0) u) (sym y.2) q)
+      subst (λ (u : Sector). Linked r u d) (sym x.2)
+      (subst (λ (u : Sector). Linked r (cell_by h c.strip x.0) u) (sym y.2) q)
 
   -- each half-edge has a cell beside it
   pub some_beside : (h : Half) → edge_of h < r.edges → (c : Sector) × IsSector r c × Beside r h c
@@ -156,5 +178,12 @@ module _ (r : Replay) (run : IsRun r) (law : IsLawful r) where
       let u = run.rise e l in
       let v = rise-is r.weight (r.edge e) in
       absurd (omega (arith, ints, f, g, t, u, v))) in
-      let a = has_at (r.list k) e (law.alive k e b.0 d.0 l (omega arith) b.2 (omega (arith, m)) d.1 d.2) in
-      (cell_by h k a.0, record { strip = omega (arith, b1); index = spot_least h a.0 (length (r.list k)) (at_less (r.list k) a.0 e a.1) }, at_beside r h k a.0 a.1)
+      let a = has_at (r.list k) e
+      (law.alive k e b.0 d.0 l (omega arith) b.2 (omega (arith, m)) d.1 d.2) in (
+        cell_by h k a.0,
+        record {
+          strip = omega (arith, b1);
+          index = spot_least h a.0 (length (r.list k)) (at_less (r.list k) a.0 e a.1);
+        },
+        at_beside r h k a.0 a.1,
+      )

@@ -29,7 +29,8 @@ module _ (r : Replay) (run : IsRun r) (law : IsLawful r) where
       → Has e (r.step k).above → ⊥
   not_above k e l z h = let a = law.over k l e h in omega (arith, ints, a, z)
 
-  -- an edge that starts at the event is one of the starting ones, and one that ends there is one of the ending ones
+  -- an edge that starts at the event is one of the starting ones, and one that ends there is one of
+  -- the ending ones
   starts : (k e : ℕ) → k < r.steps → e < r.edges → (r.edge e).low ≡ (r.step k).at
       → Has e (r.step k).starting
   starts k e l f q =
@@ -44,8 +45,11 @@ module _ (r : Replay) (run : IsRun r) (law : IsLawful r) where
       absurd (omega (arith, ints, a, b, c, u, v))) in
       let has = law.alive (suc k) e k d.0 f (omega arith) (sym q) later d.1 d.2 in
       let s = r.step k in
-      let zero : side (r.edge e) (point s.at) ≡ pos 0 = subst (λ (p : Point). side (r.edge e) (point p) ≡ pos 0) q (side-low (r.edge e)) in
-      elim (has_three e s.below s.starting s.above (subst (λ (es : List ℕ). Has e es) (run.after k l) has)) [
+      let zero : side (r.edge e) (point s.at)
+      ≡ pos 0 = subst (λ (p : Point). side (r.edge e) (point p) ≡ pos 0) q
+      (side-low (r.edge e)) in
+      elim (has_three e s.below s.starting s.above
+      (subst (λ (es : List ℕ). Has e es) (run.after k l) has)) [
         | inl h ↦ absurd (not_below k e l zero h)
         | inr h ↦ elim h [ inl h ↦ h | inr h ↦ absurd (not_above k e l zero h) ]
       ]
@@ -64,16 +68,25 @@ module _ (r : Replay) (run : IsRun r) (law : IsLawful r) where
       absurd (omega (arith, ints, a, c, d, u, v))) in
       let has = law.alive k e b.0 k f sooner b.2 (omega arith) l (sym q) in
       let s = r.step k in
-      let zero : side (r.edge e) (point s.at) ≡ pos 0 = subst (λ (p : Point). side (r.edge e) (point p) ≡ pos 0) q (side-high (r.edge e)) in
-      elim (has_three e s.below s.ending s.above (subst (λ (es : List ℕ). Has e es) (run.before k l) has)) [
+      let zero : side (r.edge e) (point s.at)
+      ≡ pos 0 = subst (λ (p : Point). side (r.edge e) (point p) ≡ pos 0) q
+      (side-high (r.edge e)) in
+      elim (has_three e s.below s.ending s.above
+      (subst (λ (es : List ℕ). Has e es) (run.before k l) has)) [
         | inl h ↦ absurd (not_below k e l zero h)
         | inr h ↦ elim h [ inl h ↦ h | inr h ↦ absurd (not_above k e l zero h) ]
       ]
 
   pub fan_all : (k : ℕ) → k < r.steps → (x : Half) → edge_of x < r.edges
       → origin r.edge x ≡ (r.step k).at → Has x (fan (r.step k))
-  fan_all k l (under e) f q = let s = r.step k in has_back (under e) (starting_halves s.starting) (ending_halves s.ending) (inward_has e s.ending (finishes k e l f q))
-  fan_all k l (over e) f q = let s = r.step k in has_front (over e) (starting_halves s.starting) (ending_halves s.ending) (outward_has e s.starting (starts k e l f q))
+  fan_all k l (under e) f q =
+      let s = r.step k in
+      has_back (under e) (starting_halves s.starting) (ending_halves s.ending)
+      (inward_has e s.ending (finishes k e l f q))
+  fan_all k l (over e) f q =
+      let s = r.step k in
+      has_front (over e) (starting_halves s.starting) (ending_halves s.ending)
+      (outward_has e s.starting (starts k e l f q))
 
 -- ---- over a run
 pub turns_at : (m : ℕ) (E : ℕ → Edge) (now : List ℕ) (steps : List Step) (k : ℕ)
@@ -89,4 +102,5 @@ next_is_clockwise w m E steps h g run swept n =
     let r = replay w m E steps in
     let a = swept_run w m E steps swept in
     let b = swept_lawful w m E steps swept in
-    next_clockwise r a b (λ k l. turns_at m E [] steps k run.replays l) run.edges (fan_all r a b) h g n
+    next_clockwise r a b (λ k l. turns_at m E [] steps k run.replays l) run.edges
+    (fan_all r a b) h g n

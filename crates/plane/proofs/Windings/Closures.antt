@@ -1,4 +1,5 @@
--- Places of a closed strip: the live list is in weak order there, and each place is in the closure of a cell.
+-- Places of a closed strip: the live list is in weak order there, and each place is in the closure
+-- of a cell.
 use Rattle.std.proofs.Common.{◌≡◌, ℕ, ◌<◌, ◌≤◌, List, [], ◌∷◌, ◌++◌, ℤ, pos, ◌+ℤ◌, ◌*ℤ◌, ◌-ℤ◌, ◌<ℤ◌}
 use Rattle.std.proofs.Common.{◌≤ℤ◌, inl, inr, refl, arith, ap, sym, subst}
 use Rattle.std.proofs.lemmas.Int.{ints, by_lt_z}
@@ -15,14 +16,18 @@ use Rattle.plane.proofs.Algebra.Ring.{at, plus, times, num, vars, ring}
 use Rattle.plane.proofs.FaceLemmas.SmallSteps.{near}
 
 pub near_place : (n : ℤ) (z y : Vector) → pos 0 ≤ℤ n → Place z → Place y → Place (near n z y)
-near_place n z y h Z Y = mix_place n z (pos 1) y Z Y h (omega (arith, ints)) (omega (arith, ints, h))
+near_place n z y h Z Y =
+    mix_place n z (pos 1) y Z Y h (omega (arith, ints)) (omega (arith, ints, h))
 
 pub near_side : (n : ℤ) (z y : Vector) (e : Edge)
     → side e (near n z y) ≡ (n *ℤ side e z) +ℤ side e y
 near_side n z y e = let m = side-mix e n z (pos 1) y in omega (arith, ints, m)
 
 near_reach : (c n a b : ℤ) → c *ℤ ((n *ℤ a) +ℤ (pos 1 *ℤ b)) ≡ (n *ℤ (c *ℤ a)) +ℤ (c *ℤ b)
-near_reach c n a b = ring (times (at 0) (plus (times (at 1) (at 2)) (times (num (pos 1)) (at 3)))) (plus (times (at 1) (times (at 0) (at 2))) (times (at 0) (at 3))) (vars (c ∷ n ∷ a ∷ b ∷ [])) refl
+near_reach c n a b =
+    ring (times (at 0) (plus (times (at 1) (at 2)) (times (num (pos 1)) (at 3))))
+    (plus (times (at 1) (times (at 0) (at 2))) (times (at 0) (at 3)))
+    (vars (c ∷ n ∷ a ∷ b ∷ [])) refl
 
 pub near_inside : (r : Replay) (k : ℕ) (n : ℤ) (z y : Vector) → pos 0 ≤ℤ n → IsClosed r k z
     → IsBetweenEvents r k y → IsBetweenEvents r k (near n z y)
@@ -52,27 +57,35 @@ gap_limit g h f = by_lt_z (pos 0) g
     let x = f (pos 0 -ℤ h) (omega (arith, ints, k)) in
     let y = times_le (pos 0 -ℤ h) (pos 1) g (omega (arith, ints, k)) (omega (arith, ints, l)) in
     absurd (omega (arith, ints, x, y)))
-    (λ (k : pos 0 ≤ℤ h). let x = f (pos 0) (omega (arith, ints)) in absurd (omega (arith, ints, x, k))))
+    (λ (k : pos 0 ≤ℤ h). let x = f (pos 0) (omega (arith, ints)) in
+    absurd (omega (arith, ints, x, k))))
     (λ l. l)
 
 first_limit : (r : Replay) (z y : Vector) (a : ℕ) (xs : List ℕ)
-    → ((n : ℤ) → pos 0 ≤ℤ n → First (λ b. gap r.weight (r.edge a) (r.edge b) (near n z y) <ℤ pos 0) xs)
+    → ((n : ℤ) → pos 0 ≤ℤ n
+    → First (λ b. gap r.weight (r.edge a) (r.edge b) (near n z y) <ℤ pos 0) xs)
     → First (λ b. gap r.weight (r.edge a) (r.edge b) z ≤ℤ pos 0) xs
 first_limit r z y a [] f = tt
-first_limit r z y a (b ∷ xs) f = gap_limit (gap r.weight (r.edge a) (r.edge b) z) (gap r.weight (r.edge a) (r.edge b) y)
-    (λ n h. let m = gap-mix r.weight (r.edge a) (r.edge b) n z (pos 1) y in let x = f n h in omega (arith, ints, m, x))
+first_limit r z y a (b ∷ xs) f =
+    gap_limit (gap r.weight (r.edge a) (r.edge b) z) (gap r.weight (r.edge a) (r.edge b) y)
+    (λ n h. let m = gap-mix r.weight (r.edge a) (r.edge b) n z (pos 1) y in let x = f n h in
+    omega (arith, ints, m, x))
 
 order_limit : (r : Replay) (z y : Vector) (xs : List ℕ)
-    → ((n : ℤ) → pos 0 ≤ℤ n → Neighbours (λ a b. gap r.weight (r.edge a) (r.edge b) (near n z y) <ℤ pos 0) xs)
+    → ((n : ℤ) → pos 0 ≤ℤ n
+    → Neighbours (λ a b. gap r.weight (r.edge a) (r.edge b) (near n z y) <ℤ pos 0) xs)
     → WeakOrder r z xs
 order_limit r z y [] f = tt
-order_limit r z y (a ∷ xs) f = (first_limit r z y a xs (λ n h. (f n h).0), order_limit r z y xs (λ n h. (f n h).1))
+order_limit r z y (a ∷ xs) f =
+    (first_limit r z y a xs (λ n h. (f n h).0), order_limit r z y xs (λ n h. (f n h).1))
 
 pub weak_order : (r : Replay) (run : IsRun r) (law : IsLawful r) (k : ℕ) (z : Vector) → k ≤ r.steps
     → Place z → IsClosed r k z → WeakOrder r z (r.list k)
 weak_order r run law k z fits Z closed =
     let y = inside_some r run k fits in
-    order_limit r z y.0 (r.list k) (λ n h. law.ordered k (near n z y.0) fits (near_place n z y.0 h Z y.1) (near_inside r k n z y.0 h closed y.2))
+    order_limit r z y.0 (r.list k)
+    (λ n h. law.ordered k (near n z y.0) fits (near_place n z y.0 h Z y.1)
+    (near_inside r k n z y.0 h closed y.2))
 
 -- ---- signs along a list in weak order
 weak_next : (w : ℤ) (a b : Edge) (z : Vector) → pos 0 <ℤ rise w a → pos 0 <ℤ rise w b
@@ -101,7 +114,8 @@ module _ (r : Replay) (z : Vector) where
       → side (r.edge x) z ≤ℤ pos 0 → (e : ℕ) → Has e xs → side (r.edge e) z ≤ℤ pos 0
   weak_above x [] up h l e m = absurd m
   weak_above x (y ∷ ys) up h l e m =
-      let k = weak_next r.weight (r.edge x) (r.edge y) z (up x (inl refl)) (up y (inr (inl refl))) h.0 l in
+      let k = weak_next r.weight (r.edge x) (r.edge y) z (up x (inl refl))
+      (up y (inr (inl refl))) h.0 l in
       elim m [
         | inl q ↦ subst (λ (d : ℕ). side (r.edge d) z ≤ℤ pos 0) (sym q) k
         | inr n ↦ weak_above y ys (λ d i. up d (inr i)) h.1 k e n
@@ -110,15 +124,28 @@ module _ (r : Replay) (z : Vector) where
   -- what stands before an edge that is not over z is not over z
   pub weak_first : (xs : List ℕ) (e : ℕ) (ys : List ℕ) → AllRise (xs ++ (e ∷ ys))
       → WeakOrder r z (xs ++ (e ∷ ys)) → pos 0 ≤ℤ side (r.edge e) z
-      → First (λ d. pos 0 ≤ℤ side (r.edge d) z) (xs ++ (e ∷ ys)) × ((d : ℕ) → Has d xs → pos 0 ≤ℤ side (r.edge d) z)
+      → First (λ d. pos 0 ≤ℤ side (r.edge d) z) (xs ++ (e ∷ ys))
+      × ((d : ℕ) → Has d xs → pos 0 ≤ℤ side (r.edge d) z)
   weak_first [] e ys up h l = (l, λ d m. absurd m)
   weak_first (x ∷ []) e ys up h l =
-      let k = weak_last r.weight (r.edge x) (r.edge e) z (up x (inl refl)) (up e (inr (inl refl))) h.0 l in
-      (k, λ d m. elim m [ inl q ↦ subst (λ (c : ℕ). pos 0 ≤ℤ side (r.edge c) z) (sym q) k | inr n ↦ absurd n ])
+      let k = weak_last r.weight (r.edge x) (r.edge e) z (up x (inl refl))
+      (up e (inr (inl refl))) h.0 l in (
+        k,
+        λ d m. elim m [
+          | inl q ↦ subst (λ (c : ℕ). pos 0 ≤ℤ side (r.edge c) z) (sym q) k
+          | inr n ↦ absurd n
+        ],
+      )
   weak_first (x ∷ (y ∷ xs)) e ys up h l =
       let i = weak_first (y ∷ xs) e ys (λ d m. up d (inr m)) h.1 l in
-      let k = weak_last r.weight (r.edge x) (r.edge y) z (up x (inl refl)) (up y (inr (inl refl))) h.0 i.0 in
-      (k, λ d m. elim m [ inl q ↦ subst (λ (c : ℕ). pos 0 ≤ℤ side (r.edge c) z) (sym q) k | inr n ↦ i.1 d n ])
+      let k = weak_last r.weight (r.edge x) (r.edge y) z (up x (inl refl))
+      (up y (inr (inl refl))) h.0 i.0 in (
+        k,
+        λ d m. elim m [
+          | inl q ↦ subst (λ (c : ℕ). pos 0 ≤ℤ side (r.edge c) z) (sym q) k
+          | inr n ↦ i.1 d n
+        ],
+      )
 
   pub weak_rest : (xs : List ℕ) (e : ℕ) (ys : List ℕ) → AllRise (xs ++ (e ∷ ys))
       → WeakOrder r z (xs ++ (e ∷ ys)) → side (r.edge e) z ≤ℤ pos 0 → (d : ℕ) → Has d ys
@@ -150,7 +177,12 @@ part r z (x ∷ xs) up h = by_lt_z (pos 0) (side (r.edge x) z)
       p.1,
       record {
         is = ap (λ (ys : List ℕ). x ∷ ys) p.2.is;
-        beneath = λ e m. elim m [ inl q ↦ subst (λ (c : ℕ). pos 0 ≤ℤ side (r.edge c) z) (sym q) (omega (arith, ints, l)) | inr n ↦ p.2.beneath e n ];
+        beneath = λ e m.
+            elim m [
+              | inl q ↦ subst (λ (c : ℕ). pos 0 ≤ℤ side (r.edge c) z) (sym q)
+                  (omega (arith, ints, l))
+              | inr n ↦ p.2.beneath e n
+            ];
         over = p.2.over;
       },
     ))
@@ -160,7 +192,10 @@ part r z (x ∷ xs) up h = by_lt_z (pos 0) (side (r.edge x) z)
       record {
         is = refl;
         beneath = λ e m. absurd m;
-        over = λ e m. elim m [ inl q ↦ subst (λ (c : ℕ). side (r.edge c) z ≤ℤ pos 0) (sym q) l | inr n ↦ weak_above r z x xs up h l e n ];
+        over = λ e m. elim m [
+          | inl q ↦ subst (λ (c : ℕ). side (r.edge c) z ≤ℤ pos 0) (sym q) l
+          | inr n ↦ weak_above r z x xs up h l e n
+        ];
       },
     ))
 
@@ -168,5 +203,15 @@ part r z (x ∷ xs) up h = by_lt_z (pos 0) (side (r.edge x) z)
 pub close_some : (r : Replay) (run : IsRun r) (law : IsLawful r) (k : ℕ) (z : Vector) → k ≤ r.steps
     → Place z → IsClosed r k z → (lower : List ℕ) × (upper : List ℕ) × IsClose r k lower upper z
 close_some r run law k z fits Z closed =
-    let p = part r z (r.list k) (λ e m. run.rise e (law.live k e fits m)) (weak_order r run law k z fits Z closed) in
-    (p.0, p.1, record { fits = fits; closed = closed; is = p.2.is; beneath = p.2.beneath; over = p.2.over })
+    let p = part r z (r.list k) (λ e m. run.rise e (law.live k e fits m))
+    (weak_order r run law k z fits Z closed) in (
+      p.0,
+      p.1,
+      record {
+        fits = fits;
+        closed = closed;
+        is = p.2.is;
+        beneath = p.2.beneath;
+        over = p.2.over;
+      },
+    )

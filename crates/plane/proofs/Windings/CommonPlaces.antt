@@ -20,15 +20,21 @@ use Rattle.plane.proofs.Windings.Enters.{edge_outside, event_corner}
 
 -- ---- one place by two vectors
 pub same_from : (z v u : Vector) → Place z → Same z v → Same z u → Same v u
-same_from z v u Z a b = record { x = one z.x z.n v.x v.n u.x u.n Z a.x b.x; y = one z.y z.n v.y v.n u.y u.n Z a.y b.y }
+same_from z v u Z a b = record {
+  x = one z.x z.n v.x v.n u.x u.n Z a.x b.x;
+  y = one z.y z.n v.y v.n u.y u.n Z a.y b.y;
+}
   where
     one : (x n p m q k : ℤ) → pos 0 <ℤ n → x *ℤ m ≡ p *ℤ n → x *ℤ k ≡ q *ℤ n → p *ℤ k ≡ q *ℤ m
     one x n p m q k N h j =
         let a = ap (λ (v : ℤ). v *ℤ k) h in
         let b = ap (λ (v : ℤ). v *ℤ m) j in
-        let c = ring (times (times (at 0) (at 1)) (at 2)) (times (times (at 0) (at 2)) (at 1)) (vars (x ∷ m ∷ k ∷ [])) refl in
-        let d = ring (times (times (at 0) (at 1)) (at 2)) (times (at 1) (times (at 0) (at 2))) (vars (p ∷ n ∷ k ∷ [])) refl in
-        let e = ring (times (times (at 0) (at 1)) (at 2)) (times (at 1) (times (at 0) (at 2))) (vars (q ∷ n ∷ m ∷ [])) refl in
+        let c = ring (times (times (at 0) (at 1)) (at 2)) (times (times (at 0) (at 2)) (at 1))
+        (vars (x ∷ m ∷ k ∷ [])) refl in
+        let d = ring (times (times (at 0) (at 1)) (at 2)) (times (at 1) (times (at 0) (at 2)))
+        (vars (p ∷ n ∷ k ∷ [])) refl in
+        let e = ring (times (times (at 0) (at 1)) (at 2)) (times (at 1) (times (at 0) (at 2)))
+        (vars (q ∷ n ∷ m ∷ [])) refl in
         let f = cancel_le n (p *ℤ k) (q *ℤ m) N (omega (arith, ints, a, b, c, d, e)) in
         let g = cancel_le n (q *ℤ m) (p *ℤ k) N (omega (arith, ints, a, b, c, d, e)) in
         omega (arith, ints, f, g)
@@ -52,7 +58,8 @@ in_some_same ts z v Z h s =
     )
 
 decide_le : (a b : ℤ) → Decided (a ≤ℤ b)
-decide_le a b = by_lt_z b a (λ (l : b <ℤ a). inr (λ (h : a ≤ℤ b). omega (arith, ints, l, h))) (λ l. inl l)
+decide_le a b =
+    by_lt_z b a (λ (l : b <ℤ a). inr (λ (h : a ≤ℤ b). omega (arith, ints, l, h))) (λ l. inl l)
 
 pub decide_on : (w : ℤ) (e : Edge) (z : Vector) → Decided (On w e z)
 decide_on w e z = elim (decide_z (side e z) (pos 0)) [
@@ -74,11 +81,15 @@ abbrev pub AreApart : List Half → List Half → Type 0
 AreApart gs hs = (g h : Half) → Has g gs → Has h hs → edge_of g ≡ edge_of h → ⊥
 
 module _ (r : Replay) (whole : IsWhole r) (lab : Labels) (matched : IsMatched r lab) where
-  pub common_place : (t : ℕ) (a : Point) (b : Bay) (bs : List Bay) (hs : List Half) (u : ℕ) (c : Point) (d : Bay) (ds : List Bay) (gs : List Half)
-      → IsDrawnTube r lab t a b bs hs → IsDrawnTube r lab u c d ds gs → (t ≡ u → ⊥) → AreApart hs gs → IsClean r a b bs hs
-      → (z : Vector) → Place z → InSomeTile (tiles a (b ∷ bs)) z → InSomeTile (tiles c (d ∷ ds)) z → Same z (point a) ⊎ Same z (point (tip b bs))
+  pub common_place : (t : ℕ) (a : Point) (b : Bay) (bs : List Bay) (hs : List Half) (u : ℕ)
+      (c : Point) (d : Bay) (ds : List Bay) (gs : List Half)
+      → IsDrawnTube r lab t a b bs hs → IsDrawnTube r lab u c d ds gs → (t ≡ u → ⊥) → AreApart hs gs
+      → IsClean r a b bs hs
+      → (z : Vector) → Place z → InSomeTile (tiles a (b ∷ bs)) z → InSomeTile (tiles c (d ∷ ds)) z
+      → Same z (point a) ⊎ Same z (point (tip b bs))
   common_place t a b bs hs u c d ds gs one two differ apart clean z Z in_one in_two =
-      elim (look_below (λ j. Same z (point (r.step j).at)) r.steps (λ j. decide_same z (point (r.step j).at))) [
+      elim (look_below (λ j. Same z (point (r.step j).at)) r.steps
+      (λ j. decide_same z (point (r.step j).at))) [
         | inl s ↦ event s.0 s.1 s.2
         | inr none ↦ absurd (plain (λ j l s. none (j, l, s)))
       ]
@@ -86,13 +97,16 @@ module _ (r : Replay) (whole : IsWhole r) (lab : Labels) (matched : IsMatched r 
       event : (j : ℕ) → j < r.steps → Same z (point (r.step j).at)
           → Same z (point a) ⊎ Same z (point (tip b bs))
       event j l s =
-          let p = event_corner r whole lab matched t a b bs hs one j l (in_some_same (tiles a (b ∷ bs)) z (point (r.step j).at) Z s in_one) in
-          let q = event_corner r whole lab matched u c d ds gs two j l (in_some_same (tiles c (d ∷ ds)) z (point (r.step j).at) Z s in_two) in
+          let p = event_corner r whole lab matched t a b bs hs one j l
+          (in_some_same (tiles a (b ∷ bs)) z (point (r.step j).at) Z s in_one) in
+          let q = event_corner r whole lab matched u c d ds gs two j l
+          (in_some_same (tiles c (d ∷ ds)) z (point (r.step j).at) Z s in_two) in
           elim (clean.clean j l p) [
             | inl e ↦ inl (subst (λ (v : Point). Same z (point v)) e s)
             | inr m ↦ elim m [
               | inl e ↦ inr (subst (λ (v : Point). Same z (point v)) e s)
-              | inr f ↦ let h = f (edge_of q.0) (two.faced.fits q.0 q.1) q.2 in absurd (apart h.0 q.0 h.1 q.1 h.2)
+              | inr f ↦ let h = f (edge_of q.0) (two.faced.fits q.0 q.1) q.2 in
+                  absurd (apart h.0 q.0 h.1 q.1 h.2)
             ]
           ]
 
@@ -100,16 +114,21 @@ module _ (r : Replay) (whole : IsWhole r) (lab : Labels) (matched : IsMatched r 
           → On r.weight (r.edge f) z → ⊥
       on_edge no_event f l on =
           elim (look Half (λ h. edge_of h ≡ f) hs (λ h. decide_number (edge_of h) f)) [
-            | inl h ↦ edge_outside r whole lab matched u c d ds gs two f z l (λ g m e. apart h.0 g h.1 m (h.2 ∙ sym e)) Z no_event on in_two
-            | inr none ↦ edge_outside r whole lab matched t a b bs hs one f z l (λ h m e. none (h, m, e)) Z no_event on in_one
+            | inl h ↦ edge_outside r whole lab matched u c d ds gs two f z l
+                (λ g m e. apart h.0 g h.1 m (h.2 ∙ sym e)) Z no_event on in_two
+            | inr none ↦ edge_outside r whole lab matched t a b bs hs one f z l
+                (λ h m e. none (h, m, e)) Z no_event on in_one
           ]
 
       plain : ((j : ℕ) → j < r.steps → Same z (point (r.step j).at) → ⊥) → ⊥
       plain no_event =
-          elim (look_below (λ f. On r.weight (r.edge f) z) r.edges (λ f. decide_on r.weight (r.edge f) z)) [
+          elim (look_below (λ f. On r.weight (r.edge f) z) r.edges
+          (λ f. decide_on r.weight (r.edge f) z)) [
             | inl f ↦ on_edge no_event f.0 f.1 f.2
             | inr none ↦
-                let p = in_tube r whole.run whole.law whole.once lab matched t a b bs hs one z Z (λ e l o. none (e, l, o)) in
-                let q = in_tube r whole.run whole.law whole.once lab matched u c d ds gs two z Z (λ e l o. none (e, l, o)) in
+                let p = in_tube r whole.run whole.law whole.once lab matched t a b bs hs one z Z
+                (λ e l o. none (e, l, o)) in
+                let q = in_tube r whole.run whole.law whole.once lab matched u c d ds gs two z Z
+                (λ e l o. none (e, l, o)) in
                 differ (sym (p.0 in_one) ∙ q.0 in_two)
           ]

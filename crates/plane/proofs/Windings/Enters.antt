@@ -32,9 +32,11 @@ pub high_same : (w : ℤ) (e : Edge) (z : Vector) → pos 0 <ℤ rise w e → Pl
 high_same w e z up Z line level =
     let q = side-high e in
     by_sign (lift z (point e.high))
-    (λ (l : lift z (point e.high) <ℤ pos 0). let x = lower_side w e z e.high level Z up l (omega (arith, ints, q)) in absurd (omega (arith, ints, x, line)))
+    (λ (l : lift z (point e.high) <ℤ pos 0). let x = lower_side w e z e.high level Z up l
+    (omega (arith, ints, q)) in absurd (omega (arith, ints, x, line)))
     (λ l. same_place w z e.high level l)
-    (λ (l : pos 0 <ℤ lift z (point e.high)). let x = higher_side w e z e.high level Z up l (omega (arith, ints, q)) in absurd (omega (arith, ints, x, line)))
+    (λ (l : pos 0 <ℤ lift z (point e.high)). let x = higher_side w e z e.high level Z up l
+    (omega (arith, ints, q)) in absurd (omega (arith, ints, x, line)))
 
 -- ---- equal points and equal places are decided
 abbrev pub Decided : Type 0 → Type 0
@@ -42,7 +44,8 @@ Decided P = P ⊎ (P → ⊥)
 
 pub decide_z : (a b : ℤ) → Decided (a ≡ b)
 decide_z a b = by_lt_z a b (λ (l : a <ℤ b). inr (λ e. omega (arith, ints, l, e)))
-    (λ (l : b ≤ℤ a). by_lt_z b a (λ (k : b <ℤ a). inr (λ e. omega (arith, ints, k, e))) (λ (k : a ≤ℤ b). inl (omega (arith, ints, l, k))))
+    (λ (l : b ≤ℤ a). by_lt_z b a (λ (k : b <ℤ a). inr (λ e. omega (arith, ints, k, e)))
+    (λ (k : a ≤ℤ b). inl (omega (arith, ints, l, k))))
 
 pub decide_point : (p q : Point) → Decided (p ≡ q)
 decide_point p q = elim (decide_z p.x q.x) [
@@ -90,7 +93,9 @@ look_fitting P (suc n) d = elim (d n (omega arith)) [
   | inl p ↦ inl (n, omega arith, p)
   | inr m ↦ elim (look_fitting P n (λ k l. d k (omega arith))) [
     | inl h ↦ let l = h.1 in inl (h.0, omega (arith, l), h.2)
-    | inr o ↦ inr (λ h. by_last h.0 n h.1 (λ (l : h.0 < n). o (h.0, l, h.2)) (λ (e : h.0 ≡ n). m (subst P e h.2)))
+    | inr o ↦ inr
+        (λ h. by_last h.0 n h.1 (λ (l : h.0 < n). o (h.0, l, h.2))
+        (λ (e : h.0 ≡ n). m (subst P e h.2)))
   ]
 ]
 
@@ -111,7 +116,8 @@ module _ (r : Replay) (whole : IsWhole r) (lab : Labels) (matched : IsMatched r 
       let high = on.high in
       spans_live r whole.run whole.law whole.once (strip r z) f z (strip_is r whole.run z Z) l
       (lead_not_after r.weight (r.edge f).low z on.low)
-      (lead_after r.weight (r.edge f).high z (by_lt_z (sweep r.weight z) (sweep r.weight (point (r.edge f).high) *ℤ z.n) (λ h. h)
+      (lead_after r.weight (r.edge f).high z
+      (by_lt_z (sweep r.weight z) (sweep r.weight (point (r.edge f).high) *ℤ z.n) (λ h. h)
       (λ (h : (sweep r.weight (point (r.edge f).high) *ℤ z.n) ≤ℤ sweep r.weight z).
       let j = whole.run.ends f l in
       let s = high_same r.weight (r.edge f) z up Z on.line (omega (arith, ints, h, high)) in
@@ -124,14 +130,16 @@ module _ (r : Replay) (whole : IsWhole r) (lab : Labels) (matched : IsMatched r 
     from = λ (j : ℕ) (h : j < suc k). by_last j k h
         (λ (i : j < k). let x = whole.run.rising j k i l in omega (arith, ints, x))
         (λ (i : j ≡ k). let x = ap (reach r) i in omega (arith, ints, x));
-    to = λ (j : ℕ) (h : suc k ≤ j) (i : j < r.steps). let x = whole.run.rising k j (omega arith) i in omega (arith, ints, x);
+    to = λ (j : ℕ) (h : suc k ≤ j) (i : j < r.steps). let x =
+        whole.run.rising k j (omega arith) i in omega (arith, ints, x);
   }
 
   -- steps in the order of their sweep values
   pub reach_order : (i j : ℕ) → i < r.steps → j < r.steps → reach r i <ℤ reach r j → i < j
   reach_order i j a b h = by_order i j (λ l. l) (λ (l : j ≤ i). absurd (by_order j i
       (λ (q : j < i). let x = whole.run.rising j i q a in omega (arith, ints, x, h))
-      (λ (q : i ≤ j). let e : i ≡ j = omega arith in let x = ap (reach r) e in omega (arith, ints, x, h))))
+      (λ (q : i ≤ j). let e : i ≡ j = omega arith in let x = ap (reach r) e in
+      omega (arith, ints, x, h))))
 
   pub start_live : (k e : ℕ) → k < r.steps → e < r.edges → (r.edge e).low ≡ (r.step k).at
       → Has e (r.list (suc k))
@@ -141,7 +149,9 @@ module _ (r : Replay) (whole : IsWhole r) (lab : Labels) (matched : IsMatched r 
       let f = rise-is r.weight (r.edge e) in
       let x = ap (λ (p : Point). sweep r.weight (point p)) q in
       let y = ap (λ (p : Point). sweep r.weight (point p)) j.2 in
-      whole.law.alive (suc k) e k j.0 m (omega arith) (sym q) (let o = reach_order k j.0 l j.1 (omega (arith, ints, up, f, x, y)) in omega (arith, o)) j.1 j.2
+      whole.law.alive (suc k) e k j.0 m (omega arith) (sym q)
+      (let o = reach_order k j.0 l j.1 (omega (arith, ints, up, f, x, y)) in
+      omega (arith, o)) j.1 j.2
 
   pub end_live : (k e : ℕ) → k < r.steps → e < r.edges → (r.edge e).high ≡ (r.step k).at
       → Has e (r.list k)
@@ -151,29 +161,45 @@ module _ (r : Replay) (whole : IsWhole r) (lab : Labels) (matched : IsMatched r 
       let f = rise-is r.weight (r.edge e) in
       let x = ap (λ (p : Point). sweep r.weight (point p)) q in
       let y = ap (λ (p : Point). sweep r.weight (point p)) j.2 in
-      whole.law.alive k e j.0 k m (reach_order j.0 k j.1 l (omega (arith, ints, up, f, x, y))) j.2 (omega arith) l (sym q)
+      whole.law.alive k e j.0 k m (reach_order j.0 k j.1 l (omega (arith, ints, up, f, x, y))) j.2
+      (omega arith) l (sym q)
 
   pub starts : (k e : ℕ) → k < r.steps → e < r.edges → (r.edge e).low ≡ (r.step k).at
       → Has e (r.step k).starting
   starts k e l m q =
       let s = r.step k in
-      let z : side (r.edge e) (point s.at) ≡ pos 0 = subst (λ (p : Point). side (r.edge e) (point p) ≡ pos 0) q (side-low (r.edge e)) in
-      elim (has_three e s.below s.starting s.above (subst (λ (es : List ℕ). Has e es) (whole.run.after k l) (start_live k e l m q))) [
+      let z : side (r.edge e) (point s.at)
+      ≡ pos 0 = subst (λ (p : Point). side (r.edge e) (point p) ≡ pos 0) q
+      (side-low (r.edge e)) in
+      elim (has_three e s.below s.starting s.above
+      (subst (λ (es : List ℕ). Has e es) (whole.run.after k l) (start_live k e l m q))) [
         | inl h ↦ let x = whole.law.under k l e h in absurd (omega (arith, ints, x, z))
-        | inr h ↦ elim h [ inl i ↦ i | inr i ↦ let x = whole.law.over k l e i in absurd (omega (arith, ints, x, z)) ]
+        | inr h ↦ elim h [
+          | inl i ↦ i
+          | inr i ↦ let x = whole.law.over k l e i in
+              absurd (omega (arith, ints, x, z))
+        ]
       ]
 
   pub finishes : (k e : ℕ) → k < r.steps → e < r.edges → (r.edge e).high ≡ (r.step k).at
       → Has e (r.step k).ending
   finishes k e l m q =
       let s = r.step k in
-      let z : side (r.edge e) (point s.at) ≡ pos 0 = subst (λ (p : Point). side (r.edge e) (point p) ≡ pos 0) q (side-high (r.edge e)) in
-      elim (has_three e s.below s.ending s.above (subst (λ (es : List ℕ). Has e es) (whole.run.before k l) (end_live k e l m q))) [
+      let z : side (r.edge e) (point s.at)
+      ≡ pos 0 = subst (λ (p : Point). side (r.edge e) (point p) ≡ pos 0) q
+      (side-high (r.edge e)) in
+      elim (has_three e s.below s.ending s.above
+      (subst (λ (es : List ℕ). Has e es) (whole.run.before k l) (end_live k e l m q))) [
         | inl h ↦ let x = whole.law.under k l e h in absurd (omega (arith, ints, x, z))
-        | inr h ↦ elim h [ inl i ↦ i | inr i ↦ let x = whole.law.over k l e i in absurd (omega (arith, ints, x, z)) ]
+        | inr h ↦ elim h [
+          | inl i ↦ i
+          | inr i ↦ let x = whole.law.over k l e i in
+              absurd (omega (arith, ints, x, z))
+        ]
       ]
 
-  module _ (t : ℕ) (a : Point) (b : Bay) (bs : List Bay) (hs : List Half) (tube : IsDrawnTube r lab t a b bs hs) where
+  module _ (t : ℕ) (a : Point) (b : Bay) (bs : List Bay) (hs : List Half)
+      (tube : IsDrawnTube r lab t a b bs hs) where
     -- a place of an edge that is none of the tube's, other than an event, is not in the tube
     pub edge_outside : (f : ℕ) (z : Vector) → f < r.edges
         → ((h : Half) → Has h hs → edge_of h ≡ f → ⊥) → Place z → IsPlain z
@@ -185,16 +211,21 @@ module _ (r : Replay) (whole : IsWhole r) (lab : Labels) (matched : IsMatched r 
         let live = live_on f z l Z plain on in
         let c = cut_edge r.edge z f (r.list k) order live on.line in
         let clear = clear_of r whole.run whole.law whole.once lab matched t a b bs hs tube z Z
-        (λ h m o. other h m (one_through r.edge z (edge_of h) f (r.list k) order (live_on (edge_of h) z (tube.faced.fits h m) Z plain o) live o.line on.line)) in
-        let q = cut_label r whole.run whole.law whole.once lab matched t a b bs hs tube k z Z s c.lower (f ∷ c.upper) c.is c.beneath (rest c.upper on.line c.over) clear inside in
-        let all = subst (λ (es : List ℕ). Match lab 0 es 0) c.is (labelled r whole.run whole.law lab matched k s.fits) in
+        (λ h m o. other h m
+        (one_through r.edge z (edge_of h) f (r.list k) order
+        (live_on (edge_of h) z (tube.faced.fits h m) Z plain o) live o.line on.line)) in
+        let q = cut_label r whole.run whole.law whole.once lab matched t a b bs hs tube k z Z s
+        c.lower (f ∷ c.upper) c.is c.beneath (rest c.upper on.line c.over) clear inside in
+        let all = subst (λ (es : List ℕ). Match lab 0 es 0) c.is
+        (labelled r whole.run whole.law lab matched k s.fits) in
         let up = match_back lab 0 0 c.lower (f ∷ c.upper) all in
         other (under f) (tube.faced.only (under f) l (sym up.0 ∙ q)) refl
       where
         rest : (upper : List ℕ) → side (r.edge f) z ≡ pos 0
             → ((e : ℕ) → Has e upper → side (r.edge e) z <ℤ pos 0) → (e : ℕ) → Has e (f ∷ upper)
             → side (r.edge e) z ≤ℤ pos 0
-        rest upper q g e (inl x) = subst (λ (d : ℕ). side (r.edge d) z ≤ℤ pos 0) (sym x) (omega (arith, ints, q))
+        rest upper q g e (inl x) =
+            subst (λ (d : ℕ). side (r.edge d) z ≤ℤ pos 0) (sym x) (omega (arith, ints, q))
         rest upper q g e (inr m) = let y = g e m in omega (arith, ints, y)
 
     -- the edge over the block faces the tube, if the label under the block is the tube's
@@ -203,9 +234,12 @@ module _ (r : Replay) (whole : IsWhole r) (lab : Labels) (matched : IsMatched r 
         → (x : ℕ) × Has x block × Has (under x) hs
     facing_first k xs [] above e fits cut q m = absurd m
     facing_first k xs (x ∷ block) above e fits cut q m =
-        let all = subst (λ (es : List ℕ). Match lab 0 es 0) cut (labelled r whole.run whole.law lab matched k fits) in
+        let all = subst (λ (es : List ℕ). Match lab 0 es 0) cut
+        (labelled r whole.run whole.law lab matched k fits) in
         let up = match_back lab 0 0 xs ((x ∷ block) ++ above) all in
-        let l = whole.law.live k x fits (subst (λ (es : List ℕ). Has x es) (sym cut) (has_back x xs ((x ∷ block) ++ above) (inl refl))) in
+        let l = whole.law.live k x fits
+        (subst (λ (es : List ℕ). Has x es) (sym cut)
+        (has_back x xs ((x ∷ block) ++ above) (inl refl))) in
         (x, inl refl, tube.faced.only (under x) l (sym up.0 ∙ q))
 
     -- an event in the tube is a corner of it
@@ -213,7 +247,9 @@ module _ (r : Replay) (whole : IsWhole r) (lab : Labels) (matched : IsMatched r 
         → IsTubeCorner r hs (r.step k).at
     event_corner k l inside =
         let v = (r.step k).at in
-        elim (look Half (λ h. IsEnd (r.edge (edge_of h)) v) hs (λ h. decide_either _ _ (decide_point (r.edge (edge_of h)).low v) (decide_point (r.edge (edge_of h)).high v))) [
+        elim (look Half (λ h. IsEnd (r.edge (edge_of h)) v) hs
+        (λ h. decide_either _ _ (decide_point (r.edge (edge_of h)).low v)
+        (decide_point (r.edge (edge_of h)).high v))) [
           | inl h ↦ h
           | inr none ↦ absurd (not_inside none)
         ]
@@ -233,15 +269,20 @@ module _ (r : Replay) (whole : IsWhole r) (lab : Labels) (matched : IsMatched r 
             let Z : Place z = omega (arith, ints) in
             let clear = clear_of r whole.run whole.law whole.once lab matched t a b bs hs tube z Z
             (λ h m o. none (h, m, whole.event_end k l (edge_of h) (tube.faced.fits h m) o)) in
-            let rest = sides_rest s.starting (λ e m. subst (λ (p : Point). side (r.edge e) (point p) ≡ pos 0) (whole.run.starting k l e m) (side-low (r.edge e))) in
-            let q = cut_label r whole.run whole.law whole.once lab matched t a b bs hs tube (suc k) z Z (event_strip k l) s.below (s.starting ++ s.above) (whole.run.after k l)
+            let rest = sides_rest s.starting
+            (λ e m. subst (λ (p : Point). side (r.edge e) (point p) ≡ pos 0)
+            (whole.run.starting k l e m) (side-low (r.edge e))) in
+            let q = cut_label r whole.run whole.law whole.once lab matched t a b bs hs tube
+            (suc k) z Z (event_strip k l) s.below (s.starting ++ s.above) (whole.run.after k l)
             (λ e m. whole.law.under k l e m) rest clear inside in
             let m = whole.run.met k l in
             elim m.2 [
               | inl low ↦
-                  let f = facing_first (suc k) s.below s.starting s.above m.0 (omega arith) (whole.run.after k l) q (starts k m.0 l m.1 low) in
+                  let f = facing_first (suc k) s.below s.starting s.above m.0 (omega arith)
+                  (whole.run.after k l) q (starts k m.0 l m.1 low) in
                   none (under f.0, f.2, inl (whole.run.starting k l f.0 f.1))
               | inr high ↦
-                  let f = facing_first k s.below s.ending s.above m.0 (omega arith) (whole.run.before k l) q (finishes k m.0 l m.1 high) in
+                  let f = facing_first k s.below s.ending s.above m.0 (omega arith)
+                  (whole.run.before k l) q (finishes k m.0 l m.1 high) in
                   none (under f.0, f.2, inr (whole.run.ending k l f.0 f.1))
             ]

@@ -1,4 +1,5 @@
--- The turning of a tube's bounds round a place is given by the label over the edges that lie under the place.
+-- The turning of a tube's bounds round a place is given by the label over the edges that lie under
+-- the place.
 use Rattle.std.proofs.Common.{◌≡◌, ℕ, zero, suc, ◌<◌, List, [], ◌∷◌, map, ℤ, pos, negsuc, ◌*ℤ◌}
 use Rattle.std.proofs.Common.{◌-ℤ◌, ◌⊎◌, inl, inr, refl, arith, ap, sym, ◌∙◌, subst}
 use Rattle.std.proofs.lemmas.Int.{ints}
@@ -53,12 +54,16 @@ one_side : (g h : Half) (hs : List Half) → Once (map edge_of hs) → Has g hs 
     → edge_of g ≡ edge_of h → g ≡ h
 one_side g h [] once a b e = absurd a
 one_side g h (x ∷ hs) once (inl a) (inl b) e = a ∙ sym b
-one_side g h (x ∷ hs) once (inl a) (inr b) e = absurd (once.0 (subst (λ (d : ℕ). Has d (map edge_of hs)) (sym e ∙ ap edge_of a) (edge_in h hs b)))
-one_side g h (x ∷ hs) once (inr a) (inl b) e = absurd (once.0 (subst (λ (d : ℕ). Has d (map edge_of hs)) (e ∙ ap edge_of b) (edge_in g hs a)))
+one_side g h (x ∷ hs) once (inl a) (inr b) e =
+    absurd (once.0
+    (subst (λ (d : ℕ). Has d (map edge_of hs)) (sym e ∙ ap edge_of a) (edge_in h hs b)))
+one_side g h (x ∷ hs) once (inr a) (inl b) e =
+    absurd (once.0 (subst (λ (d : ℕ). Has d (map edge_of hs)) (e ∙ ap edge_of b) (edge_in g hs a)))
 one_side g h (x ∷ hs) once (inr a) (inr b) e = one_side g h hs once.1 a b e
 
 under_not_over : (e : ℕ) → under e ≡ over e → ⊥
-under_not_over e h = subst (λ (x : Half). elim x as (λ _. Type 0) [ under n ↦ Unit {0} | over n ↦ ⊥ ]) h tt
+under_not_over e h =
+    subst (λ (x : Half). elim x as (λ _. Type 0) [ under n ↦ Unit {0} | over n ↦ ⊥ ]) h tt
 
 edge_has : (e : ℕ) (hs : List Half) → Has e (map edge_of hs) → Has (under e) hs ⊎ Has (over e) hs
 edge_has e [] m = absurd m
@@ -66,7 +71,8 @@ edge_has e (under d ∷ hs) (inl x) = inl (inl (ap under x))
 edge_has e (over d ∷ hs) (inl x) = inr (inl (ap over x))
 edge_has e (h ∷ hs) (inr m) = elim (edge_has e hs m) [ inl k ↦ inl (inr k) | inr k ↦ inr (inr k) ]
 
-module _ (w : ℤ) (m : ℕ) (E : ℕ → Edge) (z : Vector) (lab : Labels) (t : ℕ) (hs : List Half) (faced : IsFaced m lab t hs) where
+module _ (w : ℤ) (m : ℕ) (E : ℕ → Edge) (z : Vector) (lab : Labels) (t : ℕ) (hs : List Half)
+    (faced : IsFaced m lab t hs) where
   -- what an edge of a facing half-edge adds
   abbrev part : ℕ → ℤ
   part e = change lab t e *ℤ turning w z (E e)
@@ -74,12 +80,18 @@ module _ (w : ℤ) (m : ℕ) (E : ℕ → Edge) (z : Vector) (lab : Labels) (t :
   way_part : (h : Half) → Has h hs → turning w z (way E h) ≡ part (edge_of h)
   way_part (over e) k =
       let a = mark_same t (lab.above e) (faced.faces (over e) k) in
-      let b = mark_other t (lab.below e) (λ q. under_not_over e (one_side (under e) (over e) hs faced.once (faced.only (under e) (faced.fits (over e) k) q) k refl)) in
+      let b = mark_other t (lab.below e)
+      (λ q. under_not_over e
+      (one_side (under e) (over e) hs faced.once
+      (faced.only (under e) (faced.fits (over e) k) q) k refl)) in
       let c : change lab t e ≡ pos 1 = omega (arith, ints, a, b) in
       sym (ap (λ (n : ℤ). n *ℤ turning w z (E e)) c ∙ omega (arith, ints))
   way_part (under e) k =
       let a = mark_same t (lab.below e) (faced.faces (under e) k) in
-      let b = mark_other t (lab.above e) (λ q. under_not_over e (one_side (under e) (over e) hs faced.once k (faced.only (over e) (faced.fits (under e) k) q) refl)) in
+      let b = mark_other t (lab.above e)
+      (λ q. under_not_over e
+      (one_side (under e) (over e) hs faced.once k
+      (faced.only (over e) (faced.fits (under e) k) q) refl)) in
       let c : change lab t e ≡ negsuc 0 = omega (arith, ints, a, b) in
       turning_back w z (E e) ∙ sym (ap (λ (n : ℤ). n *ℤ turning w z (E e)) c ∙ omega (arith, ints))
 
@@ -93,24 +105,31 @@ module _ (w : ℤ) (m : ℕ) (E : ℕ → Edge) (z : Vector) (lab : Labels) (t :
 
   no_part : (e : ℕ) → e < m → (Has e (map edge_of hs) → ⊥) → part e ≡ pos 0
   no_part e l none =
-      let a = mark_other t (lab.above e) (λ q. none (edge_in (over e) hs (faced.only (over e) l q))) in
-      let b = mark_other t (lab.below e) (λ q. none (edge_in (under e) hs (faced.only (under e) l q))) in
+      let a = mark_other t (lab.above e)
+      (λ q. none (edge_in (over e) hs (faced.only (over e) l q))) in
+      let b = mark_other t (lab.below e)
+      (λ q. none (edge_in (under e) hs (faced.only (under e) l q))) in
       let c : change lab t e ≡ pos 0 = omega (arith, ints, a, b) in
       ap (λ (n : ℤ). n *ℤ turning w z (E e)) c ∙ zero-product (turning w z (E e))
 
   edges_fit : (e : ℕ) → Has e (map edge_of hs) → e < m
-  edges_fit e k = elim (edge_has e hs k) [ inl h ↦ faced.fits (under e) h | inr h ↦ faced.fits (over e) h ]
+  edges_fit e k =
+      elim (edge_has e hs k) [ inl h ↦ faced.fits (under e) h | inr h ↦ faced.fits (over e) h ]
 
   -- the edges of the list pass under z once, all others do not
   pub faced_turning : (lower : List ℕ) → Once lower
       → ((e : ℕ) → Has e lower → (e < m) × (turning w z (E e) ≡ pos 1))
       → ((e : ℕ) → e < m → (Has e lower → ⊥) → turning w z (E e) ≡ pos 0)
-      → Match lab 0 lower (last_label lab 0 lower) → total (turning w z) (map (way E) hs) ≡ one_at t (last_label lab 0 lower)
+      → Match lab 0 lower (last_label lab 0 lower)
+      → total (turning w z) (map (way E) hs) ≡ one_at t (last_label lab 0 lower)
   faced_turning lower once passed not_passed carries =
       let a = ways_total hs (λ h k. k) in
       let b = total_once m part (map edge_of hs) faced.once edges_fit no_part in
-      let c = total_once m part lower once (λ e k. (passed e k).0) (λ e l k. ap (λ (n : ℤ). change lab t e *ℤ n) (not_passed e l k) ∙ product_comm (change lab t e) (pos 0) ∙ zero-product (change lab t e)) in
-      let d = total_same part (change lab t) lower (λ e k. ap (λ (n : ℤ). change lab t e *ℤ n) (passed e k).1 ∙ omega (arith, ints)) in
+      let c = total_once m part lower once (λ e k. (passed e k).0)
+      (λ e l k. ap (λ (n : ℤ). change lab t e *ℤ n) (not_passed e l k)
+      ∙ product_comm (change lab t e) (pos 0) ∙ zero-product (change lab t e)) in
+      let d = total_same part (change lab t) lower
+      (λ e k. ap (λ (n : ℤ). change lab t e *ℤ n) (passed e k).1 ∙ omega (arith, ints)) in
       let f = carries_change lab t 0 (last_label lab 0 lower) lower carries in
       let g = mark_other t 0 (λ q. faced.some_label (sym q)) in
       omega (arith, ints, a, b, c, d, f, g)

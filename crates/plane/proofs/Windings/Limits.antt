@@ -1,4 +1,5 @@
--- Tubes are closed: a place in the closure of a cell with a tube's label is in the tube. And the label of a cell, from any closed strip.
+-- Tubes are closed: a place in the closure of a cell with a tube's label is in the tube. And the
+-- label of a cell, from any closed strip.
 use Rattle.std.proofs.Common.{◌≡◌, ℕ, suc, ◌<◌, ◌≤◌, List, [], ◌∷◌, ◌++◌, length, ℤ, pos, ◌+ℤ◌}
 use Rattle.std.proofs.Common.{◌*ℤ◌, ◌-ℤ◌, ◌<ℤ◌, ◌≤ℤ◌, ◌⊎◌, inl, inr, refl, arith, ap, sym, ◌∙◌}
 use Rattle.std.proofs.Common.{subst}
@@ -49,7 +50,8 @@ far_side z y e h = by_lt_z (pos 0) (side e y)
       omega (arith, ints, l),
       λ (n : ℤ) k w.
           let s = near_side n z y e in
-          let p = times_le n (side e z) (pos 0 -ℤ pos 1) (omega (arith, ints, l, k)) (omega (arith, ints, h)) in
+          let p = times_le n (side e z) (pos 0 -ℤ pos 1) (omega (arith, ints, l, k))
+          (omega (arith, ints, h)) in
           let q : n *ℤ (pos 0 -ℤ pos 1) ≡ pos 0 -ℤ n = minus_one n in
           omega (arith, ints, s, p, q, k, w),
     ))
@@ -58,7 +60,8 @@ far_side z y e h = by_lt_z (pos 0) (side e y)
       omega (arith, ints),
       λ (n : ℤ) k w.
           let s = near_side n z y e in
-          let p = times_le n (side e z) (pos 0 -ℤ pos 1) (omega (arith, ints, k)) (omega (arith, ints, h)) in
+          let p = times_le n (side e z) (pos 0 -ℤ pos 1) (omega (arith, ints, k))
+          (omega (arith, ints, h)) in
           let q : n *ℤ (pos 0 -ℤ pos 1) ≡ pos 0 -ℤ n = minus_one n in
           omega (arith, ints, s, p, q, k, w, l),
     ))
@@ -83,7 +86,8 @@ far_one t z y (inr (inr h)) = let f = far_side z y _ h in (f.0, f.1, λ n k w. f
 -- z is within one of the triangles, or they are far from it
 within_or_far : (z y : Vector) (ts : List Tile)
     → ((t : Tile) × Has t ts × IsWithin t z) ⊎ IsFar z y ts
-within_or_far z y [] = inr (record { from = pos 0; least = omega (arith, ints); far = λ n k t m w. m })
+within_or_far z y [] =
+    inr (record { from = pos 0; least = omega (arith, ints); far = λ n k t m w. m })
 within_or_far z y (t ∷ ts) = elim (within_or_far z y ts) [
   | inl h ↦ inl (h.0, inr h.1, h.2)
   | inr f ↦ elim (decide_within t z) [
@@ -96,7 +100,8 @@ within_or_far z y (t ∷ ts) = elim (within_or_far z y ts) [
           from = f.from +ℤ g.0;
           least = omega (arith, ints, a, b);
           far = λ n k u m w. elim m [
-            | inl q ↦ g.2 n (omega (arith, ints, a, k)) (subst (λ (x : Tile). IsWithin x (near n z y)) q w)
+            | inl q ↦ g.2 n (omega (arith, ints, a, k))
+                (subst (λ (x : Tile). IsWithin x (near n z y)) q w)
             | inr i ↦ f.far n (omega (arith, ints, b, k)) u i w
           ];
         })
@@ -109,7 +114,9 @@ tiles_closed w z y ts Z Y tiled h = elim (within_or_far z y ts) [
   | inl k ↦ (k.0, k.1, within_triangle k.0 z Z (left k.0 k.1) k.2)
   | inr f ↦
       let i = h f.from f.least in
-      absurd (f.far f.from (omega (arith, ints)) i.0 i.1 (triangle_within i.0 (near f.from z y) (near_place f.from z y f.least Z Y) (left i.0 i.1) i.2))
+      absurd (f.far f.from (omega (arith, ints)) i.0 i.1
+      (triangle_within i.0 (near f.from z y) (near_place f.from z y f.least Z Y)
+      (left i.0 i.1) i.2))
 ]
   where
     left : (t : Tile) → Has t ts → IsLeftTile t
@@ -129,7 +136,8 @@ decide_in_some w z (t ∷ ts) Z h = elim (decide_in_some w z ts Z h.1) [
   | inr n ↦ elim (decide_within t z) [
     | inl k ↦ inl (t, inl refl, within_triangle t z Z h.0.0 k)
     | inr k ↦ inr (λ s. elim s.1 [
-      | inl q ↦ not_within t z k (triangle_within t z Z h.0.0 (subst (λ (x : Tile). InTile x z) q s.2))
+      | inl q ↦ not_within t z k
+          (triangle_within t z Z h.0.0 (subst (λ (x : Tile). InTile x z) q s.2))
       | inr m ↦ n (s.0, m, s.2)
     ])
   ]
@@ -155,48 +163,77 @@ length_fits (x ∷ xs) ys = let k = length_fits xs ys in omega (arith, k)
 
 inside_strip : (r : Replay) (k : ℕ) (z : Vector) → k ≤ r.steps → IsBetweenEvents r k z
     → IsStrip r k z
-inside_strip r k z h i = record { fits = h; from = λ (j : ℕ) (a : j < k). let x = i.from j a in omega (arith, ints, x); to = i.to }
+inside_strip r k z h i = record {
+  fits = h;
+  from = λ (j : ℕ) (a : j < k). let x = i.from j a in omega (arith, ints, x);
+  to = i.to;
+}
 
 module _ (r : Replay) (whole : IsWhole r) (lab : Labels) (matched : IsMatched r lab) where
   -- a place in the closure of a cell with the tube's label is in the tube
   pub close_in_tube : (t : ℕ) (a : Point) (b : Bay) (bs : List Bay) (hs : List Half)
       → IsDrawnTube r lab t a b bs hs
-      → (k : ℕ) (lower upper : List ℕ) (z : Vector) → Place z → IsClose r k lower upper z → last_label lab 0 lower ≡ t → InSomeTile (tiles a (b ∷ bs)) z
+      → (k : ℕ) (lower upper : List ℕ) (z : Vector) → Place z → IsClose r k lower upper z
+      → last_label lab 0 lower ≡ t → InSomeTile (tiles a (b ∷ bs)) z
   close_in_tube t a b bs hs tube k lower upper z Z close label =
       let c = centre r whole.run whole.law (record { strip = k; index = length lower })
-      (record { strip = close.fits; index = subst (λ (es : List ℕ). length lower ≤ length es) (sym close.is) (length_fits lower upper) }) in
+      (record {
+        strip = close.fits;
+        index = subst (λ (es : List ℕ). length lower ≤ length es) (sym close.is)
+            (length_fits lower upper);
+      }) in
       let y = c.0 in
       let parts = subst (λ (es : List ℕ). Parts (sides r y) (length lower) es) close.is c.1.parts in
       tiles_closed r.weight z y (tiles a (b ∷ bs)) Z c.1.place tube.tiled
-      (λ n h. cut_holds r whole.run whole.law whole.once lab matched t a b bs hs tube k (near n z y) (near_place n z y h Z c.1.place)
-      (inside_strip r k (near n z y) close.fits (near_inside r k n z y h close.closed c.1.inside)) lower upper close.is
-      (λ e m. strictly n (side (r.edge e) z) (side (r.edge e) y) (side (r.edge e) (near n z y)) h (close.beneath e m) (parts_lower (sides r y) lower upper parts e m) (near_side n z y (r.edge e)))
-      (λ e m. not_over n (side (r.edge e) z) (side (r.edge e) y) (side (r.edge e) (near n z y)) h (close.over e m) (parts_upper (sides r y) lower upper parts e m) (near_side n z y (r.edge e)))
+      (λ n h. cut_holds r whole.run whole.law whole.once lab matched t a b bs hs tube k (near n z y)
+      (near_place n z y h Z c.1.place)
+      (inside_strip r k (near n z y) close.fits (near_inside r k n z y h close.closed c.1.inside))
+      lower upper close.is
+      (λ e m. strictly n (side (r.edge e) z) (side (r.edge e) y) (side (r.edge e) (near n z y)) h
+      (close.beneath e m) (parts_lower (sides r y) lower upper parts e m)
+      (near_side n z y (r.edge e)))
+      (λ e m. not_over n (side (r.edge e) z) (side (r.edge e) y) (side (r.edge e) (near n z y)) h
+      (close.over e m) (parts_upper (sides r y) lower upper parts e m)
+      (near_side n z y (r.edge e)))
       label)
     where
       strictly : (n x y v : ℤ) → pos 0 ≤ℤ n → pos 0 ≤ℤ x → pos 0 <ℤ y → v ≡ (n *ℤ x) +ℤ y
           → pos 0 <ℤ v
-      strictly n x y v h a b e = let p = times_le n (pos 0) x h a in let q : n *ℤ pos 0 ≡ pos 0 = omega (arith, ints) in omega (arith, ints, p, q, b, e)
+      strictly n x y v h a b e =
+          let p = times_le n (pos 0) x h a in
+          let q : n *ℤ pos 0 ≡ pos 0 = omega (arith, ints) in omega (arith, ints, p, q, b, e)
 
       not_over : (n x y v : ℤ) → pos 0 ≤ℤ n → x ≤ℤ pos 0 → y <ℤ pos 0 → v ≡ (n *ℤ x) +ℤ y
           → v ≤ℤ pos 0
-      not_over n x y v h a b e = let p = times_le n x (pos 0) h a in let q : n *ℤ pos 0 ≡ pos 0 = omega (arith, ints) in omega (arith, ints, p, q, b, e)
+      not_over n x y v h a b e =
+          let p = times_le n x (pos 0) h a in
+          let q : n *ℤ pos 0 ≡ pos 0 = omega (arith, ints) in omega (arith, ints, p, q, b, e)
 
   -- the cell of a place off the edges has the label of each closure that the place is in
   pub close_label : (k : ℕ) (lower upper : List ℕ) (z : Vector) → Place z → IsOffEdges r z
       → IsClose r k lower upper z → label_of lab r (sector r z) ≡ last_label lab 0 lower
   close_label k lower upper z Z off close =
       here ∙ floor_is r lab z k lower upper close.is
-      (λ e m. let b = close.beneath e m in let n = not_on e (subst (λ (es : List ℕ). Has e es) (sym close.is) (has_front e lower upper m)) in by_lt_z (pos 0) (side (r.edge e) z) (λ l. l) (λ (l : side (r.edge e) z ≤ℤ pos 0). absurd (n (omega (arith, ints, l, b)))))
+      (λ e m. let b = close.beneath e m in
+      let n = not_on e
+      (subst (λ (es : List ℕ). Has e es) (sym close.is) (has_front e lower upper m)) in
+      by_lt_z (pos 0) (side (r.edge e) z) (λ l. l)
+      (λ (l : side (r.edge e) z ≤ℤ pos 0). absurd (n (omega (arith, ints, l, b)))))
       close.over
     where
       not_on : (e : ℕ) → Has e (r.list k) → side (r.edge e) z ≡ pos 0 → ⊥
       not_on e m zero_side =
           let s = spans_strip r whole.run whole.law k e z close.fits m close.closed in
-          off e (whole.law.live k e close.fits m) (record { line = zero_side; low = s.low; high = s.high })
+          off e (whole.law.live k e close.fits m) (record {
+            line = zero_side;
+            low = s.low;
+            high = s.high;
+          })
 
       same_strip : IsStrip r k z → label_of lab r (sector r z) ≡ label_of lab r (sector_at r z k)
-      same_strip s = ap (λ (j : ℕ). label_of lab r (sector_at r z j)) (strip_only r whole.run (strip r z) k z (strip_is r whole.run z Z) s)
+      same_strip s =
+          ap (λ (j : ℕ). label_of lab r (sector_at r z j))
+          (strip_only r whole.run (strip r z) k z (strip_is r whole.run z Z) s)
 
       here : label_of lab r (sector r z) ≡ label_of lab r (sector_at r z k)
       here = by_order k r.steps
@@ -204,12 +241,19 @@ module _ (r : Replay) (whole : IsWhole r) (lab : Labels) (matched : IsMatched r 
           (λ (h : sweep r.weight z <ℤ (reach r k *ℤ z.n)). same_strip (record {
             fits = close.fits;
             from = close.closed.from;
-            to = λ (j : ℕ) (a : k ≤ j) (b : j < r.steps). let x = scaled_reach r whole.run k j z.n Z a b in omega (arith, ints, x, h);
+            to = λ (j : ℕ) (a : k ≤ j) (b : j < r.steps). let x =
+                scaled_reach r whole.run k j z.n Z a b in omega (arith, ints, x, h);
           }))
           (λ (h : (reach r k *ℤ z.n) ≤ℤ sweep r.weight z).
           let x = close.closed.to k (omega arith) l in
           let level : sweep r.weight z ≡ reach r k *ℤ z.n = omega (arith, ints, h, x) in
           let s = level_strip r whole.run k z Z l level in
-          ap (λ (j : ℕ). label_of lab r (sector_at r z j)) (strip_only r whole.run (strip r z) (suc k) z (strip_is r whole.run z Z) s)
-          ∙ sym (opens_label r whole.run whole.law lab matched (sector_at r z k) (sector_at r z (suc k)) (opens_at r whole.run whole.law k z l Z off level))))
-          (λ (l : r.steps ≤ k). same_strip (record { fits = close.fits; from = close.closed.from; to = λ (j : ℕ) (a : k ≤ j) (b : j < r.steps). absurd (omega arith) }))
+          ap (λ (j : ℕ). label_of lab r (sector_at r z j))
+          (strip_only r whole.run (strip r z) (suc k) z (strip_is r whole.run z Z) s)
+          ∙ sym (opens_label r whole.run whole.law lab matched (sector_at r z k)
+          (sector_at r z (suc k)) (opens_at r whole.run whole.law k z l Z off level))))
+          (λ (l : r.steps ≤ k). same_strip (record {
+            fits = close.fits;
+            from = close.closed.from;
+            to = λ (j : ℕ) (a : k ≤ j) (b : j < r.steps). absurd (omega arith);
+          }))

@@ -15,7 +15,8 @@ use Rattle.plane.proofs.Windings.Tilings.{corners, IsShared, IsHeld, IsTiling, r
 
 -- ---- the sum over the bounds is the sum over the triangles: each diagonal counts once each way
 strips_total : (w : ℤ) (z : Vector) (p u : Point) (ks : List Bay)
-    → turning w z (arrow p u) +ℤ total (winding w z) (strips p u ks) ≡ total (turning w z) (fence p u ks)
+    → turning w z (arrow p u) +ℤ total (winding w z) (strips p u ks)
+    ≡ total (turning w z) (fence p u ks)
 strips_total w z p u [] = refl
 strips_total w z p u (k ∷ ks) =
     let i = strips_total w z k.inner k.outer ks in
@@ -52,16 +53,20 @@ strips_shared : (p u : Point) (ks : List Bay) (t : Tile) → Has t (strips p u k
 strips_shared p u [] t h e m = absurd h
 strips_shared p u (k ∷ ks) t (inl h) e m = first (subst (λ (x : Tile). Has e (round x)) h m)
   where
-    first : Has e (round (record { a = u; b = p; c = k.outer })) → IsShared (strips p u (k ∷ ks)) (fence p u (k ∷ ks)) e ⊎ (e ≡ arrow u p)
+    first : Has e (round (record { a = u; b = p; c = k.outer }))
+        → IsShared (strips p u (k ∷ ks)) (fence p u (k ∷ ks)) e ⊎ (e ≡ arrow u p)
     first (inl x) = inr x
     first (inr (inl x)) = inl (inr (_, inr (inl refl), inr (inr (inl (ap back x)))))
     first (inr (inr (inl x))) = inl (inl (inr (inl x)))
     first (inr (inr (inr x))) = absurd x
 strips_shared p u (k ∷ ks) t (inr (inl h)) e m = second (subst (λ (x : Tile). Has e (round x)) h m)
   where
-    second : Has e (round (record { a = p; b = k.inner; c = k.outer })) → IsShared (strips p u (k ∷ ks)) (fence p u (k ∷ ks)) e ⊎ (e ≡ arrow u p)
+    second : Has e (round (record { a = p; b = k.inner; c = k.outer }))
+        → IsShared (strips p u (k ∷ ks)) (fence p u (k ∷ ks)) e ⊎ (e ≡ arrow u p)
     second (inl x) = inl (inl (inl x))
-    second (inr (inl x)) = inl (subst (λ (g : Edge). IsShared (strips p u (k ∷ ks)) (fence p u (k ∷ ks)) g) (sym x) (later_shared p u k ks (arrow k.inner k.outer) (first_shared k.inner k.outer ks)))
+    second (inr (inl x)) =
+        inl (subst (λ (g : Edge). IsShared (strips p u (k ∷ ks)) (fence p u (k ∷ ks)) g) (sym x)
+        (later_shared p u k ks (arrow k.inner k.outer) (first_shared k.inner k.outer ks)))
     second (inr (inr (inl x))) = inl (inr (_, inl refl, inr (inl (ap back x))))
     second (inr (inr (inr x))) = absurd x
 strips_shared p u (k ∷ ks) t (inr (inr h)) e m = elim (strips_shared k.inner k.outer ks t h e m) [
@@ -73,9 +78,12 @@ tube_shared : (a : Point) (k : Bay) (ks : List Bay) (t : Tile) → Has t (tiles 
     → (e : Edge) → Has e (round t) → IsShared (tiles a (k ∷ ks)) (bounds a (k ∷ ks)) e
 tube_shared a k ks t (inl h) e m = first (subst (λ (x : Tile). Has e (round x)) h m)
   where
-    first : Has e (round (record { a = a; b = k.inner; c = k.outer })) → IsShared (tiles a (k ∷ ks)) (bounds a (k ∷ ks)) e
+    first : Has e (round (record { a = a; b = k.inner; c = k.outer }))
+        → IsShared (tiles a (k ∷ ks)) (bounds a (k ∷ ks)) e
     first (inl x) = inl (inl x)
-    first (inr (inl x)) = subst (λ (g : Edge). IsShared (tiles a (k ∷ ks)) (bounds a (k ∷ ks)) g) (sym x) (tube_later a k ks (arrow k.inner k.outer) (first_shared k.inner k.outer ks))
+    first (inr (inl x)) =
+        subst (λ (g : Edge). IsShared (tiles a (k ∷ ks)) (bounds a (k ∷ ks)) g) (sym x)
+        (tube_later a k ks (arrow k.inner k.outer) (first_shared k.inner k.outer ks))
     first (inr (inr (inl x))) = inl (inr (inl x))
     first (inr (inr (inr x))) = absurd x
 tube_shared a k ks t (inr h) e m = elim (strips_shared k.inner k.outer ks t h e m) [
@@ -106,25 +114,31 @@ strips_held p u (k ∷ ks) t (inl h) c m = first (subst (λ (x : Tile). Has c (c
     first : Has c (corners (record { a = u; b = p; c = k.outer })) → IsHeld (fence p u (k ∷ ks)) c
     first (inl x) = is_held (fence p u (k ∷ ks)) c u x (outer_held p u (k ∷ ks))
     first (inr (inl x)) = is_held (fence p u (k ∷ ks)) c p x (inner_held p u (k ∷ ks))
-    first (inr (inr (inl x))) = is_held (fence p u (k ∷ ks)) c k.outer x (_, inr (inl refl), inl refl)
+    first (inr (inr (inl x))) =
+        is_held (fence p u (k ∷ ks)) c k.outer x (_, inr (inl refl), inl refl)
     first (inr (inr (inr x))) = absurd x
 strips_held p u (k ∷ ks) t (inr (inl h)) c m = second (subst (λ (x : Tile). Has c (corners x)) h m)
   where
-    second : Has c (corners (record { a = p; b = k.inner; c = k.outer })) → IsHeld (fence p u (k ∷ ks)) c
+    second : Has c (corners (record { a = p; b = k.inner; c = k.outer }))
+        → IsHeld (fence p u (k ∷ ks)) c
     second (inl x) = is_held (fence p u (k ∷ ks)) c p x (inner_held p u (k ∷ ks))
     second (inr (inl x)) = is_held (fence p u (k ∷ ks)) c k.inner x (_, inl refl, inr refl)
-    second (inr (inr (inl x))) = is_held (fence p u (k ∷ ks)) c k.outer x (_, inr (inl refl), inl refl)
+    second (inr (inr (inl x))) =
+        is_held (fence p u (k ∷ ks)) c k.outer x (_, inr (inl refl), inl refl)
     second (inr (inr (inr x))) = absurd x
-strips_held p u (k ∷ ks) t (inr (inr h)) c m = more_held _ _ _ c (strips_held k.inner k.outer ks t h c m)
+strips_held p u (k ∷ ks) t (inr (inr h)) c m =
+    more_held _ _ _ c (strips_held k.inner k.outer ks t h c m)
 
 tube_held : (a : Point) (k : Bay) (ks : List Bay) (t : Tile) → Has t (tiles a (k ∷ ks))
     → (c : Point) → Has c (corners t) → IsHeld (bounds a (k ∷ ks)) c
 tube_held a k ks t (inl h) c m = first (subst (λ (x : Tile). Has c (corners x)) h m)
   where
-    first : Has c (corners (record { a = a; b = k.inner; c = k.outer })) → IsHeld (bounds a (k ∷ ks)) c
+    first : Has c (corners (record { a = a; b = k.inner; c = k.outer }))
+        → IsHeld (bounds a (k ∷ ks)) c
     first (inl x) = is_held (bounds a (k ∷ ks)) c a x (inner_held a a (k ∷ ks))
     first (inr (inl x)) = is_held (bounds a (k ∷ ks)) c k.inner x (_, inl refl, inr refl)
-    first (inr (inr (inl x))) = is_held (bounds a (k ∷ ks)) c k.outer x (_, inr (inl refl), inl refl)
+    first (inr (inr (inl x))) =
+        is_held (bounds a (k ∷ ks)) c k.outer x (_, inr (inl refl), inl refl)
     first (inr (inr (inr x))) = absurd x
 tube_held a k ks t (inr h) c m = more_held _ _ _ c (strips_held k.inner k.outer ks t h c m)
 
@@ -175,14 +189,17 @@ pub tube_round : (w : ℤ) (z : Vector) (a : Point) (k : Bay) (ks : List Bay) �
     → pos 1 ≤ℤ total (turning w z) (bounds a (k ∷ ks))
 tube_round w z a k ks Z tiled clear s =
     let left = (each_has (λ u. IsLeftTile u × IsSteep w u) (tiles a (k ∷ ks)) s.0 tiled s.1).0 in
-    let r = rounded w z (tiles a (k ∷ ks)) (bounds a (k ∷ ks)) Z (tube_tiling a k ks) tiled clear s.0 s.1 (triangle_within s.0 z Z left s.2) in
-    subst (λ (n : ℤ). pos 1 ≤ℤ n) (tube_total w z a k ks) (windings_one w z (tiles a (k ∷ ks)) Z tiled r.0 r.1 r.2)
+    let r = rounded w z (tiles a (k ∷ ks)) (bounds a (k ∷ ks)) Z
+    (tube_tiling a k ks) tiled clear s.0 s.1 (triangle_within s.0 z Z left s.2) in
+    subst (λ (n : ℤ). pos 1 ≤ℤ n) (tube_total w z a k ks)
+    (windings_one w z (tiles a (k ∷ ks)) Z tiled r.0 r.1 r.2)
 
 -- in no triangle: they do not
 pub tube_not_round : (w : ℤ) (z : Vector) (a : Point) (k : Bay) (ks : List Bay) → Place z
     → IsTiled w (tiles a (k ∷ ks)) → (InSomeTile (tiles a (k ∷ ks)) z → ⊥)
     → total (turning w z) (bounds a (k ∷ ks)) ≡ pos 0
-tube_not_round w z a k ks Z tiled none = sym (tube_total w z a k ks) ∙ windings_none w z (tiles a (k ∷ ks)) Z tiled none
+tube_not_round w z a k ks Z tiled none =
+    sym (tube_total w z a k ks) ∙ windings_none w z (tiles a (k ∷ ks)) Z tiled none
 
 windings_some : (w : ℤ) (z : Vector) (ts : List Tile) → Place z → IsTiled w ts
     → pos 0 <ℤ total (winding w z) ts → InSomeTile ts z
@@ -196,4 +213,6 @@ windings_some w z (t ∷ ts) Z h l = elim (winding_once w t z Z h.0.0) [
 pub tube_holds : (w : ℤ) (z : Vector) (a : Point) (k : Bay) (ks : List Bay) → Place z
     → IsTiled w (tiles a (k ∷ ks)) → pos 0 <ℤ total (turning w z) (bounds a (k ∷ ks))
     → InSomeTile (tiles a (k ∷ ks)) z
-tube_holds w z a k ks Z tiled l = windings_some w z (tiles a (k ∷ ks)) Z tiled (subst (λ (n : ℤ). pos 0 <ℤ n) (sym (tube_total w z a k ks)) l)
+tube_holds w z a k ks Z tiled l =
+    windings_some w z (tiles a (k ∷ ks)) Z tiled
+    (subst (λ (n : ℤ). pos 0 <ℤ n) (sym (tube_total w z a k ks)) l)

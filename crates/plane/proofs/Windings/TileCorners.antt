@@ -1,4 +1,5 @@
--- The corners of a tube's triangles are ends of its bounds, and where these are edges of a run the ends are events.
+-- The corners of a tube's triangles are ends of its bounds, and where these are edges of a run the
+-- ends are events.
 use Rattle.std.proofs.Common.{◌≡◌, ℕ, ◌<◌, inl, inr, List, [], ◌∷◌, map, refl, sym, ◌∙◌, subst}
 use Rattle.plane.specs.declared.kinds.Point.{Point}
 use Rattle.plane.specs.Lists.{Has}
@@ -26,7 +27,11 @@ later : (e : Edge) (es : List Edge) (p : Point) → AtArrow es p → AtArrow (e 
 later e es p h = (h.0, inr h.1, h.2)
 
 later_corners : (e : Edge) (es : List Edge) (t : Tile) → AreCorners es t → AreCorners (e ∷ es) t
-later_corners e es t h = record { a = later e es t.a h.a; b = later e es t.b h.b; c = later e es t.c h.c }
+later_corners e es t h = record {
+  a = later e es t.a h.a;
+  b = later e es t.b h.b;
+  c = later e es t.c h.c;
+}
 
 strip_corners : (p u : Point) (ks : List Bay) (t : Tile) → Has t (strips p u ks)
     → AreCorners (fence p u ks) t
@@ -36,13 +41,16 @@ strip_corners p u (k ∷ ks) t (inl e) = subst (AreCorners (fence p u (k ∷ ks)
   b = (arrow p k.inner, inl refl, inl refl);
   c = (arrow k.outer u, inr (inl refl), inl refl);
 })
-strip_corners p u (k ∷ ks) t (inr (inl e)) = subst (AreCorners (fence p u (k ∷ ks))) (sym e) (record {
-  a = (arrow p k.inner, inl refl, inl refl);
-  b = (arrow p k.inner, inl refl, inr refl);
-  c = (arrow k.outer u, inr (inl refl), inl refl);
-})
+strip_corners p u (k ∷ ks) t (inr (inl e)) =
+    subst (AreCorners (fence p u (k ∷ ks))) (sym e) (record {
+      a = (arrow p k.inner, inl refl, inl refl);
+      b = (arrow p k.inner, inl refl, inr refl);
+      c = (arrow k.outer u, inr (inl refl), inl refl);
+    })
 strip_corners p u (k ∷ ks) t (inr (inr m)) =
-    later_corners (arrow p k.inner) (arrow k.outer u ∷ fence k.inner k.outer ks) t (later_corners (arrow k.outer u) (fence k.inner k.outer ks) t (strip_corners k.inner k.outer ks t m))
+    later_corners (arrow p k.inner) (arrow k.outer u ∷ fence k.inner k.outer ks) t
+    (later_corners (arrow k.outer u) (fence k.inner k.outer ks) t
+    (strip_corners k.inner k.outer ks t m))
 
 pub tile_corners : (a : Point) (ks : List Bay) (t : Tile) → Has t (tiles a ks)
     → AreCorners (bounds a ks) t
@@ -53,7 +61,9 @@ tile_corners a (k ∷ ks) t (inl e) = subst (AreCorners (bounds a (k ∷ ks))) (
   c = (arrow k.outer a, inr (inl refl), inl refl);
 })
 tile_corners a (k ∷ ks) t (inr m) =
-    later_corners (arrow a k.inner) (arrow k.outer a ∷ fence k.inner k.outer ks) t (later_corners (arrow k.outer a) (fence k.inner k.outer ks) t (strip_corners k.inner k.outer ks t m))
+    later_corners (arrow a k.inner) (arrow k.outer a ∷ fence k.inner k.outer ks) t
+    (later_corners (arrow k.outer a) (fence k.inner k.outer ks) t
+    (strip_corners k.inner k.outer ks t m))
 
 pub arrow_end : (E : ℕ → Edge) (h : Half) (p : Point) → IsEnd (way E h) p → IsEnd (E (edge_of h)) p
 arrow_end E (over e) p h = h
@@ -68,7 +78,11 @@ end_way E (under e) p (inr i) = inl i
 -- an end of an edge is an end of its arrow
 pub edge_arrow : (E : ℕ → Edge) (es : List Edge) (hs : List Half) (h : Half) (p : Point)
     → es ≡ map (way E) hs → Has h hs → IsEnd (E (edge_of h)) p → AtArrow es p
-edge_arrow E es hs h p b m i = (way E h, subst (λ (xs : List Edge). Has (way E h) xs) (sym b) (has_map (way E) h hs m), end_way E h p i)
+edge_arrow E es hs h p b m i = (
+  way E h,
+  subst (λ (xs : List Edge). Has (way E h) xs) (sym b) (has_map (way E) h hs m),
+  end_way E h p i,
+)
 
 -- the corners of the triangles are ends of the edges
 pub corner_edge : (E : ℕ → Edge) (es : List Edge) (hs : List Half) (p : Point) → es ≡ map (way E) hs

@@ -19,13 +19,17 @@ use Rattle.plane.proofs.Windings.Closures.{IsClose}
 -- ---- mixes of mixes
 mix_mix : (a s t b m n : ℤ) (p q : Vector)
     → mix a (mix s p t q) b (mix m p n q) ≡ mix ((a *ℤ s) +ℤ (b *ℤ m)) p ((a *ℤ t) +ℤ (b *ℤ n)) q
-mix_mix a s t b m n p q = vector_eq _ _ (one a s t b m n p.x q.x) (one a s t b m n p.y q.y) (one a s t b m n p.n q.n)
+mix_mix a s t b m n p q =
+    vector_eq _ _ (one a s t b m n p.x q.x) (one a s t b m n p.y q.y) (one a s t b m n p.n q.n)
   where
     one : (a s t b m n x y : ℤ)
-        → (a *ℤ ((s *ℤ x) +ℤ (t *ℤ y))) +ℤ (b *ℤ ((m *ℤ x) +ℤ (n *ℤ y))) ≡ (((a *ℤ s) +ℤ (b *ℤ m)) *ℤ x) +ℤ (((a *ℤ t) +ℤ (b *ℤ n)) *ℤ y)
+        → (a *ℤ ((s *ℤ x) +ℤ (t *ℤ y))) +ℤ (b *ℤ ((m *ℤ x) +ℤ (n *ℤ y)))
+        ≡ (((a *ℤ s) +ℤ (b *ℤ m)) *ℤ x) +ℤ (((a *ℤ t) +ℤ (b *ℤ n)) *ℤ y)
     one a s t b m n x y =
-        ring (plus (times (at 0) (plus (times (at 1) (at 6)) (times (at 2) (at 7)))) (times (at 3) (plus (times (at 4) (at 6)) (times (at 5) (at 7)))))
-        (plus (times (plus (times (at 0) (at 1)) (times (at 3) (at 4))) (at 6)) (times (plus (times (at 0) (at 2)) (times (at 3) (at 5))) (at 7)))
+        ring (plus (times (at 0) (plus (times (at 1) (at 6)) (times (at 2) (at 7))))
+        (times (at 3) (plus (times (at 4) (at 6)) (times (at 5) (at 7)))))
+        (plus (times (plus (times (at 0) (at 1)) (times (at 3) (at 4))) (at 6))
+        (times (plus (times (at 0) (at 2)) (times (at 3) (at 5))) (at 7)))
         (vars (a ∷ s ∷ t ∷ b ∷ m ∷ n ∷ x ∷ y ∷ [])) refl
 
 pub way_mix : (p q u v : Vector) (a b : ℤ) → pos 0 ≤ℤ a → pos 0 ≤ℤ b → pos 0 <ℤ (a +ℤ b)
@@ -45,21 +49,40 @@ way_mix p q u v a b ha hb some x y =
       s_least = omega (arith, ints, c, e);
       t_least = omega (arith, ints, d, f);
       some = omega (arith, ints, g, h, i, j, some);
-      is = ap (λ (w : Vector). mix a w b v) x.is ∙ ap (λ (w : Vector). mix a (mix x.s p x.t q) b w) y.is ∙ mix_mix a x.s x.t b y.s y.t p q;
+      is = ap (λ (w : Vector). mix a w b v) x.is
+          ∙ ap (λ (w : Vector). mix a (mix x.s p x.t q) b w) y.is ∙ mix_mix a x.s x.t b y.s y.t p q;
     }
 
 pub way_start : (p q : Vector) → IsOnWay p q p
-way_start p q = record { s = pos 1; t = pos 0; s_least = omega (arith, ints); t_least = omega (arith, ints); some = omega (arith, ints); is = vector_eq _ _ (omega (arith, ints)) (omega (arith, ints)) (omega (arith, ints)) }
+way_start p q = record {
+  s = pos 1;
+  t = pos 0;
+  s_least = omega (arith, ints);
+  t_least = omega (arith, ints);
+  some = omega (arith, ints);
+  is = vector_eq _ _ (omega (arith, ints)) (omega (arith, ints)) (omega (arith, ints));
+}
 
 pub way_end : (p q : Vector) → IsOnWay p q q
-way_end p q = record { s = pos 0; t = pos 1; s_least = omega (arith, ints); t_least = omega (arith, ints); some = omega (arith, ints); is = vector_eq _ _ (omega (arith, ints)) (omega (arith, ints)) (omega (arith, ints)) }
+way_end p q = record {
+  s = pos 0;
+  t = pos 1;
+  s_least = omega (arith, ints);
+  t_least = omega (arith, ints);
+  some = omega (arith, ints);
+  is = vector_eq _ _ (omega (arith, ints)) (omega (arith, ints)) (omega (arith, ints));
+}
 
 pub way_place : (p q z : Vector) → Place p → Place q → IsOnWay p q z → Place z
-way_place p q z P Q h = subst (λ (v : Vector). Place v) (sym h.is) (mix_place h.s p h.t q P Q h.s_least h.t_least h.some)
+way_place p q z P Q h =
+    subst (λ (v : Vector). Place v) (sym h.is)
+    (mix_place h.s p h.t q P Q h.s_least h.t_least h.some)
 
 -- ---- closures
 regroup : (c s a t b : ℤ) → c *ℤ ((s *ℤ a) +ℤ (t *ℤ b)) ≡ (s *ℤ (c *ℤ a)) +ℤ (t *ℤ (c *ℤ b))
-regroup c s a t b = ring (times (at 0) (plus (times (at 1) (at 2)) (times (at 3) (at 4)))) (plus (times (at 1) (times (at 0) (at 2))) (times (at 3) (times (at 0) (at 4))))
+regroup c s a t b =
+    ring (times (at 0) (plus (times (at 1) (at 2)) (times (at 3) (at 4))))
+    (plus (times (at 1) (times (at 0) (at 2))) (times (at 3) (times (at 0) (at 4))))
     (vars (c ∷ s ∷ a ∷ t ∷ b ∷ [])) refl
 
 pub closed_mix : (r : Replay) (k : ℕ) (u v : Vector) (s t : ℤ) → pos 0 ≤ℤ s → pos 0 ≤ℤ t
@@ -114,7 +137,8 @@ pub front_in : (xs ys zs ws : List ℕ) → xs ++ ys ≡ zs ++ ws → length xs 
 front_in [] ys zs ws q l e m = absurd m
 front_in (x ∷ xs) ys [] ws q l e m = absurd (omega arith)
 front_in (x ∷ xs) ys (z ∷ zs) ws q l e (inl h) = inl (h ∙ ap head q)
-front_in (x ∷ xs) ys (z ∷ zs) ws q l e (inr m) = inr (front_in xs ys zs ws (ap tail q) (omega arith) e m)
+front_in (x ∷ xs) ys (z ∷ zs) ws q l e (inr m) =
+    inr (front_in xs ys zs ws (ap tail q) (omega arith) e m)
 
 pub half_or_twin : (g h : Half) → edge_of g ≡ edge_of h → (h ≡ g) ⊎ (h ≡ twin g)
 half_or_twin (under a) (under b) e = inl (ap under (sym e))

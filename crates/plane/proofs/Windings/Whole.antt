@@ -1,4 +1,5 @@
--- A place of an edge that is no event: it cuts the live list in the edges below, that edge, and the edges above.
+-- A place of an edge that is no event: it cuts the live list in the edges below, that edge, and the
+-- edges above.
 use Rattle.std.proofs.Common.{◌≡◌, ℕ, ◌<◌, ◌≤◌, List, [], ◌∷◌, ◌++◌, length, ℤ, pos, ◌*ℤ◌, ◌<ℤ◌}
 use Rattle.std.proofs.Common.{◌≤ℤ◌, inl, inr, refl, arith, ap, sym, subst}
 use Rattle.std.proofs.lemmas.Int.{ints, by_lt_z}
@@ -35,17 +36,27 @@ crossed_order w m E (s ∷ done) todo z all i hz off =
     let o = untouched_order w m E done todo s z all hz e in
     let sides = event_sides w m E done todo s all in
     let rs = untouched_rises w m E done todo s h in
-    let zero : (x : ℕ) → Has x s.starting → side (E x) (point s.at) ≡ pos 0 = λ x k. side_through_low E x s.at (g.starting_only x k).1 in
-    let up : (x : ℕ) → Has x s.starting → pos 0 <ℤ rise w (E x) = λ x k. h.rises x (g.starting_only x k).0 in
+    let zero : (x : ℕ) → Has x s.starting
+    → side (E x) (point s.at) ≡ pos 0 =
+    λ x k. side_through_low E x s.at (g.starting_only x k).1 in
+    let up : (x : ℕ) → Has x s.starting
+    → pos 0 <ℤ rise w (E x) = λ x k. h.rises x (g.starting_only x k).0 in
     by_sign (lift z (point s.at))
-    (λ (d : lift z (point s.at) <ℤ pos 0). then_under E z s.below (s.starting ++ s.above) o.0 (each_append (λ x. side (E x) z <ℤ pos 0) s.starting s.above
-    (each_from (λ x. side (E x) z <ℤ pos 0) s.starting (λ x k. let q = zero x k in lower_side w (E x) z s.at e hz (up x k) d (omega (arith, ints, q))))
-    (each_from (λ x. side (E x) z <ℤ pos 0) s.above (λ x k. let q = each_has (λ y. side (E y) (point s.at) <ℤ pos 0) s.above x sides.1 k in lower_side w (E x) z s.at e hz (rs.1 x k) d (omega (arith, ints, q))))))
+    (λ (d : lift z (point s.at) <ℤ pos 0). then_under E z s.below (s.starting ++ s.above) o.0
+    (each_append (λ x. side (E x) z <ℤ pos 0) s.starting s.above
+    (each_from (λ x. side (E x) z <ℤ pos 0) s.starting (λ x k. let q = zero x k in
+    lower_side w (E x) z s.at e hz (up x k) d (omega (arith, ints, q))))
+    (each_from (λ x. side (E x) z <ℤ pos 0) s.above
+    (λ x k. let q = each_has (λ y. side (E y) (point s.at) <ℤ pos 0) s.above x sides.1 k in
+    lower_side w (E x) z s.at e hz (rs.1 x k) d (omega (arith, ints, q))))))
     (λ (d : lift z (point s.at) ≡ pos 0). absurd (off s (inl refl) (same_place w z s.at e d)))
     (λ (d : pos 0 <ℤ lift z (point s.at)). all_over E z s.below (s.starting ++ s.above)
-    (each_from (λ x. pos 0 <ℤ side (E x) z) s.below (λ x k. let q = each_has (λ y. pos 0 <ℤ side (E y) (point s.at)) s.below x sides.0 k in higher_side w (E x) z s.at e hz (rs.0 x k) d (omega (arith, ints, q))))
+    (each_from (λ x. pos 0 <ℤ side (E x) z) s.below
+    (λ x k. let q = each_has (λ y. pos 0 <ℤ side (E y) (point s.at)) s.below x sides.0 k in
+    higher_side w (E x) z s.at e hz (rs.0 x k) d (omega (arith, ints, q))))
     (all_over E z s.starting s.above
-    (each_from (λ x. pos 0 <ℤ side (E x) z) s.starting (λ x k. let q = zero x k in higher_side w (E x) z s.at e hz (up x k) d (omega (arith, ints, q))))
+    (each_from (λ x. pos 0 <ℤ side (E x) z) s.starting (λ x k. let q = zero x k in
+    higher_side w (E x) z s.at e hz (up x k) d (omega (arith, ints, q))))
     o.1)))
 
 -- ---- the cut at an edge
@@ -59,8 +70,10 @@ pub record IsCutAt (E : ℕ → Edge) (z : Vector) (f : ℕ) (xs : List ℕ) : T
 all_above : (E : ℕ → Edge) (z : Vector) (x : ℕ) (xs : List ℕ) → Neighbours (Over E z) (x ∷ xs)
     → side (E x) z ≤ℤ pos 0 → (e : ℕ) → Has e xs → side (E e) z <ℤ pos 0
 all_above E z x [] h l e m = absurd m
-all_above E z x (y ∷ ys) h l e (inl q) = subst (λ (c : ℕ). side (E c) z <ℤ pos 0) (sym q) (under_higher E z x y h.0 l)
-all_above E z x (y ∷ ys) h l e (inr m) = let k = under_higher E z x y h.0 l in all_above E z y ys h.1 (omega (arith, ints, k)) e m
+all_above E z x (y ∷ ys) h l e (inl q) =
+    subst (λ (c : ℕ). side (E c) z <ℤ pos 0) (sym q) (under_higher E z x y h.0 l)
+all_above E z x (y ∷ ys) h l e (inr m) =
+    let k = under_higher E z x y h.0 l in all_above E z y ys h.1 (omega (arith, ints, k)) e m
 
 pub cut_edge : (E : ℕ → Edge) (z : Vector) (f : ℕ) (xs : List ℕ) → Neighbours (Over E z) xs
     → Has f xs → side (E f) z ≡ pos 0 → IsCutAt E z f xs
@@ -75,7 +88,13 @@ cut_edge E z f (x ∷ xs) h (inl e) q = record {
 cut_edge E z f (x ∷ xs) h (inr m) q =
     let r = cut_edge E z f xs h.1 m q in
     let l = raised E z x f xs h m (omega (arith, ints, q)) in
-    record { lower = x ∷ r.lower; upper = r.upper; is = ap (λ (ys : List ℕ). x ∷ ys) r.is; beneath = λ d k. first r.lower d k l r.beneath; over = r.over }
+    record {
+      lower = x ∷ r.lower;
+      upper = r.upper;
+      is = ap (λ (ys : List ℕ). x ∷ ys) r.is;
+      beneath = λ d k. first r.lower d k l r.beneath;
+      over = r.over;
+    }
   where
     first : (ys : List ℕ) (d : ℕ) → Has d (x ∷ ys) → pos 0 <ℤ side (E x) z
         → ((e : ℕ) → Has e ys → pos 0 <ℤ side (E e) z) → pos 0 <ℤ side (E d) z
@@ -102,24 +121,41 @@ module _ (w : ℤ) (m : ℕ) (E : ℕ → Edge) (steps : List Step) (swept : Wei
       let done = c.0 in
       let todo = c.1 in
       let i : IsAt w done todo z = record {
-        passed = each_from (λ s. (sweep w (point s.at) *ℤ z.n) ≤ℤ sweep w z) done (λ s n. let j = c.2.early s n in subst (λ (t : Step). (sweep w (point t.at) *ℤ z.n) ≤ℤ sweep w z) j.2 (strip.from j.0 j.1));
-        coming = each_from (λ s. sweep w z <ℤ (sweep w (point s.at) *ℤ z.n)) todo (λ s n. let j = late steps k done todo c.2 s n in subst (λ (t : Step). sweep w z <ℤ (sweep w (point t.at) *ℤ z.n)) j.3 (strip.to j.0 j.1 j.2));
+        passed = each_from (λ s. (sweep w (point s.at) *ℤ z.n) ≤ℤ sweep w z) done
+            (λ s n. let j = c.2.early s n in
+            subst (λ (t : Step). (sweep w (point t.at) *ℤ z.n) ≤ℤ sweep w z) j.2
+            (strip.from j.0 j.1));
+        coming = each_from (λ s. sweep w z <ℤ (sweep w (point s.at) *ℤ z.n)) todo
+            (λ s n. let j = late steps k done todo c.2 s n in
+            subst (λ (t : Step). sweep w z <ℤ (sweep w (point t.at) *ℤ z.n)) j.3
+            (strip.to j.0 j.1 j.2));
       } in
       let fits = strip.fits in
       subst (λ (es : List ℕ). Neighbours (Over E z) es) c.2.now
-      (crossed_order w m E done todo z (subst (λ (s : List Step). WeighedRun w m E s) (sym c.2.whole) swept) i Z
-      (λ s n q. let j = c.2.early s n in let l = j.1 in off j.0 (omega (arith, fits, l)) (subst (λ (t : Step). Same z (point t.at)) (sym j.2) q)))
+      (crossed_order w m E done todo z
+      (subst (λ (s : List Step). WeighedRun w m E s) (sym c.2.whole) swept) i Z
+      (λ s n q. let j = c.2.early s n in let l = j.1 in
+      off j.0 (omega (arith, fits, l)) (subst (λ (t : Step). Same z (point t.at)) (sym j.2) q)))
 
   no_repeats : (k : ℕ) → k ≤ length steps → Once (list_after [] steps k)
   no_repeats k fits =
       let c = cut_at steps k fits in
-      subst (λ (es : List ℕ). Once es) c.2.now (live_once w m E c.0 c.1 (subst (λ (s : List Step). WeighedRun w m E s) (sym c.2.whole) swept))
+      subst (λ (es : List ℕ). Once es) c.2.now
+      (live_once w m E c.0 c.1
+      (subst (λ (s : List Step). WeighedRun w m E s) (sym c.2.whole) swept))
 
   event_end : (k : ℕ) → k < length steps → (e : ℕ) → e < m → On w (E e) (point (nth steps k).at)
       → IsEnd (E e) (nth steps k).at
   event_end k fits e l on =
       let a = at_step w m E steps swept k fits in
-      subst (λ (s : Step). On w (E e) (point s.at) → IsEnd (E e) s.at) a.3.is (λ o. event_is_end w m E a.0 a.2 a.1 e a.3.all l o) on
+      subst (λ (s : Step). On w (E e) (point s.at) → IsEnd (E e) s.at) a.3.is
+      (λ o. event_is_end w m E a.0 a.2 a.1 e a.3.all l o) on
 
   pub swept_whole : IsWhole (replay w m E steps)
-  swept_whole = record { run = swept_run w m E steps swept; law = swept_lawful w m E steps swept; once = no_repeats; crossed = crossed_list; event_end = event_end }
+  swept_whole = record {
+    run = swept_run w m E steps swept;
+    law = swept_lawful w m E steps swept;
+    once = no_repeats;
+    crossed = crossed_list;
+    event_end = event_end;
+  }

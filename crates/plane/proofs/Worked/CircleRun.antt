@@ -1,4 +1,5 @@
--- The circle with radius 10000 round (500000, 500000), as four half arcs with their tubes of level 0: its steps are a complete run.
+-- The circle with radius 10000 round (500000, 500000), as four half arcs with their tubes of level
+-- 0: its steps are a complete run.
 use Rattle.std.proofs.Common.{ℕ, List, [], ◌∷◌, pos, get_or, refl}
 use Rattle.plane.specs.declared.kinds.Point.{Point}
 use Rattle.plane.specs.Forms.Vectors.{Edge}
@@ -42,22 +43,118 @@ edge e = get_or edges e (from_to 0 0 1 0)
 
 abbrev pub steps : List Step
 steps =
-    record { at = at_point 489698 504266; below = []; ending = []; starting = 9 ∷ 8 ∷ []; above = [] }
-    ∷ record { at = at_point 489700 495733; below = []; ending = []; starting = 13 ∷ 12 ∷ []; above = 9 ∷ 8 ∷ [] }
-    ∷ record { at = at_point 490000 500000; below = 13 ∷ []; ending = 12 ∷ 9 ∷ []; starting = 10 ∷ 6 ∷ []; above = 8 ∷ [] }
-    ∷ record { at = at_point 492929 492929; below = 13 ∷ []; ending = 10 ∷ []; starting = 11 ∷ []; above = 6 ∷ 8 ∷ [] }
-    ∷ record { at = at_point 492929 507070; below = 13 ∷ 11 ∷ []; ending = 6 ∷ []; starting = 5 ∷ []; above = 8 ∷ [] }
-    ∷ record { at = at_point 495731 510303; below = 13 ∷ 11 ∷ 5 ∷ []; ending = 8 ∷ []; starting = 7 ∷ []; above = [] }
-    ∷ record { at = at_point 495733 489700; below = []; ending = 13 ∷ []; starting = 14 ∷ []; above = 11 ∷ 5 ∷ 7 ∷ [] }
-    ∷ record { at = at_point 500000 490000; below = []; ending = 14 ∷ 11 ∷ []; starting = 17 ∷ 15 ∷ []; above = 5 ∷ 7 ∷ [] }
-    ∷ record { at = at_point 500000 510000; below = 17 ∷ 15 ∷ []; ending = 5 ∷ 7 ∷ []; starting = 1 ∷ 4 ∷ []; above = [] }
-    ∷ record { at = at_point 504266 489698; below = []; ending = 17 ∷ []; starting = 18 ∷ []; above = 15 ∷ 1 ∷ 4 ∷ [] }
-    ∷ record { at = at_point 504266 510301; below = 18 ∷ 15 ∷ 1 ∷ []; ending = 4 ∷ []; starting = 3 ∷ []; above = [] }
-    ∷ record { at = at_point 507070 492929; below = 18 ∷ []; ending = 15 ∷ []; starting = 16 ∷ []; above = 1 ∷ 3 ∷ [] }
-    ∷ record { at = at_point 507071 507071; below = 18 ∷ 16 ∷ []; ending = 1 ∷ []; starting = 0 ∷ []; above = 3 ∷ [] }
-    ∷ record { at = at_point 510000 500000; below = 18 ∷ []; ending = 16 ∷ 0 ∷ []; starting = 19 ∷ 2 ∷ []; above = 3 ∷ [] }
-    ∷ record { at = at_point 510301 504266; below = 18 ∷ 19 ∷ []; ending = 2 ∷ 3 ∷ []; starting = []; above = [] }
-    ∷ record { at = at_point 510303 495731; below = []; ending = 18 ∷ 19 ∷ []; starting = []; above = [] }
+    record {
+      at = at_point 489698 504266;
+      below = [];
+      ending = [];
+      starting = 9 ∷ 8 ∷ [];
+      above = [];
+    }
+    ∷ record {
+      at = at_point 489700 495733;
+      below = [];
+      ending = [];
+      starting = 13 ∷ 12 ∷ [];
+      above = 9 ∷ 8 ∷ [];
+    }
+    ∷ record {
+      at = at_point 490000 500000;
+      below = 13 ∷ [];
+      ending = 12 ∷ 9 ∷ [];
+      starting = 10 ∷ 6 ∷ [];
+      above = 8 ∷ [];
+    }
+    ∷ record {
+      at = at_point 492929 492929;
+      below = 13 ∷ [];
+      ending = 10 ∷ [];
+      starting = 11 ∷ [];
+      above = 6 ∷ 8 ∷ [];
+    }
+    ∷ record {
+      at = at_point 492929 507070;
+      below = 13 ∷ 11 ∷ [];
+      ending = 6 ∷ [];
+      starting = 5 ∷ [];
+      above = 8 ∷ [];
+    }
+    ∷ record {
+      at = at_point 495731 510303;
+      below = 13 ∷ 11 ∷ 5 ∷ [];
+      ending = 8 ∷ [];
+      starting = 7 ∷ [];
+      above = [];
+    }
+    ∷ record {
+      at = at_point 495733 489700;
+      below = [];
+      ending = 13 ∷ [];
+      starting = 14 ∷ [];
+      above = 11 ∷ 5 ∷ 7 ∷ [];
+    }
+    ∷ record {
+      at = at_point 500000 490000;
+      below = [];
+      ending = 14 ∷ 11 ∷ [];
+      starting = 17 ∷ 15 ∷ [];
+      above = 5 ∷ 7 ∷ [];
+    }
+    ∷ record {
+      at = at_point 500000 510000;
+      below = 17 ∷ 15 ∷ [];
+      ending = 5 ∷ 7 ∷ [];
+      starting = 1 ∷ 4 ∷ [];
+      above = [];
+    }
+    ∷ record {
+      at = at_point 504266 489698;
+      below = [];
+      ending = 17 ∷ [];
+      starting = 18 ∷ [];
+      above = 15 ∷ 1 ∷ 4 ∷ [];
+    }
+    ∷ record {
+      at = at_point 504266 510301;
+      below = 18 ∷ 15 ∷ 1 ∷ [];
+      ending = 4 ∷ [];
+      starting = 3 ∷ [];
+      above = [];
+    }
+    ∷ record {
+      at = at_point 507070 492929;
+      below = 18 ∷ [];
+      ending = 15 ∷ [];
+      starting = 16 ∷ [];
+      above = 1 ∷ 3 ∷ [];
+    }
+    ∷ record {
+      at = at_point 507071 507071;
+      below = 18 ∷ 16 ∷ [];
+      ending = 1 ∷ [];
+      starting = 0 ∷ [];
+      above = 3 ∷ [];
+    }
+    ∷ record {
+      at = at_point 510000 500000;
+      below = 18 ∷ [];
+      ending = 16 ∷ 0 ∷ [];
+      starting = 19 ∷ 2 ∷ [];
+      above = 3 ∷ [];
+    }
+    ∷ record {
+      at = at_point 510301 504266;
+      below = 18 ∷ 19 ∷ [];
+      ending = 2 ∷ 3 ∷ [];
+      starting = [];
+      above = [];
+    }
+    ∷ record {
+      at = at_point 510303 495731;
+      below = [];
+      ending = 18 ∷ 19 ∷ [];
+      starting = [];
+      above = [];
+    }
     ∷ []
 
 pub circle_runs : Run 20 edge steps

@@ -33,11 +33,15 @@ edge_is e c h = elim (either_is (along e c) (against e c) h) [
 ]
 
 abbrev pub edge_test : (ℕ → Edge) → Plan → ℕ → Bool
-edge_test E d i = both (is_straight (curve d i).kind) (either (along (E i) (curve d i)) (against (E i) (curve d i)))
+edge_test E d i =
+    both (is_straight (curve d i).kind)
+    (either (along (E i) (curve d i)) (against (E i) (curve d i)))
 
 pub edges_by_test : (E : ℕ → Edge) (d : Plan) → all_below (length d.curves) (edge_test E d) ≡ true
     → AreEdgesOf E d
 edges_by_test E d h = record {
-  straight = λ i l. straight_is (curve d i).kind (both_true _ _ (all_below_is (length d.curves) (edge_test E d) h i l)).0;
-  edge = λ i l. edge_is (E i) (curve d i) (both_true _ _ (all_below_is (length d.curves) (edge_test E d) h i l)).1;
+  straight = λ i l. straight_is (curve d i).kind
+      (both_true _ _ (all_below_is (length d.curves) (edge_test E d) h i l)).0;
+  edge = λ i l. edge_is (E i) (curve d i)
+      (both_true _ _ (all_below_is (length d.curves) (edge_test E d) h i l)).1;
 }

@@ -1,4 +1,5 @@
--- Small drawings: the definition of a partition holds of the blank one and fails for two straights that cross.
+-- Small drawings: the definition of a partition holds of the blank one and fails for two straights
+-- that cross.
 use Rattle.std.proofs.Common.{◌≡◌, ℕ, ◌<◌, ℤ, pos, ◌-ℤ◌, inl, inr, [], ◌∷◌, refl, arith}
 use Rattle.std.proofs.lemmas.Int.{ints}
 use Rattle.plane.specs.declared.kinds.Point.{Point}
@@ -20,8 +21,19 @@ none_below P i h = absurd (omega (arith, h))
 blank_outer : (w : Window2) (z : Vector) → Place z → IsOuter (blank w) z
 blank_outer w z Z b =
     let q : Vector = record { x = b -ℤ pos 1; y = pos 0; n = pos 1 } in
-    let Q : Place q = omega (arith, ints) in
-    (q, Q, record { first = z; rest = q ∷ []; begins = same_refl z; ends = same_refl q; places = ((Z, λ i h. none_below _ i h), ((Q, λ i h. none_below _ i h), tt)); clear = ((λ i h. none_below _ i h), (tt, tt)) }, omega (arith, ints))
+    let Q : Place q = omega (arith, ints) in (
+      q,
+      Q,
+      record {
+        first = z;
+        rest = q ∷ [];
+        begins = same_refl z;
+        ends = same_refl q;
+        places = ((Z, λ i h. none_below _ i h), ((Q, λ i h. none_below _ i h), tt));
+        clear = ((λ i h. none_below _ i h), (tt, tt));
+      },
+      omega (arith, ints),
+    )
 
 pub blank_is_partition : (w : Window2) → IsPartition (blank w)
 blank_is_partition w = record {
@@ -58,10 +70,14 @@ cross = record {
     inner (inr h) = let x = h.x in omega (arith, ints, x)
 
 abbrev pub crossing : Window2 → Plan
-crossing w = with_straight (with_straight (blank w) (corner (pos 0) (pos 0)) (corner (pos 2) (pos 2)) 1) (corner (pos 0) (pos 2)) (corner (pos 2) (pos 0)) 2
+crossing w =
+    with_straight (with_straight (blank w) (corner (pos 0) (pos 0)) (corner (pos 2) (pos 2)) 1)
+    (corner (pos 0) (pos 2)) (corner (pos 2) (pos 0)) 2
 
 pub crossing_is_none : (w : Window2) → IsPartition (crossing w) → ⊥
-crossing_is_none w h = bad_not_apart rising falling (straights_meet cross) (h.apart 0 1 (omega arith) (omega arith) other)
+crossing_is_none w h =
+    bad_not_apart rising falling (straights_meet cross)
+    (h.apart 0 1 (omega arith) (omega arith) other)
   where
     other : ◌≡◌ {A = ℕ} 0 1 → ⊥
     other e = omega (arith, e)

@@ -1,5 +1,7 @@
--- The ring with a hole, an island in the hole and a dangling edge, with one object's point in each face, is a partition.
--- Faces here are not bounded by one ring each: the hole and the ring have two borders, and the dangling edge has one face on both sides.
+-- The ring with a hole, an island in the hole and a dangling edge, with one object's point in each
+-- face, is a partition.
+-- Faces here are not bounded by one ring each: the hole and the ring have two borders, and the
+-- dangling edge has one face on both sides.
 use Rattle.std.proofs.Common.{ℕ, pos, [], ◌∷◌, get_or, refl, arith}
 use Rattle.plane.specs.declared.window.Window2.{Window2}
 use Rattle.plane.specs.Forms.Vectors.{point}
@@ -21,7 +23,8 @@ use Rattle.plane.proofs.Worked.HoleRun.{at_point, edge, steps, ring_runs}
 abbrev at_cell : ℕ → ℕ → Sector
 at_cell k i = record { strip = k; index = i }
 
--- the ring has the label 1, also on both sides of the dangling edge, the hole the label 2, the island the label 3
+-- the ring has the label 1, also on both sides of the dangling edge, the hole the label 2, the
+-- island the label 3
 abbrev labels : Labels
 labels = record {
   below = λ e. get_or (0 ∷ 1 ∷ 1 ∷ 0 ∷ 1 ∷ 2 ∷ 2 ∷ 1 ∷ 2 ∷ 3 ∷ 3 ∷ 1 ∷ []) e 0;
@@ -33,13 +36,23 @@ rank (under e) = get_or (0 ∷ 1 ∷ 0 ∷ 0 ∷ 1 ∷ 1 ∷ 0 ∷ 1 ∷ 1 ∷ 0
 rank (over e) = get_or (0 ∷ 0 ∷ 0 ∷ 1 ∷ 0 ∷ 1 ∷ 1 ∷ 1 ∷ 0 ∷ 1 ∷ 1 ∷ 1 ∷ []) e 0
 
 abbrev link : Half → Lead
-link (under e) = get_or (root ∷ previous (under 2) ∷ root ∷ root ∷ across (over 0) ∷ previous (under 6) ∷ root ∷ across (over 0) ∷ across (over 4) ∷ root ∷ next (under 9) ∷ across (over 0) ∷ []) e root
-link (over e) = get_or (root ∷ root ∷ root ∷ next (under 2) ∷ root ∷ across (under 2) ∷ across (under 2) ∷ next (under 6) ∷ root ∷ across (under 6) ∷ across (under 6) ∷ across (under 2) ∷ []) e root
+link (under e) =
+    get_or (root ∷ previous (under 2) ∷ root ∷ root ∷ across (over 0) ∷ previous (under 6) ∷ root
+    ∷ across (over 0) ∷ across (over 4) ∷ root ∷ next (under 9) ∷ across (over 0) ∷ []) e root
+link (over e) =
+    get_or (root ∷ root ∷ root ∷ next (under 2) ∷ root ∷ across (under 2) ∷ across (under 2)
+    ∷ next (under 6) ∷ root ∷ across (under 6) ∷ across (under 6) ∷ across (under 2) ∷ []) e root
 
 -- the cell or the event that shows a link
 abbrev cell_by : Half → Sector
-cell_by (under e) = get_or (at_cell 1 0 ∷ at_cell 0 0 ∷ at_cell 2 1 ∷ at_cell 11 0 ∷ at_cell 3 1 ∷ at_cell 0 0 ∷ at_cell 4 2 ∷ at_cell 8 1 ∷ at_cell 5 2 ∷ at_cell 5 3 ∷ at_cell 0 0 ∷ at_cell 9 1 ∷ []) e (at_cell 0 0)
-cell_by (over e) = get_or (at_cell 2 1 ∷ at_cell 1 2 ∷ at_cell 2 2 ∷ at_cell 0 0 ∷ at_cell 4 2 ∷ at_cell 3 3 ∷ at_cell 4 3 ∷ at_cell 0 0 ∷ at_cell 5 3 ∷ at_cell 5 4 ∷ at_cell 6 4 ∷ at_cell 9 2 ∷ []) e (at_cell 0 0)
+cell_by (under e) =
+    get_or (at_cell 1 0 ∷ at_cell 0 0 ∷ at_cell 2 1 ∷ at_cell 11 0 ∷ at_cell 3 1 ∷ at_cell 0 0
+    ∷ at_cell 4 2 ∷ at_cell 8 1 ∷ at_cell 5 2 ∷ at_cell 5 3 ∷ at_cell 0 0 ∷ at_cell 9 1 ∷ []) e
+    (at_cell 0 0)
+cell_by (over e) =
+    get_or (at_cell 2 1 ∷ at_cell 1 2 ∷ at_cell 2 2 ∷ at_cell 0 0 ∷ at_cell 4 2 ∷ at_cell 3 3
+    ∷ at_cell 4 3 ∷ at_cell 0 0 ∷ at_cell 5 3 ∷ at_cell 5 4 ∷ at_cell 6 4 ∷ at_cell 9 2 ∷ []) e
+    (at_cell 0 0)
 
 abbrev event_by : Half → ℕ
 event_by (under e) = get_or (0 ∷ 1 ∷ 0 ∷ 0 ∷ 0 ∷ 3 ∷ 0 ∷ 0 ∷ 0 ∷ 0 ∷ 5 ∷ 0 ∷ []) e 0
@@ -76,7 +89,13 @@ module _ (w : Window2) where
         ∷ straight (at_point (pos 6) (pos 8)) (at_point (pos 8) (pos 4)) 11
         ∷ straight (at_point (pos 11) (pos 11)) (at_point (pos 10) (pos 10)) 12
         ∷ [];
-    points = record { at = at_point (pos 1) (pos 6); line = 13 } ∷ record { at = at_point (pos 3) (pos 6); line = 14 } ∷ record { at = at_point (pos 6) (pos 5); line = 15 } ∷ [];
+    points = record {
+      at = at_point (pos 1) (pos 6);
+      line = 13;
+    } ∷ record {
+      at = at_point (pos 3) (pos 6);
+      line = 14;
+    } ∷ record { at = at_point (pos 6) (pos 5); line = 15 } ∷ [];
   }
 
   ring_run : IsRunOf ring edge steps
@@ -87,19 +106,25 @@ module _ (w : Window2) where
   r = drawn (pos 0) ring edge steps
 
   certificate : Certified ring r labels rank link
-  certificate = certified_by_test r ring labels rank link strip index cell_by event_by lower upper refl refl refl
+  certificate =
+      certified_by_test r ring labels rank link strip index cell_by event_by lower upper refl refl
+      refl
 
   pub ring_holds : IsPartition ring
   ring_holds = run_partition ring edge steps labels rank link (pos 0) ring_run certificate
 
-  -- what the laws say of it: no two of the ring, the hole and the island are joined, and the island's point is not outer
-  pub ring_and_hole : Joined ring (point (at_point (pos 1) (pos 6))) (point (at_point (pos 3) (pos 6)))
+  -- what the laws say of it: no two of the ring, the hole and the island are joined, and the
+  -- island's point is not outer
+  pub ring_and_hole : Joined ring (point (at_point (pos 1) (pos 6)))
+      (point (at_point (pos 3) (pos 6)))
       → ⊥
   ring_and_hole = ring_holds.alone 0 1 (omega arith) (omega arith) (λ e. absurd (omega (arith, e)))
 
-  pub island_and_hole : Joined ring (point (at_point (pos 6) (pos 5))) (point (at_point (pos 3) (pos 6)))
+  pub island_and_hole : Joined ring (point (at_point (pos 6) (pos 5)))
+      (point (at_point (pos 3) (pos 6)))
       → ⊥
-  island_and_hole = ring_holds.alone 2 1 (omega arith) (omega arith) (λ e. absurd (omega (arith, e)))
+  island_and_hole =
+      ring_holds.alone 2 1 (omega arith) (omega arith) (λ e. absurd (omega (arith, e)))
 
   pub island : IsOuter ring (point (at_point (pos 6) (pos 5))) → ⊥
   island = ring_holds.bounded 2 (omega arith)

@@ -1,4 +1,5 @@
--- A quarter of a disc, by two straights and a half arc with its third point on the right: its tube, its run and its labels meet the
+-- A quarter of a disc, by two straights and a half arc with its third point on the right: its tube,
+-- its run and its labels meet the
 -- premises of the laws on tubes, beside those of straights.
 use Rattle.std.proofs.Common.{◌≡◌, ℕ, zero, suc, ◌<◌, List, [], ◌∷◌, ℤ, get_or, inl, inr, refl}
 use Rattle.std.proofs.Common.{arith}
@@ -24,18 +25,49 @@ use Rattle.plane.proofs.Worked.CircleRun.{at_point, from_to}
 use Rattle.plane.proofs.Covers.CurvePlaces.{no_kind}
 
 abbrev rim : HalfArc
-rim = record { from = at_point 500000 510000; to = at_point 510000 500000; third = at_point 490000 500000 }
+rim = record {
+  from = at_point 500000 510000;
+  to = at_point 510000 500000;
+  third = at_point 490000 500000;
+}
 
 abbrev rim_bays : List Bay
-rim_bays = record { outer = at_point 504266 510301; inner = at_point 507071 507071 } ∷ record { outer = at_point 510301 504266; inner = at_point 510000 500000 } ∷ []
+rim_bays = record {
+  outer = at_point 504266 510301;
+  inner = at_point 507071 507071;
+} ∷ record {
+  outer = at_point 510301 504266;
+  inner = at_point 510000 500000;
+} ∷ []
 
 rim_tube : IsTube rim rim_bays
 unfolding bend circle_x circle_y facing power along outward distance ahead_of_from ahead_of_to
 rim_tube = record {
   circle = omega (arith, ints);
   facing = omega (arith, ints);
-  are_bays = (record { up = omega (arith, ints); on = omega (arith, ints); over = omega (arith, ints) }, (record { up = omega (arith, ints); on = omega (arith, ints); over = omega (arith, ints) }, tt));
-  are_next = (record { under = omega (arith, ints); first_far = omega (arith, ints); second_far = omega (arith, ints) }, (tt, tt));
+  are_bays = (
+    record {
+      up = omega (arith, ints);
+      on = omega (arith, ints);
+      over = omega (arith, ints);
+    },
+    (
+      record {
+        up = omega (arith, ints);
+        on = omega (arith, ints);
+        over = omega (arith, ints);
+      },
+      tt,
+    ),
+  );
+  are_next = (
+    record {
+      under = omega (arith, ints);
+      first_far = omega (arith, ints);
+      second_far = omega (arith, ints);
+    },
+    (tt, tt),
+  );
   ends = refl;
   inside = (inl (omega (arith, ints)), (inr refl, tt));
   first_clear = omega (arith, ints);
@@ -60,12 +92,48 @@ edge e = get_or edges e (from_to 0 0 1 0)
 
 abbrev pub steps : List Step
 steps =
-    record { at = at_point 500000 500000; below = []; ending = []; starting = 0 ∷ 6 ∷ []; above = [] }
-    ∷ record { at = at_point 500000 510000; below = 0 ∷ []; ending = 6 ∷ []; starting = 1 ∷ 3 ∷ []; above = [] }
-    ∷ record { at = at_point 504266 510301; below = 0 ∷ 1 ∷ []; ending = 3 ∷ []; starting = 4 ∷ []; above = [] }
-    ∷ record { at = at_point 507071 507071; below = 0 ∷ []; ending = 1 ∷ []; starting = 2 ∷ []; above = 4 ∷ [] }
-    ∷ record { at = at_point 510000 500000; below = []; ending = 0 ∷ 2 ∷ []; starting = 5 ∷ []; above = 4 ∷ [] }
-    ∷ record { at = at_point 510301 504266; below = []; ending = 5 ∷ 4 ∷ []; starting = []; above = [] }
+    record {
+      at = at_point 500000 500000;
+      below = [];
+      ending = [];
+      starting = 0 ∷ 6 ∷ [];
+      above = [];
+    }
+    ∷ record {
+      at = at_point 500000 510000;
+      below = 0 ∷ [];
+      ending = 6 ∷ [];
+      starting = 1 ∷ 3 ∷ [];
+      above = [];
+    }
+    ∷ record {
+      at = at_point 504266 510301;
+      below = 0 ∷ 1 ∷ [];
+      ending = 3 ∷ [];
+      starting = 4 ∷ [];
+      above = [];
+    }
+    ∷ record {
+      at = at_point 507071 507071;
+      below = 0 ∷ [];
+      ending = 1 ∷ [];
+      starting = 2 ∷ [];
+      above = 4 ∷ [];
+    }
+    ∷ record {
+      at = at_point 510000 500000;
+      below = [];
+      ending = 0 ∷ 2 ∷ [];
+      starting = 5 ∷ [];
+      above = 4 ∷ [];
+    }
+    ∷ record {
+      at = at_point 510301 504266;
+      below = [];
+      ending = 5 ∷ 4 ∷ [];
+      starting = [];
+      above = [];
+    }
     ∷ []
 
 quarter_runs : Run 7 edge steps
@@ -120,9 +188,13 @@ module _ (w : Window2) where
   pub quarter_labels : (u : ℤ)
       → AreTubeLabels quarter bays (replay u 7 edge steps) labels within inside outside
   unfolding same_point bend
-  quarter_labels u = labels_by_test quarter bays (replay u 7 edge steps) labels within inside outside refl refl
+  quarter_labels u =
+      labels_by_test quarter bays (replay u 7 edge steps) labels within inside outside refl refl
 
   -- so its tube is one of the run
   pub quarter_tubes : (u : ℤ) → WeighedRun u 7 edge steps
-      → AreTubes (replay u 7 edge steps) labels (tubes quarter bays within inside outside) (MeetsArc quarter)
-  quarter_tubes u s = are_tubes u quarter bays 7 edge steps labels within inside outside s quarter_run (quarter_labels u)
+      → AreTubes (replay u 7 edge steps) labels (tubes quarter bays within inside outside)
+      (MeetsArc quarter)
+  quarter_tubes u s =
+      are_tubes u quarter bays 7 edge steps labels within inside outside s quarter_run
+      (quarter_labels u)

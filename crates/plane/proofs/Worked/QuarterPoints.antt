@@ -35,7 +35,9 @@ module _ (w : Window2) where
   settled : IsSettledRun (quarter w) bays 7 edge
   settled =
       let u = run_weight 7 edge steps [] (quarter_run w).run in
-      labels_settle (quarter w) bays 7 edge steps (quarter_run w) wide u.weight u.swept labels within inside outside (quarter_labels w u.weight)
+      labels_settle (quarter w) bays 7 edge steps
+      (quarter_run w) wide u.weight u.swept labels within inside outside
+      (quarter_labels w u.weight)
 
   -- the half-edges over the inner edges and under the first two outer ones face the tube of curve 1
   over_inner : faced (quarter w) bays edge (over 1) ≡ 2
@@ -82,14 +84,17 @@ module _ (w : Window2) where
 
       above : (e : ℕ) → AtBefore (r.list 3) 2 e
           → pos 0 <ℤ side (r.edge e) (point (at_point 506000 508000))
-      above e b = subst (λ (x : ℕ). pos 0 <ℤ side (r.edge x) (point (at_point 506000 508000))) (sym b) (omega (arith, ints))
+      above e b = subst (λ (x : ℕ). pos 0 <ℤ side (r.edge x) (point (at_point 506000 508000)))
+          (sym b) (omega (arith, ints))
 
       below : (e : ℕ) → At (r.list 3) 2 e
           → side (r.edge e) (point (at_point 506000 508000)) <ℤ pos 0
-      below e b = subst (λ (x : ℕ). side (r.edge x) (point (at_point 506000 508000)) <ℤ pos 0) (sym b) (omega (arith, ints))
+      below e b = subst (λ (x : ℕ). side (r.edge x) (point (at_point 506000 508000)) <ℤ pos 0)
+          (sym b) (omega (arith, ints))
 
   lies : LiesInTube (quarter w) bays 1 (at_point 506000 508000)
-  lies = in_cell (quarter w) bays 7 edge steps (quarter_run w) wide settled (at_point 506000 508000) (pos 0) 3 2 located 1 1 refl over_inner
+  lies = in_cell (quarter w) bays 7 edge steps (quarter_run w) wide settled (at_point 506000 508000)
+      (pos 0) 3 2 located 1 1 refl over_inner
 
   -- and on the half arc
   on_circle : power (arc (curve (quarter w) 1)) (point (at_point 506000 508000)) ≡ pos 0

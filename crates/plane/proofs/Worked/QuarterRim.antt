@@ -1,4 +1,5 @@
--- The quarter of a disc with its point in the tube of the half arc, inside the circle: a certificate whose point is placed by tube and side.
+-- The quarter of a disc with its point in the tube of the half arc, inside the circle: a
+-- certificate whose point is placed by tube and side.
 use Rattle.std.proofs.Common.{◌≡◌, ℕ, zero, suc, [], ◌∷◌, pos, get_or, inl, inr, refl, arith}
 use Rattle.std.proofs.lemmas.Int.{ints}
 use Rattle.plane.specs.declared.window.Window2.{Window2}
@@ -41,7 +42,10 @@ module _ (w : Window2) where
   rim = record (quarter w) { points = record { at = at_point 509000 503700; line = 4 } ∷ [] }
 
   rim_run : IsTubedRun rim bays 7 edge steps
-  rim_run = run_without (quarter w) (record { at = at_point 509000 503700; line = 4 } ∷ []) bays 7 edge steps (quarter_run w)
+  rim_run = run_without (quarter w) (record {
+    at = at_point 509000 503700;
+    line = 4;
+  } ∷ []) bays 7 edge steps (quarter_run w)
 
   rim_labels : AreTubeLabels rim bays r labels within inside outside
   unfolding same_point bend
@@ -54,7 +58,17 @@ module _ (w : Window2) where
     number = 1;
     fits = omega arith;
     bent = refl;
-    holds = inl (inr (inl (record { i = pos 1075940; j = pos 1095497; k = pos 753260; i_least = omega (arith, ints); j_least = omega (arith, ints); k_least = omega (arith, ints); some = omega (arith, ints); is = record { x = refl; y = refl } })));
+    holds = inl (inr
+        (inl (record {
+          i = pos 1075940;
+          j = pos 1095497;
+          k = pos 753260;
+          i_least = omega (arith, ints);
+          j_least = omega (arith, ints);
+          k_least = omega (arith, ints);
+          some = omega (arith, ints);
+          is = record { x = refl; y = refl };
+        })));
     side = inl (omega (arith, ints), refl);
   }
 
@@ -76,35 +90,66 @@ module _ (w : Window2) where
 
   side_one : BoundsSide rim bays r within inside outside (under 1) 0
   unfolding in_tube bend circle_x circle_y power
-  side_one = record { place = in_tube; edge = 1; fits = omega arith; of_curve = refl; side = inl (refl, omega (arith, ints)); is = refl }
+  side_one = record {
+    place = in_tube;
+    edge = 1;
+    fits = omega arith;
+    of_curve = refl;
+    side = inl (refl, omega (arith, ints));
+    is = refl;
+  }
 
   side_two : BoundsSide rim bays r within inside outside (under 2) 0
   unfolding in_tube bend circle_x circle_y power
-  side_two = record { place = in_tube; edge = 2; fits = omega arith; of_curve = refl; side = inl (refl, omega (arith, ints)); is = refl }
+  side_two = record {
+    place = in_tube;
+    edge = 2;
+    fits = omega arith;
+    of_curve = refl;
+    side = inl (refl, omega (arith, ints));
+    is = refl;
+  }
 
   links : AreLeads r (mark labels) rank link Root
-  links (under zero) l = border (under 0) (at_cell 1 0) refl (record { strip = omega arith; index = omega arith }) refl (inl refl)
+  links (under zero) l =
+      border (under 0) (at_cell 1 0) refl (record { strip = omega arith; index = omega arith }) refl
+      (inl refl)
   links (under (suc zero)) l = beyond 1 side_one refl
   links (under (suc (suc zero))) l = beyond 2 side_two refl
   links (under (suc (suc (suc zero)))) l = inl (3, l, tt, refl)
   links (under (suc (suc (suc (suc zero))))) l = inl (4, l, tt, refl)
-  links (under (suc (suc (suc (suc (suc zero)))))) l = border (under 5) (at_cell 5 0) refl (record { strip = omega arith; index = omega arith }) refl (inl refl)
-  links (under (suc (suc (suc (suc (suc (suc zero))))))) l = ((at_cell 1 1, record { strip = omega arith; index = omega arith }, refl, refl), record { fits = omega arith; kept = refl; less = omega arith })
+  links (under (suc (suc (suc (suc (suc zero)))))) l =
+      border (under 5) (at_cell 5 0) refl (record { strip = omega arith; index = omega arith }) refl
+      (inl refl)
+  links (under (suc (suc (suc (suc (suc (suc zero))))))) l = (
+    (at_cell 1 1, record { strip = omega arith; index = omega arith }, refl, refl),
+    record { fits = omega arith; kept = refl; less = omega arith },
+  )
   links (under (suc (suc (suc (suc (suc (suc (suc e)))))))) l = absurd (omega (arith, l))
-  links (over zero) l = ((at_cell 2 1, record { strip = omega arith; index = omega arith }, refl, refl), record { fits = omega arith; kept = refl; less = omega arith })
+  links (over zero) l = (
+    (at_cell 2 1, record { strip = omega arith; index = omega arith }, refl, refl),
+    record { fits = omega arith; kept = refl; less = omega arith },
+  )
   links (over (suc zero)) l = inl (1, l, tt, refl)
   links (over (suc (suc zero))) l = inl (2, l, tt, refl)
-  links (over (suc (suc (suc zero)))) l = border (over 3) (at_cell 2 3) refl (record { strip = omega arith; index = omega arith }) refl (inr refl)
-  links (over (suc (suc (suc (suc zero))))) l = border (over 4) (at_cell 3 3) refl (record { strip = omega arith; index = omega arith }) refl (inr refl)
+  links (over (suc (suc (suc zero)))) l =
+      border (over 3) (at_cell 2 3) refl (record { strip = omega arith; index = omega arith }) refl
+      (inr refl)
+  links (over (suc (suc (suc (suc zero))))) l =
+      border (over 4) (at_cell 3 3) refl (record { strip = omega arith; index = omega arith }) refl
+      (inr refl)
   links (over (suc (suc (suc (suc (suc zero)))))) l = inl (5, l, tt, refl)
-  links (over (suc (suc (suc (suc (suc (suc zero))))))) l = border (over 6) (at_cell 1 2) refl (record { strip = omega arith; index = omega arith }) refl (inr refl)
+  links (over (suc (suc (suc (suc (suc (suc zero))))))) l =
+      border (over 6) (at_cell 1 2) refl (record { strip = omega arith; index = omega arith }) refl
+      (inr refl)
   links (over (suc (suc (suc (suc (suc (suc (suc e)))))))) l = absurd (omega (arith, l))
 
   certificate : CertifiedCurves rim bays r labels within inside outside rank link
   certificate = record { labels = rim_labels; placed = placed; links = links }
 
   pub rim_holds : IsPartition rim
-  rim_holds = tubed_partition (pos 0) rim bays 7 edge steps labels within inside outside rank link rim_run certificate
+  rim_holds = tubed_partition (pos 0) rim bays 7 edge steps labels within inside outside rank link
+      rim_run certificate
 
   -- what the laws say of it: the point is not outer
   pub rim_inside : IsOuter rim (point (object rim 0)) → ⊥

@@ -20,4 +20,6 @@ module _ (w : Window2) where
   sides (suc (suc (suc (suc (suc (suc (suc e))))))) l p k = absurd (omega (arith, l))
 
   pub quarter_uncut : HasNoCut (quarter w)
-  quarter_uncut = all_uncut (pos 0) (quarter w) bays 7 edge steps labels within inside outside (quarter_run w) (quarter_labels w (pos 0)) sides (λ i fits bent k. absurd (omega (arith, k)))
+  quarter_uncut =
+      all_uncut (pos 0) (quarter w) bays 7 edge steps labels within inside outside (quarter_run w)
+      (quarter_labels w (pos 0)) sides (λ i fits bent k. absurd (omega (arith, k)))

@@ -1,5 +1,7 @@
--- The square with a chord and one object's point in each of its two faces is a partition: a certificate from end to end.
--- The drawing, its run, labels, ranks, links and positions meet the premises of the laws, and the laws give true sentences of it.
+-- The square with a chord and one object's point in each of its two faces is a partition: a
+-- certificate from end to end.
+-- The drawing, its run, labels, ranks, links and positions meet the premises of the laws, and the
+-- laws give true sentences of it.
 use Rattle.std.proofs.Common.{ℕ, pos, [], ◌∷◌, get_or, refl, arith}
 use Rattle.plane.specs.declared.window.Window2.{Window2}
 use Rattle.plane.specs.Forms.Vectors.{point}
@@ -38,8 +40,12 @@ link (over e) = get_or (root ∷ root ∷ root ∷ root ∷ next (under 1) ∷ [
 
 -- the cell or the event that shows a link
 abbrev cell_by : Half → Sector
-cell_by (under e) = get_or (at_cell 1 0 ∷ at_cell 2 1 ∷ at_cell 0 0 ∷ at_cell 2 2 ∷ at_cell 3 0 ∷ []) e (at_cell 0 0)
-cell_by (over e) = get_or (at_cell 2 1 ∷ at_cell 2 2 ∷ at_cell 1 3 ∷ at_cell 2 3 ∷ at_cell 0 0 ∷ []) e (at_cell 0 0)
+cell_by (under e) =
+    get_or (at_cell 1 0 ∷ at_cell 2 1 ∷ at_cell 0 0 ∷ at_cell 2 2 ∷ at_cell 3 0 ∷ []) e
+    (at_cell 0 0)
+cell_by (over e) =
+    get_or (at_cell 2 1 ∷ at_cell 2 2 ∷ at_cell 1 3 ∷ at_cell 2 3 ∷ at_cell 0 0 ∷ []) e
+    (at_cell 0 0)
 
 abbrev event_by : Half → ℕ
 event_by (under e) = get_or (0 ∷ 0 ∷ 1 ∷ 0 ∷ 0 ∷ []) e 0
@@ -69,7 +75,10 @@ module _ (w : Window2) where
         ∷ straight (at_point (pos 4) (pos 4)) (at_point (pos 0) (pos 4)) 4
         ∷ straight (at_point (pos 4) (pos 0)) (at_point (pos 4) (pos 4)) 5
         ∷ [];
-    points = record { at = at_point (pos 3) (pos 1); line = 6 } ∷ record { at = at_point (pos 1) (pos 3); line = 7 } ∷ [];
+    points = record {
+      at = at_point (pos 3) (pos 1);
+      line = 6;
+    } ∷ record { at = at_point (pos 1) (pos 3); line = 7 } ∷ [];
   }
 
   square_run : IsRunOf square edge steps
@@ -80,15 +89,19 @@ module _ (w : Window2) where
   r = drawn (pos 0) square edge steps
 
   certificate : Certified square r labels rank link
-  certificate = certified_by_test r square labels rank link strip index cell_by event_by lower upper refl refl refl
+  certificate =
+      certified_by_test r square labels rank link strip index cell_by event_by lower upper refl refl
+      refl
 
   pub square_holds : IsPartition square
   square_holds = run_partition square edge steps labels rank link (pos 0) square_run certificate
 
-  -- what the laws say of it: the point under the chord is not outer, and not joined to the one over it
+  -- what the laws say of it: the point under the chord is not outer, and not joined to the one over
+  -- it
   pub inner_point : IsOuter square (point (at_point (pos 3) (pos 1))) → ⊥
   inner_point = square_holds.bounded 0 (omega arith)
 
-  pub two_faces : Joined square (point (at_point (pos 3) (pos 1))) (point (at_point (pos 1) (pos 3)))
+  pub two_faces : Joined square (point (at_point (pos 3) (pos 1)))
+      (point (at_point (pos 1) (pos 3)))
       → ⊥
   two_faces = square_holds.alone 0 1 (omega arith) (omega arith) (λ e. absurd (omega (arith, e)))

@@ -1,5 +1,7 @@
--- A square with the corners (0, 0), (4, 0), (4, 4), (0, 4) and the chord from (0, 0) to (4, 4): its steps are a complete run.
--- It has upright sides, three edges that start in one point, edges that end where another starts, and three that end together.
+-- A square with the corners (0, 0), (4, 0), (4, 4), (0, 4) and the chord from (0, 0) to (4, 4): its
+-- steps are a complete run.
+-- It has upright sides, three edges that start in one point, edges that end where another starts,
+-- and three that end together.
 use Rattle.std.proofs.Common.{ℕ, List, [], ◌∷◌, ℤ, pos, get_or, refl}
 use Rattle.plane.specs.declared.kinds.Point.{Point}
 use Rattle.plane.specs.Forms.Vectors.{Edge}
@@ -27,10 +29,34 @@ edge e = get_or edges e (from_to (pos 0) (pos 0) (pos 1) (pos 0))
 
 abbrev pub steps : List Step
 steps =
-    record { at = at_point (pos 0) (pos 0); below = []; ending = []; starting = 0 ∷ 1 ∷ 2 ∷ []; above = [] }
-    ∷ record { at = at_point (pos 0) (pos 4); below = 0 ∷ 1 ∷ []; ending = 2 ∷ []; starting = 3 ∷ []; above = [] }
-    ∷ record { at = at_point (pos 4) (pos 0); below = []; ending = 0 ∷ []; starting = 4 ∷ []; above = 1 ∷ 3 ∷ [] }
-    ∷ record { at = at_point (pos 4) (pos 4); below = []; ending = 4 ∷ 1 ∷ 3 ∷ []; starting = []; above = [] }
+    record {
+      at = at_point (pos 0) (pos 0);
+      below = [];
+      ending = [];
+      starting = 0 ∷ 1 ∷ 2 ∷ [];
+      above = [];
+    }
+    ∷ record {
+      at = at_point (pos 0) (pos 4);
+      below = 0 ∷ 1 ∷ [];
+      ending = 2 ∷ [];
+      starting = 3 ∷ [];
+      above = [];
+    }
+    ∷ record {
+      at = at_point (pos 4) (pos 0);
+      below = [];
+      ending = 0 ∷ [];
+      starting = 4 ∷ [];
+      above = 1 ∷ 3 ∷ [];
+    }
+    ∷ record {
+      at = at_point (pos 4) (pos 4);
+      below = [];
+      ending = 4 ∷ 1 ∷ 3 ∷ [];
+      starting = [];
+      above = [];
+    }
     ∷ []
 
 pub square_runs : Run 5 edge steps

@@ -1,4 +1,5 @@
--- The square with a chord as a timetable with positions: the moves make its steps, and each pair of neighbours is closed once.
+-- The square with a chord as a timetable with positions: the moves make its steps, and each pair of
+-- neighbours is closed once.
 use Rattle.std.proofs.Common.{◌≡◌, ◌↔◌, ℕ, zero, suc, ◌<◌, ◌⊎◌, Option, Some, None, inl, inr, List}
 use Rattle.std.proofs.Common.{[], ◌∷◌, map, get_or, pos, ◌<ℤ◌, refl, arith, sym, subst, take}
 use Rattle.std.proofs.lemmas.Int.{ints}
@@ -39,7 +40,8 @@ gap l u k = record { lower = l; upper = u; event = k }
 
 pub square_gaps : closed_gaps moves
     ≡ gap (Some 1) (Some 2) 0 ∷ gap (Some 2) None 0 ∷ gap None (Some 0) 0 ∷ gap (Some 0) (Some 1) 0
-    ∷ gap None (Some 4) 2 ∷ gap (Some 4) (Some 1) 2 ∷ gap (Some 1) (Some 3) 1 ∷ gap (Some 3) None 1 ∷ []
+    ∷ gap None (Some 4) 2 ∷ gap (Some 4) (Some 1) 2 ∷ gap (Some 1) (Some 3) 1 ∷ gap (Some 3) None 1
+    ∷ []
 square_gaps = refl
 
 -- ---- it is a timetable
@@ -63,7 +65,9 @@ pub run_events : (m : ℕ) (E : ℕ → Edge) (ss : List Step) → Run m E ss
 run_events m E ss run = record {
   rises = rising ss run.rises;
   ends = λ e l. (at_has (E e).low ss (run.ends e l).0, at_has (E e).high ss (run.ends e l).1);
-  events = λ p h. let (s, k, q) = has_step p ss h in subst (λ (x : Point). (e : ℕ) × (e < m) × (((E e).low ≡ x) ⊎ ((E e).high ≡ x))) (sym q) (run.events s k);
+  events = λ p h. let (s, k, q) = has_step p ss h in
+      subst (λ (x : Point). (e : ℕ) × (e < m) × (((E e).low ≡ x) ⊎ ((E e).high ≡ x))) (sym q)
+      (run.events s k);
   edges = run.edges;
 }
 
@@ -71,11 +75,13 @@ good : (k : ℕ) → k < 4 → GoodStep 5 edge (get_or steps k no_step)
 good k l = run_good 5 edge steps k square_runs l
 
 starts : (k : ℕ) (l : k < 4) (e : ℕ)
-    → Has e (get_or steps k no_step).starting ↔ ((e < 5) × ((edge e).low ≡ (get_or steps k no_step).at))
+    → Has e (get_or steps k no_step).starting
+    ↔ ((e < 5) × ((edge e).low ≡ (get_or steps k no_step).at))
 starts k l e = ((λ h. (good k l).starting_only e h), (λ a. (good k l).starting_all e a.0 a.1))
 
 ends : (k : ℕ) (l : k < 4) (e : ℕ)
-    → Has e (get_or steps k no_step).ending ↔ ((e < 5) × ((edge e).high ≡ (get_or steps k no_step).at))
+    → Has e (get_or steps k no_step).ending
+    ↔ ((e < 5) × ((edge e).high ≡ (get_or steps k no_step).at))
 ends k l e = ((λ h. (good k l).ending_only e h), (λ a. (good k l).ending_all e a.0 a.1))
 
 turned : (e : ℕ) → Has e (1 ∷ 3 ∷ 4 ∷ []) → Has e (4 ∷ 1 ∷ 3 ∷ [])
@@ -91,24 +97,45 @@ back e (inr (inr (inl q))) = inr (inl q)
 back e (inr (inr (inr n))) = absurd n
 
 first : IsTimed 5 edge (get_or table 0 no_event)
-first = record { starting = starts 0 (omega arith); by_slope = (inl (omega (arith, ints)), (inl (omega (arith, ints)), (tt, tt))); ending = ends 0 (omega arith); by_number = tt }
+first = record {
+  starting = starts 0 (omega arith);
+  by_slope = (inl (omega (arith, ints)), (inl (omega (arith, ints)), (tt, tt)));
+  ending = ends 0 (omega arith);
+  by_number = tt;
+}
 
 second : IsTimed 5 edge (get_or table 1 no_event)
-second = record { starting = starts 1 (omega arith); by_slope = (tt, tt); ending = ends 1 (omega arith); by_number = (tt, tt) }
+second = record {
+  starting = starts 1 (omega arith);
+  by_slope = (tt, tt);
+  ending = ends 1 (omega arith);
+  by_number = (tt, tt);
+}
 
 third : IsTimed 5 edge (get_or table 2 no_event)
-third = record { starting = starts 2 (omega arith); by_slope = (tt, tt); ending = ends 2 (omega arith); by_number = (tt, tt) }
+third = record {
+  starting = starts 2 (omega arith);
+  by_slope = (tt, tt);
+  ending = ends 2 (omega arith);
+  by_number = (tt, tt);
+}
 
 fourth : IsTimed 5 edge (get_or table 3 no_event)
 fourth = record {
   starting = starts 3 (omega arith);
   by_slope = tt;
-  ending = λ e. ((λ h. (ends 3 (omega arith) e).0 (turned e h)), (λ a. back e ((ends 3 (omega arith) e).1 a)));
+  ending = λ e. (
+    (λ h. (ends 3 (omega arith) e).0 (turned e h)),
+    (λ a. back e ((ends 3 (omega arith) e).1 a)),
+  );
   by_number = (omega arith, (omega arith, (tt, tt)));
 }
 
 pub square_timetable : IsTimetable 5 edge table
-square_timetable = record { events = run_events 5 edge steps square_runs; timed = (first, (second, (third, (fourth, tt)))) }
+square_timetable = record {
+  events = run_events 5 edge steps square_runs;
+  timed = (first, (second, (third, (fourth, tt))));
+}
 
 -- ---- its moves pass their tests, and so are a run
 one_of : (P : ℕ → Type 0) (a : ℕ) → P a → (e : ℕ) → Has e (a ∷ []) → P e
@@ -122,16 +149,29 @@ three_of P a b c p q r e (inr (inr (inl i))) = subst P (sym i) r
 three_of P a b c p q r e (inr (inr (inr n))) = absurd n
 
 pass_first : PassesAt edge [] (get_or table 0 no_event) 0
-pass_first = record { block = omega arith; ends = λ e h. absurd h; below = λ i q. absurd (omega (arith, q)); above = λ l. absurd (omega (arith, l)); slopes = three }
+pass_first = record {
+  block = omega arith;
+  ends = λ e h. absurd h;
+  below = λ i q. absurd (omega (arith, q));
+  above = λ l. absurd (omega (arith, l));
+  slopes = three;
+}
   where
     three : (i : ℕ) → suc i < 3
-        → pos 0 <ℤ turn_at edge (get_or (0 ∷ 1 ∷ 2 ∷ []) i 0) (edge (get_or (0 ∷ 1 ∷ 2 ∷ []) (suc i) 0)).high
+        → pos 0 <ℤ turn_at edge (get_or (0 ∷ 1 ∷ 2 ∷ []) i 0)
+        (edge (get_or (0 ∷ 1 ∷ 2 ∷ []) (suc i) 0)).high
     three zero l = omega (arith, ints)
     three (suc zero) l = omega (arith, ints)
     three (suc (suc i)) l = absurd (omega (arith, l))
 
 pass_second : PassesAt edge (0 ∷ 1 ∷ 2 ∷ []) (get_or table 1 no_event) 2
-pass_second = record { block = omega arith; ends = one_of (λ e. (edge e).high ≡ at_point (pos 0) (pos 4)) 2 refl; below = lower; above = λ l. absurd (omega (arith, l)); slopes = λ i l. absurd (omega (arith, l)) }
+pass_second = record {
+  block = omega arith;
+  ends = one_of (λ e. (edge e).high ≡ at_point (pos 0) (pos 4)) 2 refl;
+  below = lower;
+  above = λ l. absurd (omega (arith, l));
+  slopes = λ i l. absurd (omega (arith, l));
+}
   where
     lower : (i : ℕ) → 2 ≡ suc i
         → pos 0 <ℤ turn_at edge (get_or (0 ∷ 1 ∷ 2 ∷ []) i 0) (at_point (pos 0) (pos 4))
@@ -140,7 +180,13 @@ pass_second = record { block = omega arith; ends = one_of (λ e. (edge e).high �
     lower (suc (suc i)) q = absurd (omega (arith, q))
 
 pass_third : PassesAt edge (0 ∷ 1 ∷ 3 ∷ []) (get_or table 2 no_event) 0
-pass_third = record { block = omega arith; ends = one_of (λ e. (edge e).high ≡ at_point (pos 4) (pos 0)) 0 refl; below = λ i q. absurd (omega (arith, q)); above = λ l. omega (arith, ints); slopes = λ i l. absurd (omega (arith, l)) }
+pass_third = record {
+  block = omega arith;
+  ends = one_of (λ e. (edge e).high ≡ at_point (pos 4) (pos 0)) 0 refl;
+  below = λ i q. absurd (omega (arith, q));
+  above = λ l. omega (arith, ints);
+  slopes = λ i l. absurd (omega (arith, l));
+}
 
 pass_fourth : PassesAt edge (4 ∷ 1 ∷ 3 ∷ []) (get_or table 3 no_event) 0
 pass_fourth = record {
@@ -153,7 +199,12 @@ pass_fourth = record {
 
 pub square_run_by_tests : Run 5 edge (steps_from [] moves)
 square_run_by_tests =
-    let goes : (k : ℕ) → k < 4 → AreGood 5 edge [] (take k moves) → PassesAt edge (live_from [] (take k moves)) (get_or table k no_event) (get_or places k 0) → AreGood 5 edge [] (take (suc k) moves) =
+    let goes : (k : ℕ) → k < 4 → AreGood 5 edge [] (take k moves)
+    → PassesAt edge (live_from [] (take k moves)) (get_or table k no_event) (get_or places k 0)
+    → AreGood 5 edge [] (take (suc k) moves) =
     λ k l. table_goes_on 5 edge table places square_timetable refl k l in
     timetable_run 5 edge table places square_timetable refl
-    (goes 3 (omega arith) (goes 2 (omega arith) (goes 1 (omega arith) (goes 0 (omega arith) tt pass_first) pass_second) pass_third) pass_fourth)
+    (goes 3 (omega arith)
+    (goes 2 (omega arith)
+    (goes 1 (omega arith) (goes 0 (omega arith) tt pass_first) pass_second) pass_third)
+    pass_fourth)

@@ -40,10 +40,12 @@ low_kept (suc (suc (suc k))) i l j h e a b = absurd (omega arith)
 
 high_kept : (k i l j : ℕ) → k < 3 → l ≡ suc k → i ≤ length (triangle.list k)
     → length (triangle.step k).below + length (triangle.step k).ending ≤ i
-    → j + length (triangle.step k).ending ≡ i + length (triangle.step k).starting → label k i ≡ label l j
+    → j + length (triangle.step k).ending ≡ i + length (triangle.step k).starting
+    → label k i ≡ label l j
 high_kept zero i l j h e t a b = label_eq 0 i l j 0 1 2 (omega arith) e (omega arith) refl
 high_kept (suc zero) i l j h e t a b = label_eq 1 i l j 2 2 2 (omega arith) e (omega arith) refl
-high_kept (suc (suc zero)) i l j h e t a b = label_eq 2 i l j 2 3 0 (omega arith) e (omega arith) refl
+high_kept (suc (suc zero)) i l j h e t a b =
+    label_eq 2 i l j 2 3 0 (omega arith) e (omega arith) refl
 high_kept (suc (suc (suc k))) i l j h e t a b = absurd (omega arith)
 
 kept : (c d : Sector) → Opens triangle c d → label c.strip c.index ≡ label d.strip d.index
@@ -59,8 +61,13 @@ middle_off = each_edge (λ e. On (pos 4) (edge e) middle → ⊥)
 
 middle_not_outer : IsOuterByEdges triangle middle → ⊥
 middle_not_outer h =
-    let l = outer_linked triangle (swept_run (pos 4) 3 edge steps triangle_swept) (swept_lawful (pos 4) 3 edge steps triangle_swept) middle (omega (arith, ints)) middle_off h in
-    let e : label (sector triangle middle).strip (sector triangle middle).index ≡ label 0 0 = linked_keeps triangle (λ c. label c.strip c.index) kept (sector triangle middle) corner l in
-    let i : label (sector triangle middle).strip (sector triangle middle).index ≡ 1 = ap (λ (c : Sector). label c.strip c.index) inside in
+    let l = outer_linked triangle (swept_run (pos 4) 3 edge steps triangle_swept)
+    (swept_lawful (pos 4) 3 edge steps triangle_swept) middle
+    (omega (arith, ints)) middle_off h in
+    let e : label (sector triangle middle).strip (sector triangle middle).index
+    ≡ label 0 0 =
+    linked_keeps triangle (λ c. label c.strip c.index) kept (sector triangle middle) corner l in
+    let i : label (sector triangle middle).strip (sector triangle middle).index
+    ≡ 1 = ap (λ (c : Sector). label c.strip c.index) inside in
     let z : 1 ≡ 0 = sym i ∙ e in
     omega (arith, z)

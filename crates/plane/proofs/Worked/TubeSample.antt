@@ -1,4 +1,5 @@
--- A small tube of two bays: its triangles, its bounds and its labels are as wanted, and its turning numbers compute.
+-- A small tube of two bays: its triangles, its bounds and its labels are as wanted, and its turning
+-- numbers compute.
 use Rattle.std.proofs.Common.{◌≡◌, ℕ, zero, suc, ◌<◌, List, [], ◌∷◌, pos, inl, inr, refl, arith, ap}
 use Rattle.std.proofs.lemmas.Int.{ints}
 use Rattle.plane.specs.declared.kinds.Point.{Point}
@@ -59,17 +60,50 @@ steps = record { at = at_point 0 0; below = []; ending = []; starting = 0 ∷ 2 
 
 tiled : IsTiled (pos 4) (tiles (at_point 0 0) (bay ∷ bays))
 unfolding side sweep
-tiled = ((omega (arith, ints), record { ab = λ e. omega (arith, ints, e); bc = λ e. omega (arith, ints, e); ca = λ e. omega (arith, ints, e) }), ((omega (arith, ints), record { ab = λ e. omega (arith, ints, e); bc = λ e. omega (arith, ints, e); ca = λ e. omega (arith, ints, e) }), ((omega (arith, ints), record { ab = λ e. omega (arith, ints, e); bc = λ e. omega (arith, ints, e); ca = λ e. omega (arith, ints, e) }), tt)))
+tiled = (
+  (
+    omega (arith, ints),
+    record {
+      ab = λ e. omega (arith, ints, e);
+      bc = λ e. omega (arith, ints, e);
+      ca = λ e. omega (arith, ints, e);
+    },
+  ),
+  (
+    (
+      omega (arith, ints),
+      record {
+        ab = λ e. omega (arith, ints, e);
+        bc = λ e. omega (arith, ints, e);
+        ca = λ e. omega (arith, ints, e);
+      },
+    ),
+    (
+      (
+        omega (arith, ints),
+        record {
+          ab = λ e. omega (arith, ints, e);
+          bc = λ e. omega (arith, ints, e);
+          ca = λ e. omega (arith, ints, e);
+        },
+      ),
+      tt,
+    ),
+  ),
+)
 
-inside : total (turning (pos 4) (record { x = pos 8; y = pos 5; n = pos 2 })) (bounds (at_point 0 0) (bay ∷ bays)) ≡ pos 1
+inside : total (turning (pos 4) (record { x = pos 8; y = pos 5; n = pos 2 }))
+    (bounds (at_point 0 0) (bay ∷ bays)) ≡ pos 1
 unfolding side sweep lead turning
 inside = refl
 
-beneath : total (turning (pos 4) (point (at_point 4 1))) (bounds (at_point 0 0) (bay ∷ bays)) ≡ pos 0
+beneath : total (turning (pos 4) (point (at_point 4 1))) (bounds (at_point 0 0) (bay ∷ bays))
+    ≡ pos 0
 unfolding side sweep lead turning
 beneath = refl
 
-inside_label : label_of labels (replay (pos 4) 5 edge steps) (sector (replay (pos 4) 5 edge steps) (record { x = pos 8; y = pos 5; n = pos 2 })) ≡ 1
+inside_label : label_of labels (replay (pos 4) 5 edge steps)
+    (sector (replay (pos 4) 5 edge steps) (record { x = pos 8; y = pos 5; n = pos 2 })) ≡ 1
 unfolding side sweep
 inside_label = refl
 
@@ -119,11 +153,21 @@ is_tube = record {
     some_label = λ e. omega (arith, e);
     fits = fits;
     once = (
-      λ m. not_among 0 2 1 3 4 (λ e. omega (arith, e)) (λ e. omega (arith, e)) (λ e. omega (arith, e)) (λ e. omega (arith, e)) m,
+      λ m. not_among 0 2 1 3 4 (λ e. omega (arith, e)) (λ e. omega (arith, e))
+          (λ e. omega (arith, e)) (λ e. omega (arith, e)) m,
       (
-        λ m. elim m [ inl e ↦ omega (arith, e) | inr n ↦ elim n [ inl e ↦ omega (arith, e) | inr o ↦ elim o [ inl e ↦ omega (arith, e) | inr p ↦ p ] ] ],
+        λ m. elim m [
+          | inl e ↦ omega (arith, e)
+          | inr n ↦ elim n [
+            | inl e ↦ omega (arith, e)
+            | inr o ↦ elim o [ inl e ↦ omega (arith, e) | inr p ↦ p ]
+          ]
+        ],
         (
-          λ m. elim m [ inl e ↦ omega (arith, e) | inr n ↦ elim n [ inl e ↦ omega (arith, e) | inr o ↦ o ] ],
+          λ m. elim m [
+            | inl e ↦ omega (arith, e)
+            | inr n ↦ elim n [ inl e ↦ omega (arith, e) | inr o ↦ o ]
+          ],
           (
             λ m. elim m [ inl e ↦ omega (arith, e) | inr n ↦ n ],
             (λ m. m, tt),

@@ -45,12 +45,18 @@ bounded_content a m = subst IsBoundedAttribute (attribute_out a) m
 
 bounded_parts : (a : AttributeSyntax) (as_ : Attributes) → AreBounded (and_attribute a as_)
     → IsBoundedAttribute a × AreBounded as_
-bounded_parts (an_attribute n o c) as_ m = (record { numbers = m.numbers.0; names = omega (arith, m.names) }, record { numbers = m.numbers.1; names = omega (arith, m.names) })
+bounded_parts (an_attribute n o c) as_ m = (
+  record { numbers = m.numbers.0; names = omega (arith, m.names) },
+  record { numbers = m.numbers.1; names = omega (arith, m.names) },
+)
 
 pub bounded_behind : (i : ℕ) (xs : List attribute.AttributeSyntax) (x : attribute.AttributeSyntax)
     → i < length xs → x ≡ get_or xs i x → AreBounded (attributes_of (drop i xs))
     → IsBoundedAttribute (attribute_of x) × AreBounded (attributes_of (drop (i + 1) xs))
-bounded_behind i xs x lt at m = bounded_parts (attribute_of x) (attributes_of (drop (i + 1) xs)) (subst (λ (l : List attribute.AttributeSyntax). AreBounded (attributes_of l)) (list_from i xs xs x refl lt at) m)
+bounded_behind i xs x lt at m =
+    bounded_parts (attribute_of x) (attributes_of (drop (i + 1) xs))
+    (subst (λ (l : List attribute.AttributeSyntax). AreBounded (attributes_of l))
+    (list_from i xs xs x refl lt at) m)
 
 bounded_own : (head : LineHead) (as_ : Attributes) (lists : List (List Ident))
     → IsSmallLine (a_line head as_ lists) → line_names (a_line head as_ lists) ≤ 4194304
@@ -61,20 +67,36 @@ pub bounded_line : (l : line.LineSyntax) → IsSmallLine (line_of l)
     → line_names (line_of l) ≤ 4194304
     → AreBounded (attributes_of (out-LineSyntax l).attributes.items)
 bounded_line l s f =
-    bounded_own (record { straights = (out-LineSyntax l).straights; arcs = (out-LineSyntax l).arcs; vertex = ident_of (out-LineSyntax l).vertex; overlap = option_map decimal_of (out-LineSyntax l).overlap })
+    bounded_own (record {
+      straights = (out-LineSyntax l).straights;
+      arcs = (out-LineSyntax l).arcs;
+      vertex = ident_of (out-LineSyntax l).vertex;
+      overlap = option_map decimal_of (out-LineSyntax l).overlap;
+    })
     (attributes_of (out-LineSyntax l).attributes.items) (lists_of (out-LineSyntax l).idents.items)
-    (subst IsSmallLine (line_out l) s) (subst (λ (k : LineSyntax). line_names k ≤ 4194304) (line_out l) f)
+    (subst IsSmallLine (line_out l) s)
+    (subst (λ (k : LineSyntax). line_names k ≤ 4194304) (line_out l) f)
 
 -- ---- scopes
 pub bounded_outside : (ds : List DomainSyntax) → AreBoundedDomains ds → IsBoundedScope (outside ds)
-bounded_outside ds b = record { above = record { each = λ i d lt. absurd (omega (arith, lt)); few = omega arith }; own = b; tables = omega arith }
+bounded_outside ds b =
+    record {
+      above = record { each = λ i d lt. absurd (omega (arith, lt)); few = omega arith };
+      own = b;
+      tables = omega arith;
+    }
 
 pub bounded_inside : (above : List DomainSyntax) (t : TopicSyntax) → AreBoundedDomains above
     → IsBoundedTopic t → IsBoundedScope (inside above t)
 bounded_inside above t a b = record {
   above = a;
   own = b.domains;
-  tables = omega (arith, b.few, length-map (table_names t.tables) (λ (x : Ident). x.text), length-map t.tables (λ (x : TableSyntax). x.name));
+  tables = omega (
+    arith,
+    b.few,
+    length-map (table_names t.tables) (λ (x : Ident). x.text),
+    length-map t.tables (λ (x : TableSyntax). x.name),
+  );
 }
 
 -- ---- what a name or a type stands for
@@ -82,23 +104,30 @@ pub name_small : (s : Scope) (name : List ℕ) (m : meanings.Meaning)
     → option_map meaning_of (Some m) ≡ meaning s name → IsBoundedScope s
     → IsSmallType (type_of m.counted.kind.now)
 name_small s name m e b =
-    let k : IfSome (meaning s name) (λ f. IsBounded f.kind) = meaning_kept IsBounded s name b.above.each b.own.each in
+    let k : IfSome (meaning s name) (λ f. IsBounded f.kind) = meaning_kept IsBounded s name
+    b.above.each b.own.each in
     (subst (λ (o : Option Meaning). IfSome o (λ f. IsBounded f.kind)) (sym e) k).numbers
 
 pub type_bounded : (s : Scope) (t : TypeSyntax) (m : meanings.Meaning)
     → option_map meaning_of (Some m) ≡ meant s t → IsBoundedScope s → IsBounded t
     → IsBounded (type_of m.counted.kind.now)
-type_bounded s t m e b k = subst (λ (o : Option Meaning). IfSome o (λ f. IsBounded f.kind)) (sym e) (meant_kept IsBounded s t b.above.each b.own.each k)
+type_bounded s t m e b k =
+    subst (λ (o : Option Meaning). IfSome o (λ f. IsBounded f.kind)) (sym e)
+    (meant_kept IsBounded s t b.above.each b.own.each k)
 
 pub scope_bounded : (s : Scope) (t : TypeSyntax) (m : meanings.Meaning)
     → option_map meaning_of (Some m) ≡ meant s t → IsBoundedScope s
     → IsBoundedScope (scope_of m.scope)
-scope_bounded s t m e b = subst (λ (o : Option Meaning). IfSome o (λ f. IsBoundedScope f.scope)) (sym e) (meant_scoped IsBoundedScope s t (bounded_outside s.above b.above) b)
+scope_bounded s t m e b =
+    subst (λ (o : Option Meaning). IfSome o (λ f. IsBoundedScope f.scope)) (sym e)
+    (meant_scoped IsBoundedScope s t (bounded_outside s.above b.above) b)
 
 pub value_bounded : (x : content.Content) (k : kind.TypeSyntax) → x ≡ contents.Value k
     → IsBoundedContent (content_of x) → IsBounded (type_of k)
 unfolding roll-Content roll
 value_bounded x k e b =
-    let seen : content_of x ≡ Value (type_of k) = ap content_of e ∙ fold-roll-Content Content TypeSyntax AttributeSyntax LineSyntax content_step type_step attribute_step line_step (opened.Value k) in
+    let seen : content_of x ≡ Value (type_of k) = ap content_of e
+    ∙ fold-roll-Content Content TypeSyntax AttributeSyntax LineSyntax content_step type_step
+    attribute_step line_step (opened.Value k) in
     let v = subst IsBoundedContent seen b in
     record { numbers = v.numbers; names = v.names }

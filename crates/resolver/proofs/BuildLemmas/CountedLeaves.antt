@@ -25,8 +25,10 @@ mutual
 -- one more element of a list
 pub leaves_behind : (i : ℕ) (xs read : List element.Element) (x : element.Element) → read ≡ xs
     → i < length read → x ≡ get_or read i x
-    → leaves (elements_of (drop i xs)) ≡ leaves_in (element_of x) + leaves (elements_of (drop (i + 1) xs))
-leaves_behind i xs read x r lt at = ap (λ (l : List element.Element). leaves (elements_of l)) (list_from i xs read x r lt at)
+    → leaves (elements_of (drop i xs))
+    ≡ leaves_in (element_of x) + leaves (elements_of (drop (i + 1) xs))
+leaves_behind i xs read x r lt at =
+    ap (λ (l : List element.Element). leaves (elements_of l)) (list_from i xs read x r lt at)
 
 -- the leaves of an element, its parts counted
 pub leaves_out : (e : element.Element)
@@ -37,5 +39,7 @@ leaves_out e = ap (λ (x : Element). leaves_in x) (element_out e)
 pub counted_form : (t : TypeSyntax) (es : Elements) (n : ℕ) → t ≡ Enumeration es
     → n ≡ counted_leaves t → type_names t ≤ 4194304 → resolved.Enumeration n ≡ form t
 counted_form t es n e counted few =
-    subst (λ (k : TypeSyntax). n ≡ counted_leaves k → type_names k ≤ 4194304 → resolved.Enumeration n ≡ form k) (sym e)
-    (λ c f. ap (λ (m : ℕ). resolved.Enumeration m) (omega (arith, c, f, leaves_named es))) counted few
+    subst (λ (k : TypeSyntax). n ≡ counted_leaves k → type_names k ≤ 4194304
+    → resolved.Enumeration n ≡ form k) (sym e)
+    (λ c f. ap (λ (m : ℕ). resolved.Enumeration m) (omega (arith, c, f, leaves_named es))) counted
+    few

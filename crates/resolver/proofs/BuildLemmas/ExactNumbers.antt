@@ -25,11 +25,18 @@ whole m q e = ap (λ (k : ℕ). m / 10 ^ k) e ∙ omega arith
 
 pub exact : (scale : ℕ) (d : Decimal) → d.scale ≤ scale
     → in_units scale d ≡ (d.digits *ℤ pos (10 ^ (scale - d.scale)))
-exact scale d le = ap (on_side_of d.digits) (whole (unsigned_abs d.digits * 10 ^ (scale - d.scale)) (d.scale - scale) (omega (arith, le))) ∙ sided d.digits (10 ^ (scale - d.scale))
+exact scale d le =
+    ap (on_side_of d.digits)
+    (whole (unsigned_abs d.digits * 10 ^ (scale - d.scale)) (d.scale - scale) (omega (arith, le)))
+    ∙ sided d.digits (10 ^ (scale - d.scale))
 
 bound : (scale : ℕ) (d : Decimal) → d.scale ≤ scale → is_long scale d ≡ false
     → IsBound scale d (in_units scale d)
-bound scale d le e = record { decimals = le; value = exact scale d le; digits = few_digits scale d e }
+bound scale d le e = record {
+  decimals = le;
+  value = exact scale d le;
+  digits = few_digits scale d e;
+}
 
 ordered : (low high : ℤ) → int_lt high low ≡ false → low ≤ℤ high
 ordered low high e = grind (arith, ints, e)
@@ -38,12 +45,22 @@ pub limits_kept : (scale : ℕ) (s : Span) → s.low.scale ≤ scale → s.high.
     → is_reversed scale s ≡ false → has_long_bound scale s ≡ false
     → AreLimits scale s (limits scale s)
 limits_kept scale s low high r l =
-    let kept : limits scale s ≡ record { low = in_units scale s.low; high = in_units scale s.high; scale = scale } =
-    ap (λ (b : Bool). cond (b || has_long_bound scale s) no_limits (record { low = in_units scale s.low; high = in_units scale s.high; scale = scale })) r
-    ∙ ap (λ (b : Bool). cond b no_limits (record { low = in_units scale s.low; high = in_units scale s.high; scale = scale })) l in
+    let kept : limits scale s ≡ record {
+      low = in_units scale s.low;
+      high = in_units scale s.high;
+      scale = scale;
+    } =
+    ap (λ (b : Bool). cond (b || has_long_bound scale s) no_limits
+    (record { low = in_units scale s.low; high = in_units scale s.high; scale = scale })) r
+    ∙ ap (λ (b : Bool). cond b no_limits (record {
+      low = in_units scale s.low;
+      high = in_units scale s.high;
+      scale = scale;
+    })) l in
     subst (AreLimits scale s) (sym kept) (record {
       low = bound scale s.low low (or-left_false (is_long scale s.low) (is_long scale s.high) l);
-      high = bound scale s.high high (or-right_false (is_long scale s.low) (is_long scale s.high) l);
+      high = bound scale s.high high
+          (or-right_false (is_long scale s.low) (is_long scale s.high) l);
       ordered = ordered (in_units scale s.low) (in_units scale s.high) r;
       decimals = refl;
     })
@@ -55,11 +72,18 @@ both false b e = absurd (true≢false (sym e))
 -- a whole number from 1 to 65,535
 length_kept_at : (d : Decimal) (z : ℤ) → d.digits ≡ z → (d.scale == 0) ≡ true
     → int_le (pos 1) z ≡ true → int_le z (pos 65535) ≡ true → IsLength d (unsigned_abs z)
-length_kept_at d (pos n) e w low high = record { whole = grind (arith, w); value = e; some = grind (arith, ints, low); few = grind (arith, ints, high) }
+length_kept_at d (pos n) e w low high =
+    record {
+      whole = grind (arith, w);
+      value = e;
+      some = grind (arith, ints, low);
+      few = grind (arith, ints, high);
+    }
 length_kept_at d (negsuc n) e w low high = absurd (true≢false (sym low))
 
 pub length_kept : (d : Decimal) → is_text_length d ≡ true → IsLength d (text_length d)
 length_kept d e =
     let w = both (d.scale == 0) (int_le (pos 1) d.digits && int_le d.digits (pos 65535)) e in
     let b = both (int_le (pos 1) d.digits) (int_le d.digits (pos 65535)) w.1 in
-    subst (IsLength d) (sym (ap (λ (t : Bool). cond t (unsigned_abs d.digits) 0) e)) (length_kept_at d d.digits refl w.0 b.0 b.1)
+    subst (IsLength d) (sym (ap (λ (t : Bool). cond t (unsigned_abs d.digits) 0) e))
+    (length_kept_at d d.digits refl w.0 b.0 b.1)

@@ -19,12 +19,33 @@ seen : (k : kind.TypeSyntax) (t : TypeSyntax) (l : kind.TypeSyntax) → k ≡ l 
 seen k t l e f = ap (λ (x : kind.TypeSyntax). spans (type_of x)) e ∙ ap spans f
 
 pub one_span : (k : kind.TypeSyntax) (s : span.Span)
-    → (k ≡ kinds.Dim1 s) ⊎ ((k ≡ kinds.Dim2 s) ⊎ ((k ≡ kinds.Radians s) ⊎ ((k ≡ kinds.Grads s) ⊎ ((k ≡ kinds.Degrees s) ⊎ (k ≡ kinds.Range s)))))
+    → (k ≡ kinds.Dim1 s)
+    ⊎ ((k ≡ kinds.Dim2 s)
+    ⊎ ((k ≡ kinds.Radians s)
+    ⊎ ((k ≡ kinds.Grads s) ⊎ ((k ≡ kinds.Degrees s) ⊎ (k ≡ kinds.Range s)))))
     → spans (type_of k) ≡ span_of s ∷ []
 unfolding roll-TypeSyntax roll
-one_span k s (inl e) = seen k (Dim1 (span_of s)) _ e (fold-roll-TypeSyntax Content TypeSyntax AttributeSyntax LineSyntax content_step type_step attribute_step line_step (opened.Dim1 s))
-one_span k s (inr (inl e)) = seen k (Dim2 (span_of s)) _ e (fold-roll-TypeSyntax Content TypeSyntax AttributeSyntax LineSyntax content_step type_step attribute_step line_step (opened.Dim2 s))
-one_span k s (inr (inr (inl e))) = seen k (Radians (span_of s)) _ e (fold-roll-TypeSyntax Content TypeSyntax AttributeSyntax LineSyntax content_step type_step attribute_step line_step (opened.Radians s))
-one_span k s (inr (inr (inr (inl e)))) = seen k (Grads (span_of s)) _ e (fold-roll-TypeSyntax Content TypeSyntax AttributeSyntax LineSyntax content_step type_step attribute_step line_step (opened.Grads s))
-one_span k s (inr (inr (inr (inr (inl e))))) = seen k (Degrees (span_of s)) _ e (fold-roll-TypeSyntax Content TypeSyntax AttributeSyntax LineSyntax content_step type_step attribute_step line_step (opened.Degrees s))
-one_span k s (inr (inr (inr (inr (inr e))))) = seen k (Range (span_of s)) _ e (fold-roll-TypeSyntax Content TypeSyntax AttributeSyntax LineSyntax content_step type_step attribute_step line_step (opened.Range s))
+one_span k s (inl e) =
+    seen k (Dim1 (span_of s)) _ e
+    (fold-roll-TypeSyntax Content TypeSyntax AttributeSyntax LineSyntax content_step type_step
+    attribute_step line_step (opened.Dim1 s))
+one_span k s (inr (inl e)) =
+    seen k (Dim2 (span_of s)) _ e
+    (fold-roll-TypeSyntax Content TypeSyntax AttributeSyntax LineSyntax content_step type_step
+    attribute_step line_step (opened.Dim2 s))
+one_span k s (inr (inr (inl e))) =
+    seen k (Radians (span_of s)) _ e
+    (fold-roll-TypeSyntax Content TypeSyntax AttributeSyntax LineSyntax content_step type_step
+    attribute_step line_step (opened.Radians s))
+one_span k s (inr (inr (inr (inl e)))) =
+    seen k (Grads (span_of s)) _ e
+    (fold-roll-TypeSyntax Content TypeSyntax AttributeSyntax LineSyntax content_step type_step
+    attribute_step line_step (opened.Grads s))
+one_span k s (inr (inr (inr (inr (inl e))))) =
+    seen k (Degrees (span_of s)) _ e
+    (fold-roll-TypeSyntax Content TypeSyntax AttributeSyntax LineSyntax content_step type_step
+    attribute_step line_step (opened.Degrees s))
+one_span k s (inr (inr (inr (inr (inr e))))) =
+    seen k (Range (span_of s)) _ e
+    (fold-roll-TypeSyntax Content TypeSyntax AttributeSyntax LineSyntax content_step type_step
+    attribute_step line_step (opened.Range s))

@@ -32,22 +32,28 @@ in_after (z ∷ zs) ys x h = inr (in_after zs ys x h)
 pub in_either : {X : Type 0} (xs ys : List X) (x : X) → In (xs ++ ys) x → In xs x ⊎ In ys x
 in_either [] ys x h = inr h
 in_either {X} (z ∷ zs) ys x (inl e) = inl (inl e)
-in_either {X} (z ∷ zs) ys x (inr h) = elim (in_either zs ys x h) as (λ _. In (z ∷ zs) x ⊎ In ys x) [ inl a ↦ inl (inr a) | inr b ↦ inr b ]
+in_either {X} (z ∷ zs) ys x (inr h) =
+    elim (in_either zs ys x h) as (λ _. In (z ∷ zs) x ⊎ In ys x) [
+      | inl a ↦ inl (inr a)
+      | inr b ↦ inr b
+    ]
 
 -- what is in the list of one of some things is in the list of all
 pub in_each : {X Y : Type 0} (f : X → List Y) (xs : List X) (x : X) (y : Y) → In xs x → In (f x) y
     → In (flat_map f xs) y
 in_each f [] x y h k = absurd h
-in_each {X} {Y} f (z ∷ zs) x y (inl e) k = in_before (f z) (flat_map f zs) y (subst (λ (w : X). In (f w) y) (sym e) k)
+in_each {X} {Y} f (z ∷ zs) x y (inl e) k =
+    in_before (f z) (flat_map f zs) y (subst (λ (w : X). In (f w) y) (sym e) k)
 in_each f (z ∷ zs) x y (inr h) k = in_after (f z) (flat_map f zs) y (in_each f zs x y h k)
 
 pub in_some : {X Y : Type 0} (f : X → List Y) (xs : List X) (y : Y) → In (flat_map f xs) y
     → (x : X) × In xs x × In (f x) y
 in_some f [] y h = absurd h
-in_some {X} {Y} f (z ∷ zs) y h = elim (in_either (f z) (flat_map f zs) y h) as (λ _. (x : X) × In (z ∷ zs) x × In (f x) y) [
-  | inl a ↦ (z, inl refl, a)
-  | inr b ↦ let w = in_some f zs y b in (w.0, inr w.1, w.2)
-]
+in_some {X} {Y} f (z ∷ zs) y h =
+    elim (in_either (f z) (flat_map f zs) y h) as (λ _. (x : X) × In (z ∷ zs) x × In (f x) y) [
+      | inl a ↦ (z, inl refl, a)
+      | inr b ↦ let w = in_some f zs y b in (w.0, inr w.1, w.2)
+    ]
 
 pub in_map : {X Y : Type 0} (f : X → Y) (xs : List X) (x : X) → In xs x → In (map f xs) (f x)
 in_map f [] x h = absurd h
@@ -75,10 +81,11 @@ or-right false b e = e
 pub any_in : {X : Type 0} (p : X → Bool) (xs : List X) → list_any p xs ≡ true
     → (x : X) × In xs x × (p x ≡ true)
 any_in p [] e = absurd (true≢false (sym e))
-any_in {X} p (x ∷ xs) e = elim (or-cases (p x) (list_any p xs) e) as (λ _. (y : X) × In (x ∷ xs) y × (p y ≡ true)) [
-  | inl a ↦ (x, inl refl, a)
-  | inr b ↦ let w = any_in p xs b in (w.0, inr w.1, w.2)
-]
+any_in {X} p (x ∷ xs) e =
+    elim (or-cases (p x) (list_any p xs) e) as (λ _. (y : X) × In (x ∷ xs) y × (p y ≡ true)) [
+      | inl a ↦ (x, inl refl, a)
+      | inr b ↦ let w = any_in p xs b in (w.0, inr w.1, w.2)
+    ]
 
 pub in_any : {X : Type 0} (p : X → Bool) (xs : List X) (x : X) → In xs x → p x ≡ true
     → list_any p xs ≡ true
@@ -87,14 +94,20 @@ in_any {X} p (y ∷ ys) x (inl q) e = or-left (p y) (list_any p ys) (ap p q ∙ 
 in_any p (y ∷ ys) x (inr h) e = or-right (p y) (list_any p ys) (in_any p ys x h e)
 
 pub among_in : (name : List ℕ) (names : List (List ℕ)) → is_among name names ≡ true → In names name
-among_in name names e = let w = any_in (same name) names e in subst (In names) (sym (same_is name w.0 w.2)) w.1
+among_in name names e =
+    let w = any_in (same name) names e in subst (In names) (sym (same_is name w.0 w.2)) w.1
 
 pub in_among : (name : List ℕ) (names : List (List ℕ)) → In names name → is_among name names ≡ true
 in_among name names h = in_any (same name) names name h (is_same name name refl)
 
 pub not_among : (name : List ℕ) (names : List (List ℕ)) → (In names name → ⊥)
     → is_among name names ≡ false
-not_among name names h = elim (is_among name names) as (λ b. is_among name names ≡ b → is_among name names ≡ false) [ true ↦ λ e. absurd (h (among_in name names e)) | false ↦ λ e. e ] refl
+not_among name names h =
+    elim (is_among name names) as (λ b. is_among name names ≡ b
+    → is_among name names ≡ false) [
+      | true ↦ λ e. absurd (h (among_in name names e))
+      | false ↦ λ e. e
+    ] refl
 
 pub not_in : (name : List ℕ) (names : List (List ℕ)) → is_among name names ≡ false → In names name
     → ⊥

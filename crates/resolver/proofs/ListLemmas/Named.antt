@@ -19,7 +19,9 @@ first_attribute (an_attribute n o c) as_ = refl
 pub attributes_read : (as_ : List attribute.AttributeSyntax)
     → map (λ a. attribute_name (attribute_of a)) as_ ≡ attribute_names (attributes_of as_)
 attributes_read [] = refl
-attributes_read (a ∷ as_) = ap (λ (ns : List Ident). attribute_name (attribute_of a) ∷ ns) (attributes_read as_) ∙ first_attribute (attribute_of a) (attributes_of as_)
+attributes_read (a ∷ as_) =
+    ap (λ (ns : List Ident). attribute_name (attribute_of a) ∷ ns) (attributes_read as_)
+    ∙ first_attribute (attribute_of a) (attributes_of as_)
 
 first_element : (e : Element) (es : Elements)
     → element_name e ∷ element_names es ≡ element_names (and_element e es)
@@ -28,7 +30,9 @@ first_element (an_element n parts) es = refl
 pub elements_read : (es : List element.Element)
     → map (λ e. element_name (element_of e)) es ≡ element_names (elements_of es)
 elements_read [] = refl
-elements_read (e ∷ es) = ap (λ (ns : List Ident). element_name (element_of e) ∷ ns) (elements_read es) ∙ first_element (element_of e) (elements_of es)
+elements_read (e ∷ es) =
+    ap (λ (ns : List Ident). element_name (element_of e) ∷ ns) (elements_read es)
+    ∙ first_element (element_of e) (elements_of es)
 
 pub tables_read : (ts : List table.TableSyntax)
     → map (λ t. ident_of t.name) ts ≡ table_names (tables_of ts)

@@ -31,7 +31,12 @@ least_of : (best : Fault) (fs : List Fault) (f : Fault) → first_from (Some bes
     → IsLeastOf best fs f
 least_of best [] f e =
     let same : best ≡ f = ap (λ (o : Option Fault). unwrap_or o best) e in
-    subst (IsLeastOf best []) same (record { listed = inl refl; before_best = before_itself best; before_all = λ g h. absurd h; kept = λ g h. h })
+    subst (IsLeastOf best []) same (record {
+      listed = inl refl;
+      before_best = before_itself best;
+      before_all = λ g h. absurd h;
+      kept = λ g h. h;
+    })
 least_of best (x ∷ xs) f e = by_order (λ b h. least_of b xs f h) (is_before x best) refl e
   where
     by_order : ((b : Fault) → first_from (Some b) xs ≡ Some f → IsLeastOf b xs f) → (b : Bool)
@@ -42,16 +47,26 @@ least_of best (x ∷ xs) f e = by_order (λ b h. least_of b xs f h) (is_before x
         record {
           listed = inr w.listed;
           before_best = λ c. asymmetric x best q (w.kept best c);
-          before_all = λ g i. elim i as (λ _. ComesBefore g f → ⊥) [ inl at ↦ λ c. w.before_best (subst (λ (y : Fault). ComesBefore y f) (sym at) c) | inr rest ↦ w.before_all g rest ];
+          before_all =
+              λ g i. elim i as (λ _. ComesBefore g f
+              → ⊥) [
+                | inl at ↦ λ c. w.before_best (subst (λ (y : Fault). ComesBefore y f) (sym at) c)
+                | inr rest ↦ w.before_all g rest
+              ];
           kept = λ g c. then_before x best g q (w.kept g c);
         }
     by_order again false q h =
         let w = again best h in
         record {
-          listed = elim w.listed as (λ _. (best ≡ f) ⊎ ((x ≡ f) ⊎ In xs f)) [ inl at ↦ inl at | inr rest ↦ inr (inr rest) ];
+          listed = elim w.listed as (λ _. (best ≡ f) ⊎ ((x ≡ f) ⊎ In xs f)) [
+            | inl at ↦ inl at
+            | inr rest ↦ inr (inr rest)
+          ];
           before_best = w.before_best;
           before_all = λ g i. elim i as (λ _. ComesBefore g f → ⊥) [
-            | inl at ↦ λ c. true≢false (sym (comes x best (w.kept x (subst (λ (y : Fault). ComesBefore y f) (sym at) c))) ∙ q)
+            | inl at ↦ λ c. true≢false
+                (sym (comes x best (w.kept x (subst (λ (y : Fault). ComesBefore y f) (sym at) c)))
+                ∙ q)
             | inr rest ↦ w.before_all g rest
           ];
           kept = w.kept;
@@ -63,5 +78,9 @@ least (x ∷ xs) f e =
     let w = least_of x xs f e in
     record {
       listed = contains (x ∷ xs) f w.listed;
-      first = λ g c. elim (in_contained (x ∷ xs) g c) as (λ _. ComesBefore g f → ⊥) [ inl at ↦ λ b. w.before_best (subst (λ (y : Fault). ComesBefore y f) (sym at) b) | inr rest ↦ w.before_all g rest ];
+      first = λ g c. elim (in_contained (x ∷ xs) g c) as (λ _. ComesBefore g f
+          → ⊥) [
+            | inl at ↦ λ b. w.before_best (subst (λ (y : Fault). ComesBefore y f) (sym at) b)
+            | inr rest ↦ w.before_all g rest
+          ];
     }

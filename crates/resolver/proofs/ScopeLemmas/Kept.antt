@@ -17,15 +17,18 @@ at_place P [] i h = tt
 at_place P (d ∷ ds) zero h = h 0 d (omega arith)
 at_place P (d ∷ ds) (suc i) h = at_place P ds i (λ k x lt. h (suc k) x (omega (arith, lt)))
 
-written_kept : (P : TypeSyntax → Type 0) (look : List ℕ → Option Meaning) (s : Scope) (t : TypeSyntax)
+written_kept : (P : TypeSyntax → Type 0) (look : List ℕ → Option Meaning) (s : Scope)
+    (t : TypeSyntax)
     → ((name : List ℕ) → Kept P (look name)) → P t → Kept P (written look s t)
 written_kept P look s t k p = by_name (name_alone t)
   where
-    by_name : (o : Option Ident) → Kept P (option_map_or (λ n. look n.text) o (Some (record { scope = s; kind = t })))
+    by_name : (o : Option Ident)
+        → Kept P (option_map_or (λ n. look n.text) o (Some (record { scope = s; kind = t })))
     by_name None = p
     by_name (Some n) = k n.text
 
-followed_kept : (P : TypeSyntax → Type 0) (look : List ℕ → Option Meaning) (s : Scope) (name : List ℕ)
+followed_kept : (P : TypeSyntax → Type 0) (look : List ℕ → Option Meaning) (s : Scope)
+    (name : List ℕ)
     → All (λ d. P d.kind) s.own → ((other : List ℕ) → Kept P (look other))
     → Kept P (followed look s name)
 followed_kept P look s name h k = by_place (place name (names_of s.own))
@@ -50,7 +53,8 @@ meaning_kept P s name a o = by_test (is_among name (names_of s.above))
     by_test : (b : Bool)
         → Kept P (cond b (meaning_outside s.above name) (followed (meaning_outside s.above) s name))
     by_test true = outside_kept P s.above name a
-    by_test false = followed_kept P (meaning_outside s.above) s name o (λ other. outside_kept P s.above other a)
+    by_test false =
+        followed_kept P (meaning_outside s.above) s name o (λ other. outside_kept P s.above other a)
 
 pub meant_kept : (P : TypeSyntax → Type 0) (s : Scope) (t : TypeSyntax)
     → All (λ d. P d.kind) s.above → All (λ d. P d.kind) s.own → P t → Kept P (meant s t)
@@ -65,13 +69,15 @@ written_scoped : (Q : Scope → Type 0) (look : List ℕ → Option Meaning) (s 
     → ((name : List ℕ) → Scoped Q (look name)) → Q s → Scoped Q (written look s t)
 written_scoped Q look s t k q = by_name (name_alone t)
   where
-    by_name : (o : Option Ident) → Scoped Q (option_map_or (λ n. look n.text) o (Some (record { scope = s; kind = t })))
+    by_name : (o : Option Ident)
+        → Scoped Q (option_map_or (λ n. look n.text) o (Some (record { scope = s; kind = t })))
     by_name None = q
     by_name (Some n) = k n.text
 
 followed_scoped : (Q : Scope → Type 0) (look : List ℕ → Option Meaning) (s : Scope) (name : List ℕ)
     → Q s → ((other : List ℕ) → Scoped Q (look other)) → Scoped Q (followed look s name)
-followed_scoped Q look s name q k = by_type (option_and_then (last_type s) (place name (names_of s.own)))
+followed_scoped Q look s name q k =
+    by_type (option_and_then (last_type s) (place name (names_of s.own)))
   where
     by_type : (o : Option TypeSyntax) → Scoped Q (option_and_then (written look s) o)
     by_type None = tt
@@ -86,9 +92,12 @@ meaning_scoped : (Q : Scope → Type 0) (s : Scope) (name : List ℕ) → Q (out
 meaning_scoped Q s name a q = by_test (is_among name (names_of s.above))
   where
     by_test : (b : Bool)
-        → Scoped Q (cond b (meaning_outside s.above name) (followed (meaning_outside s.above) s name))
+        → Scoped Q (cond b (meaning_outside s.above name)
+        (followed (meaning_outside s.above) s name))
     by_test true = outside_scoped Q s.above name a
-    by_test false = followed_scoped Q (meaning_outside s.above) s name q (λ other. outside_scoped Q s.above other a)
+    by_test false =
+        followed_scoped Q (meaning_outside s.above) s name q
+        (λ other. outside_scoped Q s.above other a)
 
 pub meant_scoped : (Q : Scope → Type 0) (s : Scope) (t : TypeSyntax) → Q (outside s.above) → Q s
     → Scoped Q (meant s t)

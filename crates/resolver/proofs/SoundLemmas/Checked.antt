@@ -37,7 +37,9 @@ pub written_found : (tables : ℕ) (look : List ℕ → Option Meaning) (s : Sco
     → IfSome (written look s t) (IsFound tables)
 written_found tables look s t h le c = by_name (name_alone t)
   where
-    by_name : (o : Option Ident) → IfSome (option_map_or (λ n. look n.text) o (Some (record { scope = s; kind = t }))) (IsFound tables)
+    by_name : (o : Option Ident)
+        → IfSome (option_map_or (λ n. look n.text) o (Some (record { scope = s; kind = t })))
+        (IsFound tables)
     by_name None = record { checked = c; few = le }
     by_name (Some n) = h n.text
 
@@ -52,22 +54,30 @@ followed_found tables look s name h le c = by_place (place name (names_of s.own)
     by_type (Some t) k = written_found tables look s t h le k
 
     by_place : (o : Option ℕ)
-        → IfSome (option_and_then (written look s) (option_and_then (last_type s) o)) (IsFound tables)
+        → IfSome (option_and_then (written look s) (option_and_then (last_type s) o))
+        (IsFound tables)
     by_place None = tt
-    by_place (Some i) = by_type (last_type s i) (kind_at (IsChecked s) s.own (reached (leads s) longest i) c)
+    by_place (Some i) =
+        by_type (last_type s i) (kind_at (IsChecked s) s.own (reached (leads s) longest i) c)
 
 pub outside_found : (tables : ℕ) (ds : List DomainSyntax) (name : List ℕ) → AreChecked (outside ds)
     → IfSome (meaning_outside ds name) (IsFound tables)
-outside_found tables ds name c = followed_found tables (λ _. None) (outside ds) name (λ k. tt) (omega arith) c
+outside_found tables ds name c =
+    followed_found tables (λ _. None) (outside ds) name (λ k. tt) (omega arith) c
 
 pub meaning_found : (tables : ℕ) (s : Scope) (name : List ℕ) → length s.tables ≤ tables
     → AreChecked (outside s.above) → AreChecked s → IfSome (meaning s name) (IsFound tables)
-meaning_found tables s name le above own = elim (is_among name (names_of s.above)) as (λ b. IfSome (cond b (meaning_outside s.above name) (followed (meaning_outside s.above) s name)) (IsFound tables)) [
-  | true ↦ outside_found tables s.above name above
-  | false ↦ followed_found tables (meaning_outside s.above) s name (λ k. outside_found tables s.above k above) le own
-]
+meaning_found tables s name le above own =
+    elim (is_among name (names_of s.above)) as
+    (λ b. IfSome (cond b (meaning_outside s.above name) (followed (meaning_outside s.above) s name))
+    (IsFound tables)) [
+      | true ↦ outside_found tables s.above name above
+      | false ↦ followed_found tables (meaning_outside s.above) s name
+          (λ k. outside_found tables s.above k above) le own
+    ]
 
 pub meant_found : (tables : ℕ) (s : Scope) (t : TypeSyntax) → length s.tables ≤ tables
     → AreChecked (outside s.above) → AreChecked s → IsChecked s t
     → IfSome (meant s t) (IsFound tables)
-meant_found tables s t le above own c = written_found tables (meaning s) s t (λ k. meaning_found tables s k le above own) le c
+meant_found tables s t le above own c =
+    written_found tables (meaning s) s t (λ k. meaning_found tables s k le above own) le c

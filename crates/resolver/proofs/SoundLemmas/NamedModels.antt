@@ -35,18 +35,24 @@ attributes_named : (s : Scope) (as_ : Attributes) → written.AreNamed as_
     → All IsNamedAttribute (listed (attributes s as_))
 attributes_named s no_attributes h = All-nil IsNamedAttribute
 attributes_named s (and_attribute (an_attribute n o c) as_) h =
-    All-cons IsNamedAttribute (attribute s (an_attribute n o c)) (listed (attributes s as_)) (content_named s n.text o c h.0) (attributes_named s as_ h.1)
+    All-cons IsNamedAttribute (attribute s (an_attribute n o c)) (listed (attributes s as_))
+    (content_named s n.text o c h.0) (attributes_named s as_ h.1)
 
 table_named : (s : Scope) (t : TableSyntax) → written.IsNamedTable t → IsNamedTable (table s t)
-table_named s t h = record { name = h.name; attributes = attributes_named s t.attributes h.attributes }
+table_named s t h = record {
+  name = h.name;
+  attributes = attributes_named s t.attributes h.attributes;
+}
 
 topic_named : (above : List DomainSyntax) (t : TopicSyntax) → written.IsNamedTopic t
     → IsNamedTopic (topic above t)
 topic_named above t h = record {
   name = h.name;
-  tables = All-map IsNamedTable (table (inside above t)) t.tables (λ i x lt. table_named (inside above t) (get_or t.tables i x) (h.tables i x lt));
+  tables = All-map IsNamedTable (table (inside above t)) t.tables
+      (λ i x lt. table_named (inside above t) (get_or t.tables i x) (h.tables i x lt));
 }
 
 pub topics_named : (above : List DomainSyntax) (ts : List TopicSyntax) → All written.IsNamedTopic ts
     → All IsNamedTopic (map (topic above) ts)
-topics_named above ts h = All-map IsNamedTopic (topic above) ts (λ i t lt. topic_named above (get_or ts i t) (h i t lt))
+topics_named above ts h =
+    All-map IsNamedTopic (topic above) ts (λ i t lt. topic_named above (get_or ts i t) (h i t lt))

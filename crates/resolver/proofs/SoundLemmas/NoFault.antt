@@ -29,7 +29,9 @@ none_behind (f ∷ fs) gs e = absurd (omega (arith, ap (λ (l : List Fault). len
 pub none_in_each : {X : Type 0} (f : X → List Fault) (xs : List X) → flat_map f xs ≡ []
     → All (λ x. f x ≡ []) xs
 none_in_each f [] e = λ i d lt. absurd (omega (arith, lt))
-none_in_each f (x ∷ xs) e = All-cons (λ y. f y ≡ []) x xs (none_before (f x) (flat_map f xs) e) (none_in_each f xs (none_behind (f x) (flat_map f xs) e))
+none_in_each f (x ∷ xs) e =
+    All-cons (λ y. f y ≡ []) x xs (none_before (f x) (flat_map f xs) e)
+    (none_in_each f xs (none_behind (f x) (flat_map f xs) e))
 
 pub not_broken : (broken : Bool) (code : ModelCode) (name : Ident) → fault_if broken code name ≡ []
     → broken ≡ false

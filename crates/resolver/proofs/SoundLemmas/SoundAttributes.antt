@@ -45,13 +45,17 @@ line_attributes_sound : (tables : ℕ) (s : Scope) (as_ : Attributes) → length
 line_attributes_sound tables s no_attributes le e = λ i d lt. absurd (omega (arith, lt))
 line_attributes_sound tables s (and_attribute (an_attribute n o c) as_) le e =
     let here : List Fault = attribute_faults s (an_attribute n o c) in
-    All-cons (IsLineAttribute tables) (line_attribute s (an_attribute n o c)) (listed (line_attributes s as_))
+    All-cons (IsLineAttribute tables) (line_attribute s (an_attribute n o c))
+    (listed (line_attributes s as_))
     (value_within tables s n c le (none_before here (attributes_faults s as_) e))
     (line_attributes_sound tables s as_ le (none_behind here (attributes_faults s as_) e))
 
-part_sound : (tables : ℕ) (s : Scope) (owner : Ident) (shape : Shape) (head : LineHead) (as_ : Attributes) (lists : List (List Ident))
+part_sound : (tables : ℕ) (s : Scope) (owner : Ident) (shape : Shape) (head : LineHead)
+    (as_ : Attributes) (lists : List (List Ident))
     → length s.tables ≤ tables
-    → line_faults s owner shape (a_line head as_ lists) ≡ [] → line_names (a_line head as_ lists) ≤ 4194304 → IsSoundPart tables (listed (line_attributes s as_)) (places as_ lists)
+    → line_faults s owner shape (a_line head as_ lists) ≡ []
+    → line_names (a_line head as_ lists) ≤ 4194304
+    → IsSoundPart tables (listed (line_attributes s as_)) (places as_ lists)
 part_sound tables s owner shape head as_ lists le e few =
     let vs : List Fault = vertex_faults s owner shape head.vertex head.overlap in
     let ns : List Fault = names_faults as_ lists in
@@ -60,8 +64,11 @@ part_sound tables s owner shape head as_ lists le e few =
     let rest : ns ++ (ls ++ fs) ≡ [] = none_behind vs (ns ++ (ls ++ fs)) e in
     record {
       few = omega (arith, line_listed s as_, names_counted as_, few);
-      attributes = line_attributes_sound tables s as_ le (none_behind ls fs (none_behind ns (ls ++ fs) rest));
-      idents = subst (λ (n : ℕ). All (All (λ i. i < n)) (places as_ lists)) (sym (line_listed s as_)) (lists_placed as_ lists (none_before ns (ls ++ fs) rest));
+      attributes =
+          line_attributes_sound tables s as_ le
+          (none_behind ls fs (none_behind ns (ls ++ fs) rest));
+      idents = subst (λ (n : ℕ). All (All (λ i. i < n)) (places as_ lists))
+          (sym (line_listed s as_)) (lists_placed as_ lists (none_before ns (ls ++ fs) rest));
     }
 
 -- what an attribute stands for whose type was checked
@@ -83,30 +90,44 @@ type_sound tables name optional s syntax.HAlignment le c = tt
 type_sound tables name optional s syntax.VAlignment le c = tt
 type_sound tables name optional s (syntax.Enumeration es) le c = tt
 type_sound tables name optional s (syntax.Polyline l) le c = tt
-type_sound tables name optional s (syntax.Surface (a_line head as_ lists)) le c = part_sound tables s c.owner shapes.Surface head as_ lists le c.clean c.few
+type_sound tables name optional s (syntax.Surface (a_line head as_ lists)) le c =
+    part_sound tables s c.owner shapes.Surface head as_ lists le c.clean c.few
 type_sound tables name optional s (syntax.Area (a_line head as_ lists)) le c =
-    let vs : List Fault = vertex_faults s c.owner shapes.Area head.vertex head.overlap in
-    (area_narrow s c.owner head (none_before vs (names_faults as_ lists ++ (line_attribute_faults s as_ ++ attributes_faults s as_)) c.clean), part_sound tables s c.owner shapes.Area head as_ lists le c.clean c.few)
+    let vs : List Fault = vertex_faults s c.owner shapes.Area head.vertex head.overlap in (
+      area_narrow s c.owner head
+          (none_before vs (names_faults as_ lists
+          ++ (line_attribute_faults s as_ ++ attributes_faults s as_)) c.clean),
+      part_sound tables s c.owner shapes.Area head as_ lists le c.clean c.few,
+    )
 
 meaning_sound : (tables : ℕ) (name : List ℕ) (optional : Bool) (o : Option Meaning)
     → IfSome o (IsFound tables)
     → IsSoundAttribute tables (resolved.an_attribute name optional (meaning_form name optional o))
 meaning_sound tables name optional None h = tt
-meaning_sound tables name optional (Some m) h = type_sound tables name optional m.scope m.kind h.few h.checked
+meaning_sound tables name optional (Some m) h =
+    type_sound tables name optional m.scope m.kind h.few h.checked
 
 attribute_sound : (tables : ℕ) (s : Scope) (n : Ident) (o : Bool) (c : Content)
     → length s.tables ≤ tables → AreChecked (outside s.above) → AreChecked s
-    → attribute_faults s (an_attribute n o c) ≡ [] → content_names c ≤ 4194304 → IsSoundAttribute tables (attribute s (an_attribute n o c))
-attribute_sound tables s n o (syntax.Value t) le above own e few = meaning_sound tables n.text o (meant s t) (meant_found tables s t le above own (record { owner = n; clean = e; few = few }))
-attribute_sound tables s n o (syntax.Reference m) le above own e few = reference_within tables s m le e
+    → attribute_faults s (an_attribute n o c) ≡ [] → content_names c ≤ 4194304
+    → IsSoundAttribute tables (attribute s (an_attribute n o c))
+attribute_sound tables s n o (syntax.Value t) le above own e few =
+    meaning_sound tables n.text o (meant s t)
+    (meant_found tables s t le above own (record { owner = n; clean = e; few = few }))
+attribute_sound tables s n o (syntax.Reference m) le above own e few =
+    reference_within tables s m le e
 
 -- the attributes of a table
 pub attributes_sound : (tables : ℕ) (s : Scope) (as_ : Attributes) → length s.tables ≤ tables
     → AreChecked (outside s.above) → AreChecked s
-    → attributes_faults s as_ ≡ [] → attributes_names as_ ≤ 4194304 → All (IsSoundAttribute tables) (listed (attributes s as_))
+    → attributes_faults s as_ ≡ [] → attributes_names as_ ≤ 4194304
+    → All (IsSoundAttribute tables) (listed (attributes s as_))
 attributes_sound tables s no_attributes le above own e few = λ i d lt. absurd (omega (arith, lt))
 attributes_sound tables s (and_attribute (an_attribute n o c) as_) le above own e few =
     let here : List Fault = attribute_faults s (an_attribute n o c) in
-    All-cons (IsSoundAttribute tables) (attribute s (an_attribute n o c)) (listed (attributes s as_))
-    (attribute_sound tables s n o c le above own (none_before here (attributes_faults s as_) e) (omega (arith, few)))
-    (attributes_sound tables s as_ le above own (none_behind here (attributes_faults s as_) e) (omega (arith, few)))
+    All-cons (IsSoundAttribute tables) (attribute s (an_attribute n o c))
+    (listed (attributes s as_))
+    (attribute_sound tables s n o c le above own (none_before here (attributes_faults s as_) e)
+    (omega (arith, few)))
+    (attributes_sound tables s as_ le above own (none_behind here (attributes_faults s as_) e)
+    (omega (arith, few)))

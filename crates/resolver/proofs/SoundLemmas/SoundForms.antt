@@ -54,11 +54,14 @@ names_table s n e = among (is_among n.text s.tables) e
         → cond b [] (fault_if true (cond (is_visible s n.text) code.NotTable code.Unknown) n) ≡ []
         → b ≡ true
     among true h = refl
-    among false h = absurd (true≢false (not_broken true (cond (is_visible s n.text) code.NotTable code.Unknown) n h))
+    among false h =
+        absurd (true≢false
+        (not_broken true (cond (is_visible s n.text) code.NotTable code.Unknown) n h))
 
 pub reference_within : (tables : ℕ) (s : Scope) (n : Ident) → length s.tables ≤ tables
     → reference_faults s n ≡ [] → RefersWithin tables (reference s n)
-reference_within tables s n le e = omega (arith, le, place_is_below n.text s.tables (names_table s n e))
+reference_within tables s n le e =
+    omega (arith, le, place_is_below n.text s.tables (names_table s n e))
 
 pub value_within : (tables : ℕ) (s : Scope) (owner : Ident) (c : Content) → length s.tables ≤ tables
     → content_faults s owner c ≡ [] → RefersWithin tables (value s c)
@@ -71,21 +74,38 @@ narrow z e = grind (arith, ints, e)
 -- bounds that are not too far apart
 limits_narrow : (scale : ℕ) (s : Span) → is_wide_span scale s ≡ false
     → ((limits scale s).high -ℤ (limits scale s).low) <ℤ pos (2 ^ 40)
-limits_narrow scale s e = elim (is_reversed scale s || has_long_bound scale s) as (λ b. ((cond b no_limits (record { low = in_units scale s.low; high = in_units scale s.high; scale = scale })).high -ℤ (cond b no_limits (record { low = in_units scale s.low; high = in_units scale s.high; scale = scale })).low) <ℤ pos (2 ^ 40)) [
-  | true ↦ omega (arith, ints)
-  | false ↦ narrow (in_units scale s.high -ℤ in_units scale s.low) e
-]
+limits_narrow scale s e =
+    elim (is_reversed scale s || has_long_bound scale s) as
+    (λ b. ((cond b no_limits (record {
+      low = in_units scale s.low;
+      high = in_units scale s.high;
+      scale = scale;
+    })).high
+    -ℤ (cond b no_limits (record {
+      low = in_units scale s.low;
+      high = in_units scale s.high;
+      scale = scale;
+    })).low) <ℤ pos (2 ^ 40)) [
+      | true ↦ omega (arith, ints)
+      | false ↦ narrow (in_units scale s.high -ℤ in_units scale s.low) e
+    ]
 
 pub window_narrow : (t : TypeSyntax) → is_wide t ≡ false → IsNarrow (window_in t)
 window_narrow (syntax.Named n) e = record { x = omega (arith, ints); y = omega (arith, ints) }
 window_narrow (syntax.Coord2 c) e =
     let wide_x : Bool = is_wide_span (scale_of (syntax.Coord2 c)) c.x in
     let wide_y : Bool = is_wide_span (scale_of (syntax.Coord2 c)) c.y in
-    record { x = limits_narrow (scale_of (syntax.Coord2 c)) c.x (or-left_false wide_x wide_y e); y = limits_narrow (scale_of (syntax.Coord2 c)) c.y (or-right_false wide_x wide_y e) }
+    record {
+      x = limits_narrow (scale_of (syntax.Coord2 c)) c.x (or-left_false wide_x wide_y e);
+      y = limits_narrow (scale_of (syntax.Coord2 c)) c.y (or-right_false wide_x wide_y e);
+    }
 window_narrow (syntax.Coord3 c) e =
     let wide_x : Bool = is_wide_span (scale_of (syntax.Coord3 c)) c.x in
     let wide_y : Bool = is_wide_span (scale_of (syntax.Coord3 c)) c.y in
-    record { x = limits_narrow (scale_of (syntax.Coord3 c)) c.x (or-left_false wide_x wide_y e); y = limits_narrow (scale_of (syntax.Coord3 c)) c.y (or-right_false wide_x wide_y e) }
+    record {
+      x = limits_narrow (scale_of (syntax.Coord3 c)) c.x (or-left_false wide_x wide_y e);
+      y = limits_narrow (scale_of (syntax.Coord3 c)) c.y (or-right_false wide_x wide_y e);
+    }
 window_narrow (syntax.Dim1 s) e = record { x = omega (arith, ints); y = omega (arith, ints) }
 window_narrow (syntax.Dim2 s) e = record { x = omega (arith, ints); y = omega (arith, ints) }
 window_narrow (syntax.Radians s) e = record { x = omega (arith, ints); y = omega (arith, ints) }
@@ -96,7 +116,8 @@ window_narrow (syntax.Text d) e = record { x = omega (arith, ints); y = omega (a
 window_narrow syntax.Date e = record { x = omega (arith, ints); y = omega (arith, ints) }
 window_narrow syntax.HAlignment e = record { x = omega (arith, ints); y = omega (arith, ints) }
 window_narrow syntax.VAlignment e = record { x = omega (arith, ints); y = omega (arith, ints) }
-window_narrow (syntax.Enumeration es) e = record { x = omega (arith, ints); y = omega (arith, ints) }
+window_narrow (syntax.Enumeration es) e =
+    record { x = omega (arith, ints); y = omega (arith, ints) }
 window_narrow (syntax.Polyline l) e = record { x = omega (arith, ints); y = omega (arith, ints) }
 window_narrow (syntax.Surface l) e = record { x = omega (arith, ints); y = omega (arith, ints) }
 window_narrow (syntax.Area l) e = record { x = omega (arith, ints); y = omega (arith, ints) }
@@ -105,12 +126,20 @@ window_narrow (syntax.Area l) e = record { x = omega (arith, ints); y = omega (a
 pub area_narrow : (s : Scope) (owner : Ident) (head : LineHead)
     → vertex_faults s owner shapes.Area head.vertex head.overlap ≡ []
     → IsNarrow (window_in (vertex_kind (meaning s head.vertex.text)))
-area_narrow s owner head e = by_meaning (meaning s head.vertex.text) (none_behind (type_name_faults s head.vertex) (meaning_faults owner shapes.Area head.vertex head.overlap (meaning s head.vertex.text)) e)
+area_narrow s owner head e =
+    by_meaning (meaning s head.vertex.text)
+    (none_behind (type_name_faults s head.vertex)
+    (meaning_faults owner shapes.Area head.vertex head.overlap (meaning s head.vertex.text)) e)
   where
     by_meaning : (o : Option Meaning)
         → meaning_faults owner shapes.Area head.vertex head.overlap o ≡ []
         → IsNarrow (window_in (vertex_kind o))
     by_meaning None h = record { x = omega (arith, ints); y = omega (arith, ints) }
     by_meaning (Some m) h =
-        let rest = none_behind (fault_if (is_long_overlap head.overlap m.kind) code.Decimals owner) (fault_if (not (suits shapes.Area m.kind)) code.NotCoord head.vertex ++ fault_if (is_wide m.kind) code.Wide head.vertex) h in
-        window_narrow m.kind (not_broken (is_wide m.kind) code.Wide head.vertex (none_behind (fault_if (not (suits shapes.Area m.kind)) code.NotCoord head.vertex) (fault_if (is_wide m.kind) code.Wide head.vertex) rest))
+        let rest = none_behind (fault_if (is_long_overlap head.overlap m.kind) code.Decimals owner)
+        (fault_if (not (suits shapes.Area m.kind)) code.NotCoord head.vertex
+        ++ fault_if (is_wide m.kind) code.Wide head.vertex) h in
+        window_narrow m.kind
+        (not_broken (is_wide m.kind) code.Wide head.vertex
+        (none_behind (fault_if (not (suits shapes.Area m.kind)) code.NotCoord head.vertex)
+        (fault_if (is_wide m.kind) code.Wide head.vertex) rest))

@@ -52,18 +52,29 @@ are_tokens : (whole ts : List Tok) → ((t : Tok) → In ts t → In whole t)
     → TokenNames (IsToken whole) ts
 are_tokens whole [] h = tt
 are_tokens whole (tok k i ∷ ts) h =
-    one_more (IsToken whole) k i ts (λ e. (i, contains whole (tok name i) (subst (λ (x : Kind). In whole (tok x i)) e (h (tok k i) (inl refl))), refl)) (are_tokens whole ts (λ t m. h t (inr m)))
+    one_more (IsToken whole) k i ts
+    (λ e. (
+      i,
+      contains whole (tok name i)
+          (subst (λ (x : Kind). In whole (tok x i)) e (h (tok k i) (inl refl))),
+      refl,
+    ))
+    (are_tokens whole ts (λ t m. h t (inr m)))
 
 broken_token : (m : ModelSyntax) (ts : List Tok) (c : ModelCode) (n : Ident) → Spells m ts
     → (Breaks m c n) → IsToken ts n
-broken_token m ts c n s b = broken_in (IsToken ts) m (model_names (IsToken ts) 32 m ts [] s (are_tokens ts ts (λ t k. k))) c n b
+broken_token m ts c n s b =
+    broken_in (IsToken ts) m (model_names (IsToken ts) 32 m ts [] s (are_tokens ts ts (λ t k. k))) c
+    n b
 
 -- ---- of two faults none comes before the other
 tells : (f g : Fault) → is_before f g ≡ true → ComesBefore f g
 tells f g e = grind (arith, nat_tests, e)
 
 not_before : (f g : Fault) → (ComesBefore f g → ⊥) → is_before f g ≡ false
-not_before f g h = elim (is_before f g) as (λ b. is_before f g ≡ b → is_before f g ≡ false) [ true ↦ λ e. absurd (h (tells f g e)) | false ↦ λ e. e ] refl
+not_before f g h =
+    elim (is_before f g) as (λ b. is_before f g ≡ b
+    → is_before f g ≡ false) [ true ↦ λ e. absurd (h (tells f g e)) | false ↦ λ e. e ] refl
 
 same_place : (f g : Fault) → is_before f g ≡ false → is_before g f ≡ false
     → (f.name.line ≡ g.name.line) × (f.name.column ≡ g.name.column) × (rank f.code ≡ rank g.code)
@@ -81,8 +92,12 @@ same_place f g e h = (line, column, by_rank)
 -- each code has a rank of its own
 abbrev code_of : ℕ → ModelCode
 code_of n =
-    cond (n == 0) code.Unknown (cond (n == 1) code.NotTable (cond (n == 2) code.Twice (cond (n == 3) code.Cycle (cond (n == 4) code.Bounds
-    (cond (n == 5) code.Decimals (cond (n == 6) code.NotCoord (cond (n == 7) code.Wide (cond (n == 8) code.LineAttr code.IdentUnknown))))))))
+    cond (n == 0) code.Unknown
+    (cond (n == 1) code.NotTable
+    (cond (n == 2) code.Twice (cond (n == 3) code.Cycle (cond (n == 4) code.Bounds
+    (cond (n == 5) code.Decimals
+    (cond (n == 6) code.NotCoord
+    (cond (n == 7) code.Wide (cond (n == 8) code.LineAttr code.IdentUnknown))))))))
 
 code_back : (c : ModelCode) → code_of (rank c) ≡ c
 code_back code.Unknown = refl
@@ -99,16 +114,25 @@ code_back code.IdentUnknown = refl
 one_first : (m : ModelSyntax) (ts : List Tok) (f g : Fault) → Spells m ts → HaveOwnPlaces ts
     → IsFirstBroken m f → IsFirstBroken m g → f ≡ g
 one_first m ts f g s own h k =
-    let place = same_place f g (not_before f g (k.first f h.broken)) (not_before g f (h.first g k.broken)) in
+    let place = same_place f g (not_before f g (k.first f h.broken))
+    (not_before g f (h.first g k.broken)) in
     let a = broken_token m ts f.code f.name s h.broken in
     let b = broken_token m ts g.code g.name s k.broken in
-    let line : a.0.line ≡ b.0.line = sym (ap (λ (n : Ident). n.line) a.2) ∙ place.0 ∙ ap (λ (n : Ident). n.line) b.2 in
-    let column : a.0.column ≡ b.0.column = sym (ap (λ (n : Ident). n.column) a.2) ∙ place.1 ∙ ap (λ (n : Ident). n.column) b.2 in
-    let text : f.name.text ≡ g.name.text = ap (λ (n : Ident). n.text) a.2 ∙ own a.0 b.0 a.1 b.1 line column ∙ sym (ap (λ (n : Ident). n.text) b.2) in
-    let named : f.name ≡ g.name = λ z. record { text = text z; line = place.0 z; column = place.1 z } in
+    let line : a.0.line ≡ b.0.line = sym (ap (λ (n : Ident). n.line) a.2) ∙ place.0
+    ∙ ap (λ (n : Ident). n.line) b.2 in
+    let column : a.0.column ≡ b.0.column = sym (ap (λ (n : Ident). n.column) a.2) ∙ place.1
+    ∙ ap (λ (n : Ident). n.column) b.2 in
+    let text : f.name.text ≡ g.name.text = ap (λ (n : Ident). n.text) a.2
+    ∙ own a.0 b.0 a.1 b.1 line column ∙ sym (ap (λ (n : Ident). n.text) b.2) in
+    let named : f.name ≡ g.name = λ z. record {
+      text = text z;
+      line = place.0 z;
+      column = place.1 z;
+    } in
     let coded : f.code ≡ g.code = sym (code_back f.code) ∙ ap code_of place.2 ∙ code_back g.code in
     λ z. record { code = coded z; name = named z }
 
 pub one_first_broken : (text : List ℕ) (ts : List Token) (m : ModelSyntax) (f g : Fault)
     → AreTokens text ts → Spells m (toks text ts) → IsFirstBroken m f → IsFirstBroken m g → f ≡ g
-one_first_broken text ts m f g are s h k = one_first m (toks text ts) f g s (own_places text ts are) h k
+one_first_broken text ts m f g are s h k =
+    one_first m (toks text ts) f g s (own_places text ts are) h k

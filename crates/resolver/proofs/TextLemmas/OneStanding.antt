@@ -24,22 +24,34 @@ none_or_some {X} o x a b = true≢false (sym (ap (λ (p : Option X). is_some p) 
 none_by_two : (s : Scope) (t : TypeSyntax) (n k : Ident) → name_alone t ≡ Some n
     → name_alone t ≡ Some k → is_among n.text (names_of s.above) ≡ true
     → is_among k.text (names_of s.above) ≡ false → ⊥
-none_by_two s t n k p q a b = true≢false (sym a ∙ ap (λ (m : Ident). is_among m.text (names_of s.above)) (one_some (name_alone t) n k p q) ∙ b)
+none_by_two s t n k p q a b =
+    true≢false (sym a
+    ∙ ap (λ (m : Ident). is_among m.text (names_of s.above)) (one_some (name_alone t) n k p q) ∙ b)
 
 pub one_meaning : (m n : Meaning) (s : Scope) (t : TypeSyntax) → StandsFor m s t → StandsFor n s t
     → m ≡ n
 one_meaning m n _ _ (as_written s t q e) (as_written _ _ p f) = e ∙ sym f
-one_meaning m n _ _ (as_written s t q e) (as_outside _ _ k p a h) = absurd (none_or_some (name_alone t) k q p)
-one_meaning m n _ _ (as_written s t q e) (as_declared _ _ k i d p out at here h) = absurd (none_or_some (name_alone t) k q p)
-one_meaning m n _ _ (as_outside s t k q a g) (as_written _ _ p f) = absurd (none_or_some (name_alone t) k p q)
-one_meaning m n _ _ (as_outside s t k q a g) (as_outside _ _ l p b h) = one_meaning m n (outside s.above) t g h
-one_meaning m n _ _ (as_outside s t k q a g) (as_declared _ _ l i d p out at here h) = absurd (none_by_two s t k l q p a out)
-one_meaning m n _ _ (as_declared s t k i d q out at here g) (as_written _ _ p f) = absurd (none_or_some (name_alone t) k p q)
-one_meaning m n _ _ (as_declared s t k i d q out at here g) (as_outside _ _ l p a h) = absurd (none_by_two s t l k p q a out)
-one_meaning m n _ _ (as_declared s t k i d q out at here g) (as_declared _ _ l j e p out2 at2 here2 h) =
+one_meaning m n _ _ (as_written s t q e) (as_outside _ _ k p a h) =
+    absurd (none_or_some (name_alone t) k q p)
+one_meaning m n _ _ (as_written s t q e) (as_declared _ _ k i d p out at here h) =
+    absurd (none_or_some (name_alone t) k q p)
+one_meaning m n _ _ (as_outside s t k q a g) (as_written _ _ p f) =
+    absurd (none_or_some (name_alone t) k p q)
+one_meaning m n _ _ (as_outside s t k q a g) (as_outside _ _ l p b h) =
+    one_meaning m n (outside s.above) t g h
+one_meaning m n _ _ (as_outside s t k q a g) (as_declared _ _ l i d p out at here h) =
+    absurd (none_by_two s t k l q p a out)
+one_meaning m n _ _ (as_declared s t k i d q out at here g) (as_written _ _ p f) =
+    absurd (none_or_some (name_alone t) k p q)
+one_meaning m n _ _ (as_declared s t k i d q out at here g) (as_outside _ _ l p a h) =
+    absurd (none_by_two s t l k p q a out)
+one_meaning m n _ _ (as_declared s t k i d q out at here g)
+    (as_declared _ _ l j e p out2 at2 here2 h) =
     let name : k ≡ l = one_some (name_alone t) k l q p in
-    let same_place : i ≡ j = one_some (place k.text (names_of s.own)) i j at (ap (λ (x : Ident). place x.text (names_of s.own)) name ∙ at2) in
-    let domain : d ≡ e = one_some (slice_get s.own i) d e here (ap (λ (x : ℕ). slice_get s.own x) same_place ∙ here2) in
+    let same_place : i ≡ j = one_some (place k.text (names_of s.own)) i j at
+    (ap (λ (x : Ident). place x.text (names_of s.own)) name ∙ at2) in
+    let domain : d ≡ e = one_some (slice_get s.own i) d e here
+    (ap (λ (x : ℕ). slice_get s.own x) same_place ∙ here2) in
     one_meaning m n s d.kind g (subst (λ (x : DomainSyntax). StandsFor n s x.kind) (sym domain) h)
 
 -- ---- numbers
@@ -76,11 +88,14 @@ one_form (syntax.Coord3 c) f g a b =
     a.1 ∙ ap (λ (v : Block). resolved.Coord3 v) w ∙ sym b.1
 one_form (syntax.Dim1 s) f g a b = of_limits resolved.Dim1 (scale_of (syntax.Dim1 s)) s f g a b
 one_form (syntax.Dim2 s) f g a b = of_limits resolved.Dim2 (scale_of (syntax.Dim2 s)) s f g a b
-one_form (syntax.Radians s) f g a b = of_limits resolved.Radians (scale_of (syntax.Radians s)) s f g a b
+one_form (syntax.Radians s) f g a b =
+    of_limits resolved.Radians (scale_of (syntax.Radians s)) s f g a b
 one_form (syntax.Grads s) f g a b = of_limits resolved.Grads (scale_of (syntax.Grads s)) s f g a b
-one_form (syntax.Degrees s) f g a b = of_limits resolved.Degrees (scale_of (syntax.Degrees s)) s f g a b
+one_form (syntax.Degrees s) f g a b =
+    of_limits resolved.Degrees (scale_of (syntax.Degrees s)) s f g a b
 one_form (syntax.Range s) f g a b = of_limits resolved.Range (scale_of (syntax.Range s)) s f g a b
-one_form (syntax.Text d) f g a b = a.1 ∙ ap (λ (n : ℕ). resolved.Text n) (one_length d a.0 b.0 a.2 b.2) ∙ sym b.1
+one_form (syntax.Text d) f g a b = a.1
+    ∙ ap (λ (n : ℕ). resolved.Text n) (one_length d a.0 b.0 a.2 b.2) ∙ sym b.1
 one_form syntax.Date f g a b = a ∙ sym b
 one_form syntax.HAlignment f g a b = a ∙ sym b
 one_form syntax.VAlignment f g a b = a ∙ sym b
@@ -91,7 +106,9 @@ one_form (syntax.Area l) f g a b = absurd a
 
 pub one_reference : (s : Scope) (n : Ident) (f g : Form) → IsReference s n f → IsReference s n g
     → f ≡ g
-one_reference s n f g a b = a.1 ∙ ap (λ (k : ℕ). resolved.Reference k) (one_some (place n.text s.tables) a.0 b.0 a.2 b.2) ∙ sym b.1
+one_reference s n f g a b =
+    a.1 ∙ ap (λ (k : ℕ). resolved.Reference k) (one_some (place n.text s.tables) a.0 b.0 a.2 b.2)
+    ∙ sym b.1
 
 pub one_zip : {X Y : Type 0} (R : X → Y → Type 0) → ((x : X) (y z : Y) → R x y → R x z → y ≡ z)
     → (xs : List X) (ys zs : List Y) → AllZip R xs ys → AllZip R xs zs → ys ≡ zs
@@ -100,13 +117,17 @@ one_zip {X} {Y} R one [] [] (z ∷ zs) a b = absurd b
 one_zip {X} {Y} R one [] (y ∷ ys) zs a b = absurd a
 one_zip {X} {Y} R one (x ∷ xs) [] zs a b = absurd a
 one_zip {X} {Y} R one (x ∷ xs) (y ∷ ys) [] a b = absurd b
-one_zip {X} {Y} R one (x ∷ xs) (y ∷ ys) (z ∷ zs) a b = ap (λ (k : Y). k ∷ ys) (one x y z a.0 b.0) ∙ ap (λ (ks : List Y). z ∷ ks) (one_zip R one xs ys zs a.1 b.1)
+one_zip {X} {Y} R one (x ∷ xs) (y ∷ ys) (z ∷ zs) a b =
+    ap (λ (k : Y). k ∷ ys) (one x y z a.0 b.0)
+    ∙ ap (λ (ks : List Y). z ∷ ks) (one_zip R one xs ys zs a.1 b.1)
 
 pub one_idents : (as_ : Attributes) (lists : List (List Ident)) (ps qs : List (List ℕ))
     → AreIdents as_ lists ps → AreIdents as_ lists qs → ps ≡ qs
 one_idents as_ lists ps qs a b =
     let names : List (List ℕ) = texts (attribute_names as_) in
-    one_zip (AllZip (λ n k. place n.text names ≡ Some k)) (one_zip (λ n k. place n.text names ≡ Some k) (λ n i j p q. one_some (place n.text names) i j p q)) lists ps qs a b
+    one_zip (AllZip (λ n k. place n.text names ≡ Some k))
+    (one_zip (λ n k. place n.text names ≡ Some k)
+    (λ n i j p q. one_some (place n.text names) i j p q)) lists ps qs a b
 
 -- ---- vertices and overlaps
 pub one_window : (t : TypeSyntax) (w v : Window) (h k : Option Limits) → AreVertices t w h
@@ -117,8 +138,12 @@ one_window (syntax.Coord2 c) w v h k a b =
     (λ z. record { x = x z; y = y z }, a.2 ∙ sym b.2)
 one_window (syntax.Coord3 c) w v h k a b =
     let x : w.x ≡ v.x = one_limits (scale_of (syntax.Coord3 c)) c.x w.x v.x a.0 b.0 in
-    let y : w.y ≡ v.y = one_limits (scale_of (syntax.Coord3 c)) c.y w.y v.y a.1 b.1 in
-    (λ z. record { x = x z; y = y z }, a.3 ∙ ap (λ (l : Limits). Some l) (one_limits (scale_of (syntax.Coord3 c)) c.z a.2 b.2 a.4 b.4) ∙ sym b.3)
+    let y : w.y ≡ v.y = one_limits (scale_of (syntax.Coord3 c)) c.y w.y v.y a.1 b.1 in (
+      λ z. record { x = x z; y = y z },
+      a.3
+          ∙ ap (λ (l : Limits). Some l) (one_limits (scale_of (syntax.Coord3 c)) c.z a.2 b.2 a.4 b.4)
+          ∙ sym b.3,
+    )
 one_window (syntax.Named n) w v h k a b = absurd a
 one_window (syntax.Dim1 s) w v h k a b = absurd a
 one_window (syntax.Dim2 s) w v h k a b = absurd a

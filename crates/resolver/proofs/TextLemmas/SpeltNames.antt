@@ -79,7 +79,8 @@ module _ (Q : Ident → Type 0) where
   line_names : (l : LineHead) (w r : List Tok) → IsLine l w r → TokenNames w
       → Q l.vertex × TokenNames r
   line_names _ _ _ (line i j k v a b o w u x r f g d) s =
-      let p = forms_rest a b w (tok (word VERTEX) k ∷ tok name v ∷ u) f s in (p.0, overlap_rest o x r d (base_rest u x g p.1))
+      let p = forms_rest a b w (tok (word VERTEX) k ∷ tok name v ∷ u) f s in
+      (p.0, overlap_rest o x r d (base_rest u x g p.1))
 
   mutual
     enumeration_names : (d : ℕ) (es : Elements) (w r : List Tok) → IsEnumeration d es w r
@@ -88,7 +89,8 @@ module _ (Q : Ident → Type 0) where
 
     elements_names : (d : ℕ) (es : Elements) (w r : List Tok) → IsElements d es w r → TokenNames w
         → ElementsNames Q es × TokenNames r
-    elements_names _ _ _ _ (last_element d i e w r x) s = let p = element_names d e w (tok right_paren i ∷ r) x s in ((p.0, tt), p.1)
+    elements_names _ _ _ _ (last_element d i e w r x) s =
+        let p = element_names d e w (tok right_paren i ∷ r) x s in ((p.0, tt), p.1)
     elements_names _ _ _ _ (more_elements d i e es w u r x y) s =
         let p = element_names d e w (tok comma i ∷ u) x s in
         let q = elements_names d es u r y p.1 in ((p.0, q.0), q.1)
@@ -96,7 +98,8 @@ module _ (Q : Ident → Type 0) where
     element_names : (d : ℕ) (e : Element) (w r : List Tok) → IsElement d e w r → TokenNames w
         → ElementNames Q e × TokenNames r
     element_names _ _ _ _ (leaf d n r) s = ((s.0, tt), s.1)
-    element_names _ _ _ _ (node d n es w r x) s = let p = enumeration_names d es w r x s.1 in ((s.0, p.0), p.1)
+    element_names _ _ _ _ (node d n es w r x) s =
+        let p = enumeration_names d es w r x s.1 in ((s.0, p.0), p.1)
 
   explained_rest : (w r : List Tok) → IsExplained w r → TokenNames w → TokenNames r
   explained_rest _ _ (unexplained r) s = s
@@ -120,7 +123,8 @@ module _ (Q : Ident → Type 0) where
     type_names _ _ _ _ (halignment d t r) s = (tt, s)
     type_names _ _ _ _ (valignment d t r) s = (tt, s)
     type_names _ _ _ _ (of_elements d es w r x) s = enumeration_names d es w r x s
-    type_names _ _ _ _ (polyline d t l w r x) s = let p = line_names l w r x s in ((p.0, tt, tt), p.1)
+    type_names _ _ _ _ (polyline d t l w r x) s =
+        let p = line_names l w r x s in ((p.0, tt, tt), p.1)
     type_names _ _ _ _ (surface d t l as_ is w u r x y) s =
         let p = line_names l w u x s in
         let q = line_attributes_names d as_ is u r y p.1 in ((p.0, q.0.0, q.0.1), q.1)
@@ -146,9 +150,11 @@ module _ (Q : Ident → Type 0) where
     attribute_names : (d : ℕ) (a : AttributeSyntax) (w r : List Tok) → IsAttribute d a w r
         → TokenNames w → AttributeNames Q a × TokenNames r
     attribute_names _ _ _ _ (mandatory d n i k c w u r x e) s =
-        let p = content_names d c w u x s.1 in ((s.0, p.0), explained_rest u (tok semicolon k ∷ r) e p.1)
+        let p = content_names d c w u x s.1 in
+        ((s.0, p.0), explained_rest u (tok semicolon k ∷ r) e p.1)
     attribute_names _ _ _ _ (optional d n i j k c w u r x e) s =
-        let p = content_names d c w u x s.1 in ((s.0, p.0), explained_rest u (tok semicolon k ∷ r) e p.1)
+        let p = content_names d c w u x s.1 in
+        ((s.0, p.0), explained_rest u (tok semicolon k ∷ r) e p.1)
 
     content_names : (d : ℕ) (c : Content) (w r : List Tok) → IsContent d c w r → TokenNames w
         → ContentNames Q c × TokenNames r
@@ -161,7 +167,8 @@ module _ (Q : Ident → Type 0) where
   domains_names L _ _ _ (no_domain r) s = (tt, s)
   domains_names L _ _ _ (more_domains n i k t ds w u v r x y z) s =
       let p = type_names L t w u x s.1 in
-      let q = domains_names L ds v r z (explained_rest u (tok semicolon k ∷ v) y p.1) in (((s.0, p.0), q.0), q.1)
+      let q = domains_names L ds v r z (explained_rest u (tok semicolon k ∷ v) y p.1) in
+      (((s.0, p.0), q.0), q.1)
 
   maybe_domains_names : (L : ℕ) (ds : List DomainSyntax) (w r : List Tok) → IsMaybeDomains L ds w r
       → TokenNames w → Each (DomainNames Q) ds × TokenNames r
@@ -181,7 +188,8 @@ module _ (Q : Ident → Type 0) where
   body_names L _ _ _ _ (no_part r) s = ((tt, tt), s)
   body_names L _ _ _ _ (and_domains i ds es ts w u r x y) s =
       let p = domains_names L ds w u x s in
-      let q = body_names L es ts u r y p.1 in ((each_both (DomainNames Q) ds es p.0 q.0.0, q.0.1), q.1)
+      let q = body_names L es ts u r y p.1 in
+      ((each_both (DomainNames Q) ds es p.0 q.0.0, q.0.1), q.1)
   body_names L _ _ _ _ (and_table ds t ts w u r x y) s =
       let p = table_names L false t w u x s in
       let q = body_names L ds ts u r y p.1 in ((q.0.0, (p.0, q.0.1)), q.1)
@@ -205,7 +213,9 @@ module _ (Q : Ident → Type 0) where
 
   pub model_names : (L : ℕ) (m : ModelSyntax) (w r : List Tok) → IsTransfer L m w r → TokenNames w
       → ModelNames Q m
-  model_names L _ _ _ (transfer a n b c d e f g h m os ds ts cs w u v x r p (a_model i n2 k m2 q ds2 ts2 w2 u2 r2 y z e2) t1 t2) s =
+  model_names L _ _ _
+      (transfer a n b c d e f g h m os ds ts cs w u v x r p
+      (a_model i n2 k m2 q ds2 ts2 w2 u2 r2 y z e2) t1 t2) s =
       let outer = maybe_domains_names L os w u p s.1 in
       let own = maybe_domains_names L ds2 w2 u2 y outer.1.1 in
       record {

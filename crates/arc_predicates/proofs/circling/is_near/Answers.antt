@@ -12,8 +12,11 @@ returns-then-is_small c =
     let qy : FitsSigned w64 c.args.q.y = search rules in
     let rx : FitsSigned w128 c.difference-x.result = search rules in
     let ry : FitsSigned w128 c.difference-y.result = search rules in
-    both_of _ _ _ c.is_small-then-is_small.result (simp to_z-of_z at c.is_small-then-is_small.ensures) ((simp to_z-of_z at c.is_small.ensures).0 c.if-is_small.true)
-    (near_by c.args.p c.args.q _ _ (simp to_z-of_z at c.difference-x.ensures.value) (simp to_z-of_z at c.difference-y.ensures.value))
+    both_of _ _ _ c.is_small-then-is_small.result
+    (simp to_z-of_z at c.is_small-then-is_small.ensures)
+    ((simp to_z-of_z at c.is_small.ensures).0 c.if-is_small.true)
+    (near_by c.args.p c.args.q _ _ (simp to_z-of_z at c.difference-x.ensures.value)
+    (simp to_z-of_z at c.difference-y.ensures.value))
 
 pub returns-else-is_small : goal.returns-else-is_small
 returns-else-is_small c =
@@ -24,4 +27,5 @@ returns-else-is_small c =
     let rx : FitsSigned w128 c.difference-x.result = search rules in
     let ry : FitsSigned w128 c.difference-y.result = search rules in
     none_of _ _ _ c.is_small.result (simp to_z-of_z at c.is_small.ensures) c.if-is_small.false
-    (near_by c.args.p c.args.q _ _ (simp to_z-of_z at c.difference-x.ensures.value) (simp to_z-of_z at c.difference-y.ensures.value))
+    (near_by c.args.p c.args.q _ _ (simp to_z-of_z at c.difference-x.ensures.value)
+    (simp to_z-of_z at c.difference-y.ensures.value))

@@ -11,7 +11,9 @@ returns-then-are_either_side c =
     let h = half_arc c.args.circle.now in
     let n = c.loop-number.number in (
       c.loop-number-test.true,
-      trial_of c.loop-number.last c.side_away-next.result h (sixteenth s n) (sixteenth s (n + 1)) c.loop-number.invariant.last c.side_away-next.ensures (c.are_either_side.ensures.0 c.if-are_either_side.true),
+      trial_of c.loop-number.last c.side_away-next.result h (sixteenth s n)
+          (sixteenth s (n + 1)) c.loop-number.invariant.last c.side_away-next.ensures
+          (c.are_either_side.ensures.0 c.if-are_either_side.true),
       c.loop-number.invariant.none,
     )
 
@@ -22,6 +24,9 @@ loop-number-preserved c =
     let n = c.loop-number.number in
     record {
       last = c.side_away-next.ensures;
-      none = none_more s h n c.loop-number.invariant.none (λ t. refuted _ c.are_either_side.result c.are_either_side.ensures c.if-are_either_side.false
-          (sides_of c.loop-number.last c.side_away-next.result h (sixteenth s n) (sixteenth s (n + 1)) c.loop-number.invariant.last c.side_away-next.ensures t));
+      none = none_more s h n c.loop-number.invariant.none
+          (λ t. refuted _ c.are_either_side.result c.are_either_side.ensures
+          c.if-are_either_side.false
+          (sides_of c.loop-number.last c.side_away-next.result h (sixteenth s n)
+          (sixteenth s (n + 1)) c.loop-number.invariant.last c.side_away-next.ensures t));
     }

@@ -11,4 +11,5 @@ returns c =
     let d = c.ranges.d in
     let p = simp to_z-of_z at c.product-ad.ensures.value in
     let q = simp to_z-of_z at c.product-bc.ensures.value in
-    difference_back _ _ _ _ (omega (arith, ints, c.product-ad.ensures.bound)) (omega (arith, ints, c.product-bc.ensures.bound)) p q
+    difference_back _ _ _ _ (omega (arith, ints, c.product-ad.ensures.bound))
+    (omega (arith, ints, c.product-bc.ensures.bound)) p q

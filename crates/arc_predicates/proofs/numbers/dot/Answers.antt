@@ -11,4 +11,5 @@ returns c =
     let d = c.ranges.d in
     let p = simp to_z-of_z at c.product-ac.ensures.value in
     let q = simp to_z-of_z at c.product-bd.ensures.value in
-    sum_back _ _ _ _ (omega (arith, ints, c.product-ac.ensures.bound)) (omega (arith, ints, c.product-bd.ensures.bound)) p q
+    sum_back _ _ _ _ (omega (arith, ints, c.product-ac.ensures.bound))
+    (omega (arith, ints, c.product-bd.ensures.bound)) p q

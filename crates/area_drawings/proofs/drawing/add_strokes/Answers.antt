@@ -15,10 +15,14 @@ loop-count-preserved c =
     let added = c.in_ok-add_stroke.ensures in
     let within = count_within ns k n vs c.loop-count-test.true refl i.counted in
     record {
-      counted = count_after ns k n vs rest c.loop-count-test.true refl c.split_at.ensures.back i.counted;
+      counted = count_after ns k n vs rest c.loop-count-test.true refl c.split_at.ensures.back
+          i.counted;
       inside = rest_inside c.args.drawing.now.window n vs rest c.split_at.ensures.back i.inside;
-      curves = strokes_step ns k n vs own rest _ _ _ c.loop-count-test.true refl c.split_at.ensures.front c.split_at.ensures.back added.curves i.curves;
-      few = (let a = added.few in let b = i.few in let d = split_few n vs own rest within c.split_at.ensures.front c.split_at.ensures.back in omega (arith, a, b, d));
+      curves = strokes_step ns k n vs own rest _ _ _ c.loop-count-test.true refl
+          c.split_at.ensures.front c.split_at.ensures.back added.curves i.curves;
+      few = (let a = added.few in let b = i.few in
+          let d = split_few n vs own rest within c.split_at.ensures.front c.split_at.ensures.back in
+          omega (arith, a, b, d));
       window = added.window ∙ i.window;
       points = added.points ∙ i.points;
     }

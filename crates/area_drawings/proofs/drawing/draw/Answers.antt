@@ -18,7 +18,8 @@ pub add_strokes-requires-clause-inside : goal.add_strokes-requires-clause-inside
 add_strokes-requires-clause-inside c =
     let in_form = IsWindowOf (line_of c.args.form.now).window in
     let w : in_form c.new-drawing.result.window =
-    subst in_form (sym (ap (λ (p : Plan). p.window) c.new-drawing.ensures.blank)) c.plane_window.ensures in
+    subst in_form (sym (ap (λ (p : Plan). p.window) c.new-drawing.ensures.blank))
+    c.plane_window.ensures in
     inside_here c.counts.result.now _ c.counts.ensures c.vertices.result.now _ c.vertices.ensures
     c.new-drawing.result.window (c.requires.drawable.inside c.new-drawing.result.window w)
 
@@ -29,7 +30,8 @@ add_strokes-requires-clause-room c =
     16000000 c.requires.drawable.few in
     let none : vec_len c.new-drawing.result.curves ≡ 0 =
     c.new-drawing.result.curves.ok.0
-    ∙ ap (λ (cs : List Curve). length cs) (ap (λ (p : Plan). p.curves) c.new-drawing.ensures.blank) in
+    ∙ ap (λ (cs : List Curve). length cs)
+    (ap (λ (p : Plan). p.curves) c.new-drawing.ensures.blank) in
     omega (arith, few, none)
 
 pub add_placed-requires-clause-inside : goal.add_placed-requires-clause-inside
@@ -46,7 +48,8 @@ add_placed-requires-clause-room c =
     let none : vec_len c.add_strokes.new.drawing.points ≡ 0 =
     c.add_strokes.new.drawing.points.ok.0
     ∙ ap (λ (ps : List Placed). length ps)
-    (c.in_ok-add_strokes.ensures.points ∙ ap (λ (p : Plan). p.points) c.new-drawing.ensures.blank) in
+    (c.in_ok-add_strokes.ensures.points
+    ∙ ap (λ (p : Plan). p.points) c.new-drawing.ensures.blank) in
     omega (arith, most, none)
 
 pub returns-clause-drawn : goal.returns-clause-drawn

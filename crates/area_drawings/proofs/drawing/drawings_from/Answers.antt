@@ -13,7 +13,8 @@ pub drawing_from-requires : goal.drawing_from-requires
 drawing_from-requires c =
     let can = CanBeDrawn (layout_view c.args.layout.now) (kept_in c.args.tables.now) in
     mapped_at area_view can c.deref-area-items.result.now c.loop-area.area-index c.area-item.result
-    (subst (λ (as_ : List AreaOf). All can (map area_view as_)) (sym c.deref-area-items.ensures.value) c.requires)
+    (subst (λ (as_ : List AreaOf). All can (map area_view as_))
+    (sym c.deref-area-items.ensures.value) c.requires)
     c.loop-area-test.true c.area-item.is
 
 pub loop-area-preserved : goal.loop-area-preserved
@@ -24,15 +25,23 @@ loop-area-preserved c =
     let drawn = IsDrawnFrom l (kept_in c.args.tables.now) in
     record {
       drawn =
-          subst (λ (as_ : List AreaOf). AllZip drawn (take (i + 1) (areas_view as_)) (map plan c.push.new.self.items)) v
-          (drawn_more drawn c.deref-area-items.result.now i c.area-item.result c.loop-area.drawings.items c.push.new.self.items c.in_ok-drawing_from.field-0
+          subst (λ (as_ : List AreaOf). AllZip drawn (take (i + 1) (areas_view as_))
+          (map plan c.push.new.self.items)) v
+          (drawn_more drawn c.deref-area-items.result.now i c.area-item.result
+          c.loop-area.drawings.items c.push.new.self.items c.in_ok-drawing_from.field-0
           c.loop-area-test.true c.area-item.is c.in_ok-push.ensures.items
-          (subst (λ (as_ : List AreaOf). AllZip drawn (take i (areas_view as_)) (map plan c.loop-area.drawings.items)) (sym v) c.loop-area.invariant.drawn)
+          (subst (λ (as_ : List AreaOf). AllZip drawn (take i (areas_view as_))
+          (map plan c.loop-area.drawings.items)) (sym v) c.loop-area.invariant.drawn)
           c.in_ok-drawing_from.ensures.drawn);
       tolerances =
-          subst (λ (as_ : List AreaOf). AllZip (HasTolerance l) (take (i + 1) (areas_view as_)) c.push.new.self.items) v
-          (seen_more area_view (HasTolerance l) c.deref-area-items.result.now i c.area-item.result c.loop-area-test.true c.area-item.is
-          c.loop-area.drawings.items c.push.new.self.items c.in_ok-drawing_from.field-0 c.in_ok-push.ensures.items
-          (subst (λ (as_ : List AreaOf). AllZip (HasTolerance l) (take i (areas_view as_)) c.loop-area.drawings.items) (sym v) c.loop-area.invariant.tolerances)
+          subst (λ (as_ : List AreaOf). AllZip (HasTolerance l)
+          (take (i + 1) (areas_view as_)) c.push.new.self.items) v
+          (seen_more area_view (HasTolerance l) c.deref-area-items.result.now i c.area-item.result
+          c.loop-area-test.true c.area-item.is
+          c.loop-area.drawings.items c.push.new.self.items c.in_ok-drawing_from.field-0
+          c.in_ok-push.ensures.items
+          (subst (λ (as_ : List AreaOf). AllZip (HasTolerance l)
+          (take i (areas_view as_)) c.loop-area.drawings.items)
+          (sym v) c.loop-area.invariant.tolerances)
           c.in_ok-drawing_from.ensures.tolerance);
     }

@@ -15,7 +15,8 @@ pub loop-place-preserved : goal.loop-place-preserved
 loop-place-preserved c =
     let i = c.loop-place.invariant in
     record {
-      count = still_counted c.loop-place.columns c.loop-place.place _ c.add_point.new.column i.count;
+      count = still_counted c.loop-place.columns c.loop-place.place _ c.add_point.new.column
+          i.count;
       done =
           points_step (with_point c.args.line (cells_view c.args.cells.now)) c.loop-place.place
           c.loop-place.columns c.args.columns.now c.index-columns-place.result

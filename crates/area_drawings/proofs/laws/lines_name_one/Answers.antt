@@ -8,4 +8,5 @@ returns-clause-curves c l text rows a d i j r w lt =
 
 pub returns-clause-objects : goal.returns-clause-objects
 returns-clause-objects c l text rows a d i j r w lt =
-    objects_rise l rows a d i j (c.lines_rise.ensures (form_of l) l.codes.continued text rows r) w lt
+    objects_rise l rows a d i j (c.lines_rise.ensures (form_of l) l.codes.continued text rows r) w
+    lt

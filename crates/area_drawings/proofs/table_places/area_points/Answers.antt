@@ -14,7 +14,8 @@ loop-number-preserved c codes t =
     let before = points_of c.loop-number.kept in
     let i = c.loop-number.invariant codes t in
     elim c.if-is_area_point.branch [
-      | then-is_area_point+in_ok-ask w ↦ asked_step codes t n cs x before now c.loop-number-test.true
+      | then-is_area_point+in_ok-ask w ↦ asked_step codes t n cs x before now
+          c.loop-number-test.true
           c.index-columns-number.is i (sym c.is_area_point.ensures ∙ w.if-is_area_point.true)
           (ap points_of w.kept-is ∙ w.in_ok-ask.ensures)
       | else-is_area_point w ↦ ap points_of w.kept-is ∙ passed_step codes t n cs x before

@@ -12,7 +12,8 @@ returns-clause-value c =
     let d = c.ranges.d in
     let p = simp to_z-of_z at c.product-ad.ensures.value in
     let q = simp to_z-of_z at c.product-bc.ensures.value in
-    difference_back _ _ _ _ (omega (arith, ints, c.product-ad.ensures.bound)) (omega (arith, ints, c.product-bc.ensures.bound)) p q
+    difference_back _ _ _ _ (omega (arith, ints, c.product-ad.ensures.bound))
+    (omega (arith, ints, c.product-bc.ensures.bound)) p q
 
 pub returns-clause-bound : goal.returns-clause-bound
 returns-clause-bound c =
@@ -22,5 +23,9 @@ returns-clause-bound c =
     let d = c.ranges.d in
     let p = simp to_z-of_z at c.product-ad.ensures.value in
     let q = simp to_z-of_z at c.product-bc.ensures.value in
-    let value = difference_back _ _ _ _ (omega (arith, ints, c.product-ad.ensures.bound)) (omega (arith, ints, c.product-bc.ensures.bound)) p q in
-    subst (IsWithin (2 ^ 83)) (sym value) (within_difference (2 ^ 82) (2 ^ 82) _ _ (subst (IsWithin (2 ^ 82)) p c.product-ad.ensures.bound) (subst (IsWithin (2 ^ 82)) q c.product-bc.ensures.bound))
+    let value = difference_back _ _ _ _ (omega (arith, ints, c.product-ad.ensures.bound))
+    (omega (arith, ints, c.product-bc.ensures.bound)) p q in
+    subst (IsWithin (2 ^ 83)) (sym value)
+    (within_difference (2 ^ 82) (2 ^ 82) _ _
+    (subst (IsWithin (2 ^ 82)) p c.product-ad.ensures.bound)
+    (subst (IsWithin (2 ^ 82)) q c.product-bc.ensures.bound))

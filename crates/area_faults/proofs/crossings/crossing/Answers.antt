@@ -18,7 +18,8 @@ crossing_with-requires-else-turn-gt0-clause-left c =
     let r : FitsSigned w128 c.turn_between-turn.result = search rules in
     let u : FitsSigned w128 c.turn_between.result = search rules in
     let h = simp to_z-of_z at c.if-turn-gt0.false in
-    let left = left_again s.from s.to t.from t.to c.turn_between-turn.result c.turn_between-turn.ensures c.requires.cross (omega (arith, ints, h)) in
+    let left = left_again s.from s.to t.from t.to c.turn_between-turn.result
+    c.turn_between-turn.ensures c.requires.cross (omega (arith, ints, h)) in
     rw (to_z-of_z u) (subst (λ (n : ℤ). pos 0 <ℤ n) (sym c.turn_between.ensures) left)
 
 pub returns-else-turn-gt0 : goal.returns-else-turn-gt0

@@ -19,4 +19,8 @@ returns c =
     let r2 : FitsSigned w128 c.difference-uy.result = search rules in
     let r3 : FitsSigned w128 c.difference-vx.result = search rules in
     let r4 : FitsSigned w128 c.difference-vy.result = search rules in
-    to_z-of_z f ∙ turning_parts s.from s.to c.args.e c.args.f _ _ _ _ _ (simp to_z-of_z at c.difference-ux.ensures.value) (simp to_z-of_z at c.difference-uy.ensures.value) (simp to_z-of_z at c.difference-vx.ensures.value) (simp to_z-of_z at c.difference-vy.ensures.value) (simp to_z-of_z at c.cross.ensures.value)
+    to_z-of_z f ∙ turning_parts s.from s.to c.args.e c.args.f _ _ _ _ _
+    (simp to_z-of_z at c.difference-ux.ensures.value)
+    (simp to_z-of_z at c.difference-uy.ensures.value)
+    (simp to_z-of_z at c.difference-vx.ensures.value)
+    (simp to_z-of_z at c.difference-vy.ensures.value) (simp to_z-of_z at c.cross.ensures.value)

@@ -8,5 +8,8 @@ pub with_clashing-requires-clause-close : goal.with_clashing-requires-clause-clo
 with_clashing-requires-clause-close c =
     let d = c.args.drawing.now in
     let e = c.in_ok-edges.edges in
-    all_close d.window.low d.window.high d.curves.items c.deref-2.result.now e.edges.items e.numbers.items
-    (subst (λ (cs : List Curve). AreUnmarkedTo cs c.deref-2.result.now (length cs) e.edges.items e.numbers.items) c.deref.ensures.value c.in_ok-edges.ensures) d.window.narrow d.curves_drawn
+    all_close d.window.low d.window.high d.curves.items c.deref-2.result.now e.edges.items
+    e.numbers.items
+    (subst (λ (cs : List Curve). AreUnmarkedTo cs c.deref-2.result.now
+    (length cs) e.edges.items e.numbers.items) c.deref.ensures.value c.in_ok-edges.ensures)
+    d.window.narrow d.curves_drawn

@@ -11,9 +11,14 @@ loop-number-preserved c =
     let m = c.args.marks.now in
     elim c.if-is_unmarked.branch [
       | then-is_unmarked+in_ok-push+in_ok-push-2 w ↦
-          one_more a m l.number l.edges.items l.numbers.items l.invariant w.edge_between.result c.if-is_unmarked.edges.items c.if-is_unmarked.numbers.items (ap (λ v. v.items) w.edges-is ∙ w.in_ok-push.ensures.items)
-          (ap (λ v. v.items) w.numbers-is ∙ w.in_ok-push-2.ensures.items) w.edge_between.ensures.sorted w.edge_between.ensures.ends
+          one_more a m l.number l.edges.items l.numbers.items l.invariant w.edge_between.result
+          c.if-is_unmarked.edges.items c.if-is_unmarked.numbers.items
+          (ap (λ v. v.items) w.edges-is ∙ w.in_ok-push.ensures.items)
+          (ap (λ v. v.items) w.numbers-is ∙ w.in_ok-push-2.ensures.items)
+          w.edge_between.ensures.sorted w.edge_between.ensures.ends
       | else-is_unmarked w ↦
-          passed_over a m l.number l.edges.items l.numbers.items l.invariant (refuted_mark m l.number c.is_unmarked.result c.is_unmarked.ensures w.if-is_unmarked.false) c.if-is_unmarked.edges.items c.if-is_unmarked.numbers.items
+          passed_over a m l.number l.edges.items l.numbers.items l.invariant
+          (refuted_mark m l.number c.is_unmarked.result c.is_unmarked.ensures
+          w.if-is_unmarked.false) c.if-is_unmarked.edges.items c.if-is_unmarked.numbers.items
           (ap (λ v. v.items) w.edges-is) (ap (λ v. v.items) w.numbers-is)
     ]

@@ -9,4 +9,6 @@ returns c =
     let l = c.loop-number.auto.number-end in
     let e = c.len-number-end.ensures in
     let s = c.args.drawing.now.curves.ok.0 in
-    all_both (plan c.args.drawing.now) c.args.marks.now c.args.few.now c.loop-number.number c.loop-number.both.items (omega (arith, f, l, e, s)) c.loop-number.invariant c.requires.marks c.requires.few
+    all_both (plan c.args.drawing.now) c.args.marks.now c.args.few.now c.loop-number.number
+    c.loop-number.both.items (omega (arith, f, l, e, s)) c.loop-number.invariant
+    c.requires.marks c.requires.few

@@ -4,7 +4,9 @@ use Rattle.area_faults.proofs.ToldFaults.{all_faults, no_meetings, no_pairs, non
 use Rattle.area_faults.proofs.telling.faults_of_settled.Goals as goal
 
 pub told-requires-clause-meetings : goal.told-requires-clause-meetings
-told-requires-clause-meetings c = no_meetings (plan c.args.drawing.now) c.new-meetings.result.items c.new-meetings.ensures.items c.requires.clear
+told-requires-clause-meetings c =
+    no_meetings (plan c.args.drawing.now) c.new-meetings.result.items c.new-meetings.ensures.items
+    c.requires.clear
 
 pub told-requires-clause-points : goal.told-requires-clause-points
 told-requires-clause-points c = c.requires.faces.2.point_count
@@ -15,4 +17,7 @@ told-requires-clause-curves c = c.requires.faces.2.curve_count
 pub returns : goal.returns
 returns c =
     let d = plan c.args.drawing.now in
-    all_faults d c.in_ok-faults.faults (c.in_ok-faults.ensures.faults (λ i. false) (none_out d c.new-meetings.result.items c.new-meetings.ensures.items) c.requires.faces (no_pairs d _ refl)) (λ e. c.requires.settled)
+    all_faults d c.in_ok-faults.faults
+    (c.in_ok-faults.ensures.faults (λ i. false)
+    (none_out d c.new-meetings.result.items c.new-meetings.ensures.items) c.requires.faces
+    (no_pairs d _ refl)) (λ e. c.requires.settled)

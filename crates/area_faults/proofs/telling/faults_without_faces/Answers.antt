@@ -6,14 +6,19 @@ use Rattle.area_faults.proofs.telling.faults_without_faces.Goals as goal
 pub told-requires-clause-below : goal.told-requires-clause-below
 told-requires-clause-below c =
     let h = rw c.in-Some.is at c.in_ok-points_on_marked.ensures in
-    points_below (plan c.args.drawing.now) c.deref.result.now c.in-Some.pairs.items c.deref-in-Some.result.now _ c.deref-in-Some.ensures.value c.in_ok-faces-in-Some.ensures.points h
+    points_below (plan c.args.drawing.now) c.deref.result.now c.in-Some.pairs.items
+    c.deref-in-Some.result.now _ c.deref-in-Some.ensures.value
+    c.in_ok-faces-in-Some.ensures.points h
 
 pub returns : goal.returns
 returns c =
     let d = plan c.args.drawing.now in
     let h = rw c.in-Some.is at c.in_ok-points_on_marked.ensures in
-    let t = c.in_ok-faults-in-Some.ensures.faults (λ i. true) (all_out d c.args.meetings.items) c.in_ok-faces-in-Some.ensures.faces
-    (pairs_for_all d c.in_ok-out.out.items c.deref.result.now c.in-Some.pairs.items c.deref-in-Some.result.now c.len.result c.deref.ensures.value c.deref-in-Some.ensures.value (c.len.ensures ∙ c.args.drawing.now.curves.ok.0) c.in_ok-out.ensures.marked h) in
+    let t = c.in_ok-faults-in-Some.ensures.faults (λ i. true)
+    (all_out d c.args.meetings.items) c.in_ok-faces-in-Some.ensures.faces
+    (pairs_for_all d c.in_ok-out.out.items c.deref.result.now c.in-Some.pairs.items
+    c.deref-in-Some.result.now c.len.result c.deref.ensures.value c.deref-in-Some.ensures.value
+    (c.len.ensures ∙ c.args.drawing.now.curves.ok.0) c.in_ok-out.ensures.marked h) in
     record {
       told = t.told;
       none = t.out;

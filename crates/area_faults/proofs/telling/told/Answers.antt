@@ -12,10 +12,17 @@ returns-clause-faults c = λ out left faces pairs. record {
     out_is = left;
     r = faces.0;
     rest = faces.1;
-    over = c.numbers_tell_faults.ensures (plan c.args.drawing.now) faces.0 out faces.1 c.args.faces.now c.in_ok-found.found faces.2 c.in_ok-found.ensures;
-    empty = c.numbers_tell_rings.ensures (plan c.args.drawing.now) faces.0 out faces.1 c.args.faces.now c.in_ok-found.found.empty.items c.in_ok-empty.empty.items faces.2 (search rules);
-    broken = c.numbers_tell_rings.ensures (plan c.args.drawing.now) faces.0 out faces.1 c.args.faces.now c.in_ok-found.found.«open».items c.in_ok-open.«open».items faces.2 (search rules);
+    over = c.numbers_tell_faults.ensures
+        (plan c.args.drawing.now) faces.0 out faces.1 c.args.faces.now c.in_ok-found.found faces.2
+        c.in_ok-found.ensures;
+    empty = c.numbers_tell_rings.ensures
+        (plan c.args.drawing.now) faces.0 out faces.1 c.args.faces.now
+        c.in_ok-found.found.empty.items c.in_ok-empty.empty.items faces.2 (search rules);
+    broken = c.numbers_tell_rings.ensures
+        (plan c.args.drawing.now) faces.0 out faces.1 c.args.faces.now
+        c.in_ok-found.found.«open».items c.in_ok-open.«open».items faces.2 (search rules);
   };
-  least = least_sides (plan c.args.drawing.now) faces.0 out faces.1 c.args.faces.now c.in_ok-found.found faces.2 c.in_ok-found.ensures;
+  least = least_sides (plan c.args.drawing.now) faces.0 out faces.1 c.args.faces.now
+      c.in_ok-found.found faces.2 c.in_ok-found.ensures;
   out = refl;
 }

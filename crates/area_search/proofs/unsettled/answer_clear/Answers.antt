@@ -10,7 +10,8 @@ use Rattle.area_search.proofs.unsettled.answer_clear.Goals as goal
 
 pub arc_meeting_among-requires-clause-marked : goal.arc_meeting_among-requires-clause-marked
 arc_meeting_among-requires-clause-marked c =
-    subst (λ (ms : List Bool). (i j : ℕ) → IsArcPair (plan c.args.drawing.now) i j → IsOneMarked ms i j) (sym c.deref.ensures.value) c.in_ok-aside.ensures.pairs
+    subst (λ (ms : List Bool). (i j : ℕ) → IsArcPair (plan c.args.drawing.now) i j
+    → IsOneMarked ms i j) (sym c.deref.ensures.value) c.in_ok-aside.ensures.pairs
 
 pub returns-in-Some : goal.returns-in-Some
 returns-in-Some c =
@@ -22,4 +23,6 @@ returns-in-Some c =
     (own_meeting t d p.first p.second h.pair)
 
 pub answer_good-requires-clause-pairs : goal.answer_good-requires-clause-pairs
-answer_good-requires-clause-pairs c = none_of_all (plan c.args.drawing.now) c.requires.straights (c.in_ok-pair.ensures.none c.in-None.is)
+answer_good-requires-clause-pairs c =
+    none_of_all (plan c.args.drawing.now) c.requires.straights
+    (c.in_ok-pair.ensures.none c.in-None.is)

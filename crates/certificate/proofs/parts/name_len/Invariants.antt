@@ -4,4 +4,5 @@ use Rattle.certificate.specs.Spelling.{is_name_byte}
 use Rattle.certificate.proofs.parts.name_len.Given as goal
 
 abbrev pub invariant-loop-i : goal.invariant-loop-i
-invariant-loop-i l = l.i + prefix_len is_name_byte (drop l.i l.bytes) ≡ prefix_len is_name_byte l.bytes
+invariant-loop-i l =
+    l.i + prefix_len is_name_byte (drop l.i l.bytes) ≡ prefix_len is_name_byte l.bytes

@@ -11,7 +11,8 @@ use Rattle.certificate.proofs.sections.add_positions.Goals as goal
 
 pub loop-i-init : goal.loop-i-init
 loop-i-init c = record {
-  on = more_first (line_at event_at) c.args.positions.now.items c.args.count (text_view c.args.text);
+  on = more_first (line_at event_at) c.args.positions.now.items c.args.count
+      (text_view c.args.text);
   left = left_same (text_view c.args.text);
 }
 
@@ -25,23 +26,40 @@ pub returns-in_err-position-clause-fails : goal.returns-in_err-position-clause-f
 returns-in_err-position-clause-fails c =
     let p = err_from_is_err_and c.from_residual.result c.from_residual.ensures.1 in
     let e = c.in_err-position.field-0.0 in
-    let some : 0 < length c.loop-i.left.rest.now = some_bytes c.loop-i.left.rest.now c.is_empty.result c.is_empty.ensures c.if-is_empty.false in
-    let h : Fails e (line_at event_at (text_view c.loop-i.left)) = subst (λ l. Fails e l) (same_line event_at (text_view c.loop-i.left) c.event_at.result c.event_at.ensures.value) c.in_err-position.ensures.value in
-    rw (p.1, p.2) (more_fails event_at event_local c.args.positions.now.items c.loop-i.positions.items c.args.count c.loop-i.i (text_view c.args.text) (text_view c.loop-i.left) e c.loop-i-test.true some h c.loop-i.invariant.on)
+    let some : 0 < length c.loop-i.left.rest.now = some_bytes c.loop-i.left.rest.now
+    c.is_empty.result c.is_empty.ensures c.if-is_empty.false in
+    let h : Fails e (line_at event_at (text_view c.loop-i.left)) = subst (λ l. Fails e l)
+    (same_line event_at (text_view c.loop-i.left) c.event_at.result c.event_at.ensures.value)
+    c.in_err-position.ensures.value in
+    rw (p.1, p.2)
+    (more_fails event_at event_local c.args.positions.now.items c.loop-i.positions.items
+    c.args.count c.loop-i.i (text_view c.args.text)
+    (text_view c.loop-i.left) e c.loop-i-test.true some h c.loop-i.invariant.on)
 
 pub loop-i-preserved : goal.loop-i-preserved
 loop-i-preserved c =
     let x = c.in_ok-position.position in
     let u = text_view c.in_ok-position.after in
-    let some : 0 < length c.loop-i.left.rest.now = some_bytes c.loop-i.left.rest.now c.is_empty.result c.is_empty.ensures c.if-is_empty.false in
-    let found : line_at event_at (text_view c.loop-i.left) ≡ Ok (x, u) = sym (same_line event_at (text_view c.loop-i.left) c.event_at.result c.event_at.ensures.value) ∙ c.in_ok-position.ensures.value in
+    let some : 0 < length c.loop-i.left.rest.now = some_bytes c.loop-i.left.rest.now
+    c.is_empty.result c.is_empty.ensures c.if-is_empty.false in
+    let found : line_at event_at (text_view c.loop-i.left)
+    ≡ Ok (x, u) =
+    sym (same_line event_at (text_view c.loop-i.left) c.event_at.result
+    c.event_at.ensures.value) ∙ c.in_ok-position.ensures.value in
     record {
-      on = rw c.in_ok-push.ensures.items (more_next event_at event_local c.args.positions.now.items c.loop-i.positions.items c.args.count c.loop-i.i (text_view c.args.text) (text_view c.loop-i.left) u x c.loop-i-test.true some found c.loop-i.invariant.on);
-      left = left_on (text_view c.args.text) (text_view c.loop-i.left) u c.loop-i.invariant.left c.in_ok-position.ensures.left;
+      on = rw c.in_ok-push.ensures.items
+          (more_next event_at event_local c.args.positions.now.items c.loop-i.positions.items
+          c.args.count c.loop-i.i (text_view c.args.text)
+          (text_view c.loop-i.left) u x c.loop-i-test.true some found c.loop-i.invariant.on);
+      left = left_on (text_view c.args.text)
+          (text_view c.loop-i.left) u c.loop-i.invariant.left c.in_ok-position.ensures.left;
     }
 
 pub returns-clause-on : goal.returns-clause-on
-returns-clause-on c = more_ends (line_at event_at) c.args.positions.now.items c.loop-i.positions.items c.args.count c.loop-i.i (text_view c.args.text) (text_view c.loop-i.left) c.loop-i-test.false c.loop-i.invariant.on
+returns-clause-on c =
+    more_ends (line_at event_at) c.args.positions.now.items c.loop-i.positions.items c.args.count
+    c.loop-i.i (text_view c.args.text)
+    (text_view c.loop-i.left) c.loop-i-test.false c.loop-i.invariant.on
 
 pub returns-clause-left : goal.returns-clause-left
 returns-clause-left c = c.loop-i.invariant.left

@@ -12,7 +12,8 @@ pub loop-certificate-preserved : goal.loop-certificate-preserved
 loop-certificate-preserved g c =
     let same = ap (λ x. certificate_text Two (view x)) c.certificate-item.is in
     let one = wrote_as same c.put_certificate.ensures in
-    wrote_more (λ x. certificate_text Two (view x)) c.args.all.now c.loop-certificate.certificate-index
+    wrote_more (λ x. certificate_text Two (view x)) c.args.all.now
+    c.loop-certificate.certificate-index
     c.certificate-item.result c.loop-certificate-test.true c.loop-certificate.invariant one
 
 pub returns : goal.returns

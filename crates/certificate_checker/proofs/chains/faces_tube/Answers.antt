@@ -12,5 +12,9 @@ bounds-case-edge c =
 
 pub returns : goal.returns
 returns c =
-    let x = faced_is c.args.case.now c.requires.fit (half_of c.args.h) _ (facing_half c.args.case.now c.requires.fit c.args.h c.edge_of-edge.result _ c.requires.half c.edge_of-edge.ensures) in
-    ((λ t. x.0 (c.are_same.ensures.0 t ∙ c.side_of.ensures)), (λ y. c.are_same.ensures.1 (x.1 y ∙ sym c.side_of.ensures)))
+    let x = faced_is c.args.case.now c.requires.fit (half_of c.args.h) _
+    (facing_half c.args.case.now c.requires.fit c.args.h c.edge_of-edge.result _ c.requires.half
+    c.edge_of-edge.ensures) in (
+      (λ t. x.0 (c.are_same.ensures.0 t ∙ c.side_of.ensures)),
+      (λ y. c.are_same.ensures.1 (x.1 y ∙ sym c.side_of.ensures)),
+    )

@@ -7,11 +7,24 @@ use Rattle.certificate_checker.proofs.checking.begin.Goals as goal
 
 pub returns : goal.returns
 returns c = record {
-  moved = none_moved (judged c.args.case.now) c.new-live.result c.widest.result (length c.in_ok-fan.fan.items) c.in_ok-mesh.mesh c.new-live.ensures c.widest.ensures c.in_ok-fan.ensures
-      (none_turned (judged c.args.case.now) c.requires.fit.counts c.events.result c.args.of.now.low.items c.args.of.now.high.items c.requires.of c.in_ok-mesh.mesh
-      (subst (λ (ls : List ℕ). IsMeshOf c.events.result ls c.args.of.now.high.items (length ls) c.in_ok-mesh.mesh) c.deref.ensures.value
-      (subst (λ (hs : List ℕ). IsMeshOf c.events.result c.deref.result.now hs (length c.deref.result.now) c.in_ok-mesh.mesh) c.deref-2.ensures.value c.in_ok-mesh.ensures)));
-  border = none_marked (judged c.args.case.now) IsAtBorder c.in_ok-marks.marks.border.items c.len.result c.in_ok-marks.ensures.border (let a = c.len.ensures in omega (arith, a));
-  across = none_marked (judged c.args.case.now) (NamesAcross c.args.case.now.certificate.now.notes.items) c.in_ok-marks.marks.across.items c.len.result c.in_ok-marks.ensures.across (let a = c.len.ensures in omega (arith, a));
-  points = none_placed (judged c.args.case.now) c.in_ok-placing.placing.spots.items c.in_ok-marks.marks.point.items c.len.result c.in_ok-placing.placing.next c.in_ok-placing.placing.bad c.in_ok-placing.ensures.spots c.in_ok-placing.ensures.next c.in_ok-placing.ensures.bad c.in_ok-marks.ensures.point (let a = c.len.ensures in omega (arith, a));
+  moved = none_moved (judged c.args.case.now) c.new-live.result c.widest.result
+      (length c.in_ok-fan.fan.items) c.in_ok-mesh.mesh c.new-live.ensures c.widest.ensures
+      c.in_ok-fan.ensures
+      (none_turned (judged c.args.case.now) c.requires.fit.counts c.events.result
+      c.args.of.now.low.items c.args.of.now.high.items c.requires.of c.in_ok-mesh.mesh
+      (subst (λ (ls : List ℕ). IsMeshOf c.events.result ls c.args.of.now.high.items
+      (length ls) c.in_ok-mesh.mesh) c.deref.ensures.value
+      (subst (λ (hs : List ℕ). IsMeshOf c.events.result c.deref.result.now hs
+      (length c.deref.result.now) c.in_ok-mesh.mesh) c.deref-2.ensures.value
+      c.in_ok-mesh.ensures)));
+  border = none_marked (judged c.args.case.now) IsAtBorder c.in_ok-marks.marks.border.items
+      c.len.result c.in_ok-marks.ensures.border (let a = c.len.ensures in omega (arith, a));
+  across = none_marked (judged c.args.case.now)
+      (NamesAcross c.args.case.now.certificate.now.notes.items) c.in_ok-marks.marks.across.items
+      c.len.result c.in_ok-marks.ensures.across (let a = c.len.ensures in omega (arith, a));
+  points = none_placed (judged c.args.case.now) c.in_ok-placing.placing.spots.items
+      c.in_ok-marks.marks.point.items c.len.result c.in_ok-placing.placing.next
+      c.in_ok-placing.placing.bad c.in_ok-placing.ensures.spots c.in_ok-placing.ensures.next
+      c.in_ok-placing.ensures.bad c.in_ok-marks.ensures.point (let a = c.len.ensures in
+      omega (arith, a));
 }

@@ -20,13 +20,17 @@ pub loop-i-preserved : goal.loop-i-preserved
 loop-i-preserved c =
     let d = plan c.args.drawing.now in
     let l : c.loop-i.i < length d.curves = search rules in
-    let e : c.index.result.now ≡ curve d c.loop-i.i = c.index.ensures ∙ entry d.curves c.loop-i.i c.index.result.now _ l in
+    let e : c.index.result.now ≡ curve d c.loop-i.i = c.index.ensures
+    ∙ entry d.curves c.loop-i.i c.index.result.now _ l in
     let a = ap (λ (c' : Curve). length (edges_of 0 c'.kind c' (bays_at (arc c') c.args.level))) e in
     let n = first_next d c.args.level c.loop-i.i l in
     let i = c.loop-i.invariant.few in
     let b = c.edge_count.ensures.few in
     record {
-      total = λ t. (let s = c.edge_count.ensures.count (known d c.args.level c.loop-i.i l c.index.result.now e t) in let x = c.loop-i.invariant.total t in omega (arith, a, n, s, x));
+      total = λ t.
+          (let s = c.edge_count.ensures.count
+          (known d c.args.level c.loop-i.i l c.index.result.now e t) in
+          let x = c.loop-i.invariant.total t in omega (arith, a, n, s, x));
       few = omega (arith, i, b);
     }
 

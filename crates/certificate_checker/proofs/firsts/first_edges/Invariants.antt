@@ -9,5 +9,6 @@ invariant-loop-i l = record {
   size : length l.firsts.items ≡ l.i;
   next : l.next ≡ first_edge (drawn_bays (plan l.drawing) l.level) 0 (plan l.drawing).curves l.i;
   each : (k : ℕ) → k < l.i
-      → get_or l.firsts.items k 0 ≡ first_edge (drawn_bays (plan l.drawing) l.level) 0 (plan l.drawing).curves k;
+      → get_or l.firsts.items k 0 ≡ first_edge (drawn_bays (plan l.drawing) l.level) 0
+      (plan l.drawing).curves k;
 }

@@ -8,5 +8,7 @@ abbrev pub invariant-loop-j : goal.invariant-loop-j
 invariant-loop-j l = record {
   size : length l.held.items ≡ l.j;
   each : (k : ℕ) → k < l.j
-      → IsTrue (get_or l.held.items k false) ↔ IsHeldAt (plan l.drawing) l.level (get_or l.places k (Cell 0)) (object (plan l.drawing) k);
+      → IsTrue (get_or l.held.items k false)
+      ↔ IsHeldAt (plan l.drawing) l.level (get_or l.places k (Cell 0))
+      (object (plan l.drawing) k);
 }

@@ -7,4 +7,7 @@ use Rattle.certificate_checker.proofs.HeldPoints.{sided_near}
 use Rattle.certificate_checker.proofs.holding.is_on_side.Goals as goal
 
 pub place_of-side-requires : goal.place_of-side-requires
-place_of-side-requires c = subst (λ (s : Point). AreNear (2 ^ 32) s c.args.at) (sym (ap (λ (h : HalfArc). h.from) c.in-Some.ensures)) (sided_near (arc c.args.curve.now) c.args.at c.requires)
+place_of-side-requires c =
+    subst (λ (s : Point). AreNear (2 ^ 32) s c.args.at)
+    (sym (ap (λ (h : HalfArc). h.from) c.in-Some.ensures))
+    (sided_near (arc c.args.curve.now) c.args.at c.requires)

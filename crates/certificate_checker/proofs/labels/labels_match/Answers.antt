@@ -2,7 +2,10 @@ use Rattle.certificate_checker.proofs.ListParts.{at_note, before_note}
 use Rattle.certificate_checker.proofs.labels.labels_match.Goals as goal
 
 pub label_over-label-requires-clause-edge : goal.label_over-label-requires-clause-edge
-label_over-label-requires-clause-edge c = before_note c.args.notes.now c.args.live.now c.args.position _ c.edge_before-lower.ensures c.requires.live
+label_over-label-requires-clause-edge c =
+    before_note c.args.notes.now c.args.live.now c.args.position _ c.edge_before-lower.ensures
+    c.requires.live
 
 pub label_under-last-requires-clause-edge : goal.label_under-last-requires-clause-edge
-label_under-last-requires-clause-edge c = at_note c.args.notes.now c.args.live.now _ _ c.edge_at-upper.ensures c.requires.live
+label_under-last-requires-clause-edge c =
+    at_note c.args.notes.now c.args.live.now _ _ c.edge_at-upper.ensures c.requires.live

@@ -7,7 +7,8 @@ use Rattle.certificate_checker.proofs.links.falls.Goals as goal
 pub returns-then-to-case : goal.returns-then-to-case
 returns-then-to-case c =
     let h : 2 * length c.args.case.now.edges.now ≤ c.args.to = search rules in
-    refused (λ f. let a = within_half (judged c.args.case.now) c.args.to f.fits in omega (arith, a, h))
+    refused (λ f. let a = within_half (judged c.args.case.now) c.args.to f.fits in
+    omega (arith, a, h))
 
 pub returns-then-not-has_label_of : goal.returns-then-not-has_label_of
 returns-then-not-has_label_of c =
@@ -17,5 +18,11 @@ returns-then-not-has_label_of c =
 pub returns : goal.returns
 returns c =
     let h : IsTrue c.has_label_of.result = search rules in
-    let l : c.args.to < 2 * length c.args.case.now.edges.now = search rules in
-    ((λ t. record { fits = half_within (judged c.args.case.now) c.args.to l; kept = c.has_label_of.ensures.0 h; less = c.is_lower.ensures.0 t }), (λ f. c.is_lower.ensures.1 f.less))
+    let l : c.args.to < 2 * length c.args.case.now.edges.now = search rules in (
+      (λ t. record {
+        fits = half_within (judged c.args.case.now) c.args.to l;
+        kept = c.has_label_of.ensures.0 h;
+        less = c.is_lower.ensures.0 t;
+      }),
+      (λ f. c.is_lower.ensures.1 f.less),
+    )

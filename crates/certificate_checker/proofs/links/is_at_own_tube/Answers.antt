@@ -14,4 +14,6 @@ pub returns : goal.returns
 returns c =
     let a : c.label_at-label.result ≡ 0 → ⊥ = search rules in
     let b : c.label_at-label.result ≤ length c.args.case.now.points.now = search rules in
-    at_tube_is (judged c.args.case.now) (half_of c.args.h) _ c.label_at-label.result c.bounds_tube.result c.label_at-label.ensures (omega (arith, a)) (omega (arith, a, b)) c.bounds_tube.ensures
+    at_tube_is (judged c.args.case.now)
+    (half_of c.args.h) _ c.label_at-label.result c.bounds_tube.result c.label_at-label.ensures
+    (omega (arith, a)) (omega (arith, a, b)) c.bounds_tube.ensures

@@ -7,5 +7,6 @@ abbrev pub invariant-loop-i : goal.invariant-loop-i
 invariant-loop-i l = record {
   next : l.placing.next ≡ l.i;
   size : length l.placing.spots.items ≡ l.size;
-  placed : ArePlacedTo (judged l.case) l.event l.placing.next l.placing.bad l.placing.spots.items l.marks;
+  placed : ArePlacedTo (judged l.case) l.event l.placing.next l.placing.bad l.placing.spots.items
+      l.marks;
 }

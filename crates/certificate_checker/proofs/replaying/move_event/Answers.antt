@@ -9,14 +9,38 @@ use Rattle.certificate_checker.proofs.replaying.move_event.Goals as goal
 
 pub turn_event-requires-clause-can : goal.turn_event-requires-clause-can
 turn_event-requires-clause-can c =
-    can_turn_at (judged c.args.case.now) c.requires.fit.table c.requires.fit.counts c.args.event c.args.mesh.now c.starting-starting.result.now _ (let f = c.requires.fit.few_edges in omega (arith, f)) c.requires.moved.turned
-    (is_event (judged c.args.case.now) c.requires.fit.table c.requires.fit.counts c.args.event c.args.live.now c.starting-starting.result.now _ c.position_of-position.result (length c.ending-ending.result.now) c.requires.event c.requires.moved.live c.starting-starting.ensures c.position_of-position.ensures (ap length c.ending-ending.ensures) (c.deref.ensures.value ∙ c.in_ok-copy_part.ensures) (passes_to (judged c.args.case.now) c.requires.fit.table c.requires.fit.counts c.args.event c.requires.moved.passes c.requires.passes))
+    can_turn_at (judged c.args.case.now) c.requires.fit.table c.requires.fit.counts c.args.event
+    c.args.mesh.now c.starting-starting.result.now _ (let f = c.requires.fit.few_edges in
+    omega (arith, f)) c.requires.moved.turned
+    (is_event (judged c.args.case.now) c.requires.fit.table c.requires.fit.counts c.args.event
+    c.args.live.now c.starting-starting.result.now _ c.position_of-position.result
+    (length c.ending-ending.result.now) c.requires.event c.requires.moved.live
+    c.starting-starting.ensures c.position_of-position.ensures
+    (ap length c.ending-ending.ensures) (c.deref.ensures.value ∙ c.in_ok-copy_part.ensures)
+    (passes_to (judged c.args.case.now) c.requires.fit.table c.requires.fit.counts c.args.event
+    c.requires.moved.passes c.requires.passes))
 
 pub returns : goal.returns
 returns c = record {
-  passes = (passes_to (judged c.args.case.now) c.requires.fit.table c.requires.fit.counts c.args.event c.requires.moved.passes c.requires.passes);
-  live = c.in_ok-replace.ensures.values ∙ next_live (judged c.args.case.now) c.requires.fit.table c.requires.fit.counts c.args.event c.args.live.now c.starting-starting.result.now c.position_of-position.result (length c.ending-ending.result.now) c.requires.event c.requires.moved.live c.starting-starting.ensures c.position_of-position.ensures (ap length c.ending-ending.ensures);
-  fan = λ j l. subst (λ (n : ℕ). width (event (judged c.args.case.now) j) ≤ n) (sym c.turn_event.auto.fan) (c.requires.moved.fan j l);
-  turned = c.turn_event.ensures.turned (length c.args.case.now.edges.now) (edge (judged c.args.case.now)) (steps_from [] (moves (judged c.args.case.now))) c.args.event (events_are (judged c.args.case.now) c.requires.fit.table c.requires.fit.counts) c.requires.moved.turned
-      (is_event (judged c.args.case.now) c.requires.fit.table c.requires.fit.counts c.args.event c.args.live.now c.starting-starting.result.now _ c.position_of-position.result (length c.ending-ending.result.now) c.requires.event c.requires.moved.live c.starting-starting.ensures c.position_of-position.ensures (ap length c.ending-ending.ensures) (c.deref.ensures.value ∙ c.in_ok-copy_part.ensures) (passes_to (judged c.args.case.now) c.requires.fit.table c.requires.fit.counts c.args.event c.requires.moved.passes c.requires.passes));
+  passes = (passes_to (judged c.args.case.now) c.requires.fit.table c.requires.fit.counts
+      c.args.event c.requires.moved.passes c.requires.passes);
+  live = c.in_ok-replace.ensures.values
+      ∙ next_live (judged c.args.case.now) c.requires.fit.table c.requires.fit.counts c.args.event
+      c.args.live.now c.starting-starting.result.now c.position_of-position.result
+      (length c.ending-ending.result.now) c.requires.event c.requires.moved.live
+      c.starting-starting.ensures c.position_of-position.ensures
+      (ap length c.ending-ending.ensures);
+  fan = λ j l. subst (λ (n : ℕ). width (event (judged c.args.case.now) j) ≤ n)
+      (sym c.turn_event.auto.fan) (c.requires.moved.fan j l);
+  turned = c.turn_event.ensures.turned (length c.args.case.now.edges.now)
+      (edge (judged c.args.case.now)) (steps_from [] (moves (judged c.args.case.now))) c.args.event
+      (events_are (judged c.args.case.now) c.requires.fit.table c.requires.fit.counts)
+      c.requires.moved.turned
+      (is_event (judged c.args.case.now) c.requires.fit.table c.requires.fit.counts c.args.event
+      c.args.live.now c.starting-starting.result.now _ c.position_of-position.result
+      (length c.ending-ending.result.now) c.requires.event c.requires.moved.live
+      c.starting-starting.ensures c.position_of-position.ensures
+      (ap length c.ending-ending.ensures) (c.deref.ensures.value ∙ c.in_ok-copy_part.ensures)
+      (passes_to (judged c.args.case.now) c.requires.fit.table c.requires.fit.counts
+      c.args.event c.requires.moved.passes c.requires.passes));
 }

@@ -30,7 +30,8 @@ returns-then-limit-from-clause-long g c is =
     let got = c.read_piece.new.piece in
     let near = subst (λ (held : Option Files). IsFront held name f.0) (sym i.reads.held) f.2 in
     let on = c.in_ok-n.ensures.front f.0 f.1 near in
-    let far = subst (λ (held : Option Files). IsFront held name (f.0 ++ take n got)) i.reads.held on in
+    let far = subst (λ (held : Option Files). IsFront held name (f.0 ++ take n got)) i.reads.held
+    on in
     let l = front_length f.0 got n c.loop.from f.1 c.in_ok-n.ensures.fits in
     let over = c.if-limit-from.true in
     longer held name (f.0 ++ take n got) c.args.limit (omega (arith, l, over)) far
@@ -45,8 +46,10 @@ loop-preserved g c =
     let got = c.read_piece.new.piece in
     let near = subst (λ (held : Option Files). IsFront held name f.0) (sym i.reads.held) f.2 in
     let on = c.in_ok-n.ensures.front f.0 f.1 near in
-    let far = subst (λ (held : Option Files). IsFront held name (f.0 ++ take n got)) i.reads.held on in
-    let p : c.deref.result.now ≡ got = c.deref.ensures.value ∙ with_items_is c.loop.piece got (c.read_piece.auto.piece ∙ c.deref_mut.ensures.len) in
+    let far = subst (λ (held : Option Files). IsFront held name (f.0 ++ take n got)) i.reads.held
+    on in
+    let p : c.deref.result.now ≡ got = c.deref.ensures.value
+    ∙ with_items_is c.loop.piece got (c.read_piece.auto.piece ∙ c.deref_mut.ensures.len) in
     let took = c.in_ok-hand_on.ensures in
     record {
       piece = search rules;
@@ -54,10 +57,14 @@ loop-preserved g c =
         f.0 ++ take n got,
         front_length f.0 got n c.loop.from f.1 c.in_ok-n.ensures.fits,
         far,
-        subst (λ (b : List ℕ). g.T.Taker.took c.args.taker.now (f.0 ++ take n b) c.hand_on.new.taker) p (took.took c.args.taker.now f.0 f.3),
+        subst (λ (b : List ℕ). g.T.Taker.took c.args.taker.now
+            (f.0 ++ take n b) c.hand_on.new.taker) p (took.took c.args.taker.now f.0 f.3),
       );
       counted = search rules;
       small = search rules;
-      room = λ k l. took.further k (i.room (length (take n c.deref.result.now) + k) (let q = ap (λ (s : List ℕ). length (take n s)) p ∙ length-take-le n got c.in_ok-n.ensures.fits in omega (arith, l, q)));
+      room = λ k l. took.further k
+          (i.room (length (take n c.deref.result.now) + k)
+          (let q = ap (λ (s : List ℕ). length (take n s)) p
+          ∙ length-take-le n got c.in_ok-n.ensures.fits in omega (arith, l, q)));
       reads = reads_then (λ r. r) (i.reads.ready.readable name) i.reads c.read_piece.ensures.reads;
     }

@@ -4,4 +4,5 @@ use Rattle.decimals.proofs.writing.put.Goals as goal
 
 pub returns-clause-rest : goal.returns-clause-rest
 returns-clause-rest c =
-    drop-put_mid c.args.at _ c.args.into.now c.copy_from_slice.new.self _ (omega arith) (omega arith) (omega (arith, c.copy_from_slice.ensures.len))
+    drop-put_mid c.args.at _ c.args.into.now c.copy_from_slice.new.self _ (omega arith)
+    (omega arith) (omega (arith, c.copy_from_slice.ensures.len))

@@ -10,4 +10,5 @@ pub returns-clause-more : goal.returns-clause-more
 returns-clause-more c = row_fed
 
 pub returns-clause-whole : goal.returns-clause-whole
-returns-clause-whole c l lines transfer h = all_fed l lines transfer (rows_by_table (form_of l) lines transfer h)
+returns-clause-whole c l lines transfer h =
+    all_fed l lines transfer (rows_by_table (form_of l) lines transfer h)

@@ -15,5 +15,9 @@ invariant-loop-table l = record {
   can_next : (goal.iterator-loop-table).can_next l.table-iterator;
   is_finite : (goal.iterator-loop-table).is_finite l.table-iterator;
   few : All HasFew (tables_view (iter_rest (zip_first l.table-iterator)));
-  findings : findings_of l.findings.items ++ tables_findings (codes_of l.codes) (tables_view (iter_rest (zip_first l.table-iterator))) (tables_rows_of (iter_rest (zip_second l.table-iterator))) ≡ findings_of l.fn.findings.items ++ tables_findings (codes_of l.codes) (tables_view l.tables) (tables_rows_of l.transfer);
+  findings : findings_of l.findings.items
+      ++ tables_findings (codes_of l.codes) (tables_view (iter_rest (zip_first l.table-iterator)))
+      (tables_rows_of (iter_rest (zip_second l.table-iterator)))
+      ≡ findings_of l.fn.findings.items
+      ++ tables_findings (codes_of l.codes) (tables_view l.tables) (tables_rows_of l.transfer);
 }

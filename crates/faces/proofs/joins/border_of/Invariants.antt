@@ -5,4 +5,5 @@ use Rattle.faces.specs.Joins.{border_halves}
 use Rattle.faces.proofs.joins.border_of.Given as goal
 
 abbrev pub invariant-loop-cell : goal.invariant-loop-cell
-invariant-loop-cell l = l.border.items ≡ flat_map border_halves (gaps_of (take l.cell-index l.cells))
+invariant-loop-cell l =
+    l.border.items ≡ flat_map border_halves (gaps_of (take l.cell-index l.cells))

@@ -5,8 +5,12 @@ use Rattle.faces.proofs.CellPairs.{known_more}
 use Rattle.faces.proofs.labelling.label_with_joins.Goals as goal
 
 pub freeing-requires-clause-known : goal.freeing-requires-clause-known
-freeing-requires-clause-known c = known_more _ _ (gaps_of c.args.cells.items) (let e = c.halves_of.ensures.size in omega (arith, e)) c.requires.known
+freeing-requires-clause-known c =
+    known_more _ _ (gaps_of c.args.cells.items) (let e = c.halves_of.ensures.size in
+    omega (arith, e)) c.requires.known
 
 pub returns-clause-faces : goal.returns-clause-faces
 returns-clause-faces c =
-    c.in_ok-labelled.ensures.faces (gaps_of c.args.cells.items) (subst (λ (n : ℕ). AreJoins n (gaps_of c.args.cells.items) c.in_ok-joins.joins) c.halves_of.ensures.size c.in_ok-joins.ensures)
+    c.in_ok-labelled.ensures.faces (gaps_of c.args.cells.items)
+    (subst (λ (n : ℕ). AreJoins n (gaps_of c.args.cells.items) c.in_ok-joins.joins)
+    c.halves_of.ensures.size c.in_ok-joins.ensures)

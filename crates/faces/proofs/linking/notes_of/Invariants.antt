@@ -7,5 +7,6 @@ abbrev pub invariant-loop-h : goal.invariant-loop-h
 invariant-loop-h l = record {
   size : length l.notes.items ≡ l.h;
   notes : (g : ℕ) → g < l.h
-      → IsNote l.graph.mesh.now (cells_of l.graph.joins.now) l.ranks g (get_or l.notes.items g no_note);
+      → IsNote l.graph.mesh.now (cells_of l.graph.joins.now) l.ranks g
+      (get_or l.notes.items g no_note);
 }

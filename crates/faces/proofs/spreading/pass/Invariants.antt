@@ -6,7 +6,8 @@ use Rattle.faces.proofs.spreading.pass.Given as goal
 
 abbrev pub invariant-loop-g : goal.invariant-loop-g
 invariant-loop-g l = record {
-  passing : IsPassing l.graph.mesh.now (cells_of l.graph.joins.now) (head_of l.fn.search) l.face l.search;
+  passing : IsPassing l.graph.mesh.now (cells_of l.graph.joins.now)
+      (head_of l.fn.search) l.face l.search;
   same : l.search.passed ≡ l.fn.search.passed;
   kept : IsKept l.fn.search.faces.items l.search.faces.items;
   given : IsGiven l.face l.fn.search.faces.items l.search.faces.items;

@@ -7,10 +7,15 @@ use Rattle.faces.proofs.spreading.spread.Goals as goal
 
 pub loop-search-smaller : goal.loop-search-smaller
 loop-search-smaller c =
-    let r = room_all c.args.graph.now.mesh.now (cells_of c.args.graph.now.joins.now) c.requires.graph.mesh_is c.requires.graph.joins.known c.loop-search.search.faces.items c.loop-search.search.queue.items c.loop-search.search.passed c.loop-search.invariant.searched.searched in
+    let r = room_all c.args.graph.now.mesh.now
+    (cells_of c.args.graph.now.joins.now) c.requires.graph.mesh_is c.requires.graph.joins.known
+    c.loop-search.search.faces.items c.loop-search.search.queue.items
+    c.loop-search.search.passed c.loop-search.invariant.searched.searched in
     let t = c.loop-search-test.true in
     let e = c.pass.ensures.passed in
-    let smaller : size c.args.graph.now.mesh.now - c.pass.new.search.passed < size c.args.graph.now.mesh.now - c.loop-search.search.passed = omega (arith, r, t, e) in
+    let smaller : size c.args.graph.now.mesh.now
+    - c.pass.new.search.passed < size c.args.graph.now.mesh.now - c.loop-search.search.passed =
+    omega (arith, r, t, e) in
     smaller
 
 pub loop-search-preserved : goal.loop-search-preserved

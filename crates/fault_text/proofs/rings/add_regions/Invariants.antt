@@ -7,5 +7,6 @@ use Rattle.fault_text.proofs.rings.add_regions.Given as goal
 -- the lines so far are added, and those of the rest are left
 abbrev pub invariant-loop-region : goal.invariant-loop-region
 invariant-loop-region l =
-    l.text ++ flat_map (region_text l.words l.scale (plan l.drawing)) (drop l.region-index l.regions)
+    l.text ++ flat_map (region_text l.words l.scale (plan l.drawing))
+    (drop l.region-index l.regions)
     ≡ l.fn.text ++ flat_map (region_text l.words l.scale (plan l.drawing)) l.regions

@@ -9,13 +9,20 @@ loop-area-init c = refl
 
 pub returns-then-is_faulty : goal.returns-then-is_faulty
 returns-then-is_faulty c =
-    let here = ap is_faulty (sym c.verdict_of.ensures) ∙ sym c.is_faulty.ensures ∙ c.if-is_faulty.true in
-    sym (some_area (λ (t : Telling). is_faulty (verdict_of t.faults)) c.args.areas.now c.loop-area.area-index c.area-item.result c.area-item.result c.loop-area-test.true c.area-item.is here)
+    let here = ap is_faulty (sym c.verdict_of.ensures) ∙ sym c.is_faulty.ensures
+    ∙ c.if-is_faulty.true in
+    sym (some_area (λ (t : Telling). is_faulty (verdict_of t.faults)) c.args.areas.now
+    c.loop-area.area-index c.area-item.result c.area-item.result c.loop-area-test.true
+    c.area-item.is here)
 
 pub loop-area-preserved : goal.loop-area-preserved
 loop-area-preserved c =
-    let here = ap is_faulty (sym c.verdict_of.ensures) ∙ sym c.is_faulty.ensures ∙ c.if-is_faulty.false in
-    pass_over (λ (t : Telling). is_faulty (verdict_of t.faults)) c.args.areas.now c.loop-area.area-index c.area-item.result c.area-item.result c.loop-area-test.true c.area-item.is here ∙ c.loop-area.invariant
+    let here = ap is_faulty (sym c.verdict_of.ensures) ∙ sym c.is_faulty.ensures
+    ∙ c.if-is_faulty.false in
+    pass_over (λ (t : Telling). is_faulty (verdict_of t.faults)) c.args.areas.now
+    c.loop-area.area-index c.area-item.result c.area-item.result c.loop-area-test.true
+    c.area-item.is here ∙ c.loop-area.invariant
 
 pub returns : goal.returns
-returns c = none_left (λ (t : Telling). is_faulty (verdict_of t.faults)) c.args.areas.now c.loop-area.area-index c.loop-area-test.false ∙ c.loop-area.invariant
+returns c = none_left (λ (t : Telling). is_faulty (verdict_of t.faults)) c.args.areas.now
+    c.loop-area.area-index c.loop-area-test.false ∙ c.loop-area.invariant

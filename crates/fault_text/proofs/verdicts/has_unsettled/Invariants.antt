@@ -5,4 +5,5 @@ use Rattle.fault_text.proofs.verdicts.has_unsettled.Given as goal
 
 -- the areas so far are of other kinds
 abbrev pub invariant-loop-area : goal.invariant-loop-area
-invariant-loop-area l = has_unsettled (tellings (drop l.area-index l.areas)) ≡ has_unsettled (tellings l.areas)
+invariant-loop-area l =
+    has_unsettled (tellings (drop l.area-index l.areas)) ≡ has_unsettled (tellings l.areas)

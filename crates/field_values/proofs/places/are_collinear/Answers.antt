@@ -18,4 +18,9 @@ returns c =
     let d2 : FitsSigned w64 c.difference-my.result = search rules in
     let d3 : FitsSigned w64 c.difference-ex.result = search rules in
     let d4 : FitsSigned w64 c.difference-ey.result = search rules in
-    collinear_parts (place_view c.args.s) (place_view c.args.m) (place_view c.args.e) _ _ _ _ _ _ _ (simp to_z-of_z at c.difference-mx.ensures.value) (simp to_z-of_z at c.difference-my.ensures.value) (simp to_z-of_z at c.difference-ex.ensures.value) (simp to_z-of_z at c.difference-ey.ensures.value) (simp to_z-of_z at c.product.ensures) (simp to_z-of_z at c.product-2.ensures) (simp to_z-of_z at c.are_equal.ensures)
+    collinear_parts (place_view c.args.s) (place_view c.args.m) (place_view c.args.e) _ _ _ _ _ _ _
+    (simp to_z-of_z at c.difference-mx.ensures.value)
+    (simp to_z-of_z at c.difference-my.ensures.value)
+    (simp to_z-of_z at c.difference-ex.ensures.value)
+    (simp to_z-of_z at c.difference-ey.ensures.value) (simp to_z-of_z at c.product.ensures)
+    (simp to_z-of_z at c.product-2.ensures) (simp to_z-of_z at c.are_equal.ensures)

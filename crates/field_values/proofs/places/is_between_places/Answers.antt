@@ -16,7 +16,8 @@ returns-then-across c =
     let qy : FitsSigned w64 c.args.q.y = search rules in
     let mx : FitsSigned w64 c.args.m.x = search rules in
     let my : FitsSigned w64 c.args.m.y = search rules in
-    then_both _ _ _ _ (simp to_z-of_z at c.is_between-across.ensures) (simp to_z-of_z at c.is_between-upward.ensures) c.if-across.true
+    then_both _ _ _ _ (simp to_z-of_z at c.is_between-across.ensures)
+    (simp to_z-of_z at c.is_between-upward.ensures) c.if-across.true
 
 pub returns-else-across : goal.returns-else-across
 returns-else-across c =

@@ -7,8 +7,12 @@ use Rattle.file_pages.proofs.Steps.{wrote_nothing, wrote_then, wrote_as}
 use Rattle.file_pages.proofs.blocks.put_block.Goals as goal
 
 pub loop-repeat-init : goal.loop-repeat-init
-loop-repeat-init g c =
-    ([], wrote_nothing, ap (spliced c.block.inside.line.items c.block.inside.repeats.items) c.deref-left.ensures.value ∙ c.block.view_is)
+loop-repeat-init g c = (
+  [],
+  wrote_nothing,
+  ap (spliced c.block.inside.line.items c.block.inside.repeats.items)
+      c.deref-left.ensures.value ∙ c.block.view_is,
+)
 
 pub loop-repeat-preserved : goal.loop-repeat-preserved
 loop-repeat-preserved g c =
@@ -20,12 +24,15 @@ loop-repeat-preserved g c =
     let i = c.loop-repeat.repeat-index in
     let none : Repeat = record { after = 0; count = 0 } in
     let r = get_or all i none in
-    let lines = ap (λ (line : List ℕ). take r.after left ++ times r.count line) c.deref.ensures.value in (
+    let lines = ap (λ (line : List ℕ). take r.after left ++ times r.count line)
+    c.deref.ensures.value in (
       w.0 ++ (take r.after left ++ times r.count block.line.items),
       wrote_then w.1 (wrote_as lines c.put_up_to-left.ensures.wrote),
-      place_put block.line.items w.0 left c.put_up_to-left.result.now c.args.block.now block.repeats.items i r
+      place_put block.line.items w.0 left c.put_up_to-left.result.now c.args.block.now
+          block.repeats.items i r
           (subst (λ (xs : List Repeat). i < length xs) e c.loop-repeat-test.true)
-          (get_or_default all i none r c.loop-repeat-test.true ∙ ap (λ (xs : List Repeat). get_or xs i r) e)
+          (get_or_default all i none r c.loop-repeat-test.true
+          ∙ ap (λ (xs : List Repeat). get_or xs i r) e)
           c.put_up_to-left.ensures.rest w.2,
     )
 
@@ -34,5 +41,7 @@ returns g c =
     let w = c.loop-repeat.invariant in
     let block = c.block.inside in
     let i = c.loop-repeat.repeat-index in
-    let all = subst (λ (xs : List Repeat). length xs ≤ i) c.deref-repeat-items.ensures.value c.loop-repeat-test.false in
-    wrote_as (none_put block.line.items w.0 c.loop-repeat.left.now c.args.block.now block.repeats.items i all w.2) (wrote_then w.1 c.put.ensures)
+    let all = subst (λ (xs : List Repeat). length xs ≤ i) c.deref-repeat-items.ensures.value
+    c.loop-repeat-test.false in
+    wrote_as (none_put block.line.items w.0 c.loop-repeat.left.now c.args.block.now
+    block.repeats.items i all w.2) (wrote_then w.1 c.put.ensures)

@@ -8,6 +8,9 @@ abbrev pub invariant-loop-repeat : goal.invariant-loop-repeat
 invariant-loop-repeat g l =
     (done : List ℕ)
     × Wrote l.name done
-    (sight (g.S.Shelf.held l.fn.shelf) (g.S.Shelf.space l.fn.shelf l.name) (g.S.Shelf.read_faults l.fn.shelf) (g.S.Shelf.write_faults l.fn.shelf)) l.fn.page
-    (sight (g.S.Shelf.held l.shelf) (g.S.Shelf.space l.shelf l.name) (g.S.Shelf.read_faults l.shelf) (g.S.Shelf.write_faults l.shelf)) l.page
-    × (done ++ spliced l.block-inside.line.items (drop l.repeat-index l.block-inside.repeats.items) l.left ≡ l.block)
+    (sight (g.S.Shelf.held l.fn.shelf) (g.S.Shelf.space l.fn.shelf l.name)
+    (g.S.Shelf.read_faults l.fn.shelf) (g.S.Shelf.write_faults l.fn.shelf)) l.fn.page
+    (sight (g.S.Shelf.held l.shelf) (g.S.Shelf.space l.shelf l.name) (g.S.Shelf.read_faults l.shelf)
+    (g.S.Shelf.write_faults l.shelf)) l.page
+    × (done ++ spliced l.block-inside.line.items
+    (drop l.repeat-index l.block-inside.repeats.items) l.left ≡ l.block)

@@ -8,7 +8,9 @@ pub loop-init : goal.loop-init
 loop-init g c = wrote_nothing
 
 pub loop-preserved : goal.loop-preserved
-loop-preserved g c = wrote_as (sym (times_more c.loop.counter c.args.line.now)) (wrote_then c.loop.invariant c.put.ensures)
+loop-preserved g c =
+    wrote_as (sym (times_more c.loop.counter c.args.line.now))
+    (wrote_then c.loop.invariant c.put.ensures)
 
 pub returns : goal.returns
 returns g c =

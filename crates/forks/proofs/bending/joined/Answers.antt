@@ -9,4 +9,6 @@ returns c =
     let l : length w.curves.items ≤ c.loop-number.number = search rules in
     let m = c.loop-number.invariant.fits in
     let e : c.loop-number.number ≡ length w.curves.items = omega (arith, l, m) in
-    subst (λ (k : ℕ). ArePieces w.tolerance (plan w) k c.loop-number.pieces.curves.items c.loop-number.pieces.origin.items) e c.loop-number.invariant.pieces
+    subst (λ (k : ℕ). ArePieces w.tolerance
+    (plan w) k c.loop-number.pieces.curves.items c.loop-number.pieces.origin.items) e
+    c.loop-number.invariant.pieces

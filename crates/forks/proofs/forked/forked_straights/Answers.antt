@@ -9,4 +9,5 @@ returns c =
     let l : length w.curves.items ≤ c.loop-number.number = search rules in
     let m = c.loop-number.invariant.fits in
     let e : c.loop-number.number ≡ length w.curves.items = omega (arith, l, m) in
-    subst (λ (k : ℕ). AreForkedTo w.tolerance (plan w) k c.loop-number.forked) e c.loop-number.invariant.forked
+    subst (λ (k : ℕ). AreForkedTo w.tolerance (plan w) k c.loop-number.forked) e
+    c.loop-number.invariant.forked

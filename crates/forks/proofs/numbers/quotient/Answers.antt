@@ -10,7 +10,8 @@ returns-clause-value c =
     let r = c.ranges.root in
     let l = c.requires.root in
     let f : FitsSigned w128 c.div_euclid.result = search rules in
-    let e : c.div_euclid.result ≡ int_div_euclid c.args.n c.args.root = simp to_z-of_z at c.div_euclid.ensures in
+    let e : c.div_euclid.result ≡ int_div_euclid c.args.n c.args.root = simp to_z-of_z at
+    c.div_euclid.ensures in
     rw (to_z-of_z f, e) (div_down c.args.n c.args.root (omega (arith, ints, l)))
 
 pub returns-clause-bound : goal.returns-clause-bound
@@ -19,5 +20,6 @@ returns-clause-bound c =
     let r = c.ranges.root in
     let l = c.requires.root in
     let f : FitsSigned w128 c.div_euclid.result = search rules in
-    let e : c.div_euclid.result ≡ int_div_euclid c.args.n c.args.root = simp to_z-of_z at c.div_euclid.ensures in
+    let e : c.div_euclid.result ≡ int_div_euclid c.args.n c.args.root = simp to_z-of_z at
+    c.div_euclid.ensures in
     rw (to_z-of_z f, e) (div_small (2 ^ 57) c.args.n c.args.root l c.requires.n)

@@ -21,11 +21,13 @@ difference-y-requires c =
 
 pub dot-requires-clause-first : goal.dot-requires-clause-first
 dot-requires-clause-first c =
-    product_within (2 ^ 40) (2 ^ 40) c.difference-x.result c.args.way.now.x (omega arith) (omega arith) (omega arith) c.difference-x.ensures.bound c.requires.x_within
+    product_within (2 ^ 40) (2 ^ 40) c.difference-x.result c.args.way.now.x (omega arith)
+    (omega arith) (omega arith) c.difference-x.ensures.bound c.requires.x_within
 
 pub dot-requires-clause-second : goal.dot-requires-clause-second
 dot-requires-clause-second c =
-    product_within (2 ^ 40) (2 ^ 40) c.difference-y.result c.args.way.now.y (omega arith) (omega arith) (omega arith) c.difference-y.ensures.bound c.requires.y_within
+    product_within (2 ^ 40) (2 ^ 40) c.difference-y.result c.args.way.now.y (omega arith)
+    (omega arith) (omega arith) c.difference-y.ensures.bound c.requires.y_within
 
 pub returns : goal.returns
 returns c =
@@ -39,6 +41,10 @@ returns c =
     let wx : FitsSigned w128 c.args.way.now.x = search rules in
     let wy : FitsSigned w128 c.args.way.now.y = search rules in
     let fd : FitsSigned w128 c.dot.result = search rules in
-    let e = ahead_is k.s c.args.q k.m c.difference-x.result c.difference-y.result c.args.way.now.x c.args.way.now.y c.dot.result
-    (simp to_z-of_z at c.difference-x.ensures.value) (simp to_z-of_z at c.difference-y.ensures.value) c.requires.x c.requires.y (simp to_z-of_z at c.dot.ensures) in
-    subst (λ (z : ℤ). IsTrue c.is_above.result ↔ (pos 0 <ℤ z)) e (simp to_z-of_z at c.is_above.ensures)
+    let e = ahead_is k.s c.args.q k.m c.difference-x.result c.difference-y.result c.args.way.now.x
+    c.args.way.now.y c.dot.result
+    (simp to_z-of_z at c.difference-x.ensures.value)
+    (simp to_z-of_z at c.difference-y.ensures.value) c.requires.x c.requires.y
+    (simp to_z-of_z at c.dot.ensures) in
+    subst (λ (z : ℤ). IsTrue c.is_above.result ↔ (pos 0 <ℤ z)) e
+    (simp to_z-of_z at c.is_above.ensures)

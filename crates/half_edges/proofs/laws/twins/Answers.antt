@@ -3,4 +3,9 @@ use Rattle.half_edges.specs.HalfEdges.{size}
 use Rattle.half_edges.proofs.laws.twins.Goals as goal
 
 pub returns : goal.returns
-returns c = record { even = twin_low; odd = twin_high; back = twin-twin; within = λ m h mesh l. twin_within (size m) h mesh.pairs l }
+returns c = record {
+  even = twin_low;
+  odd = twin_high;
+  back = twin-twin;
+  within = λ m h mesh l. twin_within (size m) h mesh.pairs l;
+}

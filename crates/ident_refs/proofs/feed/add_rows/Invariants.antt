@@ -5,4 +5,6 @@ use Rattle.ident_refs.specs.KeptViews.{all_kept_view}
 use Rattle.ident_refs.proofs.feed.add_rows.Given as goal
 
 abbrev pub invariant-loop-row : goal.invariant-loop-row
-invariant-loop-row l = fed_rows l.place (drop l.row-index (rows_of l.rows)) (all_kept_view l.tables) ≡ fed_rows l.place (rows_of l.rows) (all_kept_view l.fn.tables)
+invariant-loop-row l =
+    fed_rows l.place (drop l.row-index (rows_of l.rows)) (all_kept_view l.tables)
+    ≡ fed_rows l.place (rows_of l.rows) (all_kept_view l.fn.tables)

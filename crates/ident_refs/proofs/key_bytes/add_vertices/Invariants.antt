@@ -5,4 +5,7 @@ use Rattle.ident_refs.specs.KeyBytes.{key_vertex_code}
 use Rattle.ident_refs.proofs.key_bytes.add_vertices.Given as goal
 
 abbrev pub invariant-loop-key_vertex : goal.invariant-loop-key_vertex
-invariant-loop-key_vertex l = l.into.items ++ flat_map key_vertex_code (drop l.key_vertex-index (map key_vertex_view l.key_vertices)) ≡ l.fn.into.items ++ flat_map key_vertex_code (map key_vertex_view l.key_vertices)
+invariant-loop-key_vertex l =
+    l.into.items ++ flat_map key_vertex_code
+    (drop l.key_vertex-index (map key_vertex_view l.key_vertices))
+    ≡ l.fn.into.items ++ flat_map key_vertex_code (map key_vertex_view l.key_vertices)

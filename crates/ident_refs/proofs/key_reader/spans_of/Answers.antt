@@ -13,9 +13,14 @@ loop-column-preserved c =
     record {
       low = omega (arith, wide, low, c.width.ensures);
       wide =
-          widths_step c.loop-column.column-index c.args.columns.now c.column-item.result c.loop-column.start c.width.result _ c.loop-column-test.true c.column-item.is c.width.ensures
+          widths_step c.loop-column.column-index c.args.columns.now c.column-item.result
+          c.loop-column.start c.width.result _ c.loop-column-test.true c.column-item.is
+          c.width.ensures
           c.loop-column.invariant.wide;
       spread =
-          spans_step c.loop-column.column-index c.args.columns.now c.column-item.result c.loop-column.start c.width.result _ _ _ c.loop-column-test.true c.column-item.is c.width.ensures
-          (ap (λ (l : List CodeSpan). map span_view l) c.in_ok-push.ensures.items ∙ map-append span_view _ _) c.loop-column.invariant.spread;
+          spans_step c.loop-column.column-index c.args.columns.now c.column-item.result
+          c.loop-column.start c.width.result _ _ _ c.loop-column-test.true c.column-item.is
+          c.width.ensures
+          (ap (λ (l : List CodeSpan). map span_view l) c.in_ok-push.ensures.items
+          ∙ map-append span_view _ _) c.loop-column.invariant.spread;
     }

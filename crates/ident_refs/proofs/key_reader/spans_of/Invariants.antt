@@ -7,6 +7,9 @@ use Rattle.ident_refs.proofs.key_reader.spans_of.Given as goal
 abbrev pub invariant-loop-column : goal.invariant-loop-column
 invariant-loop-column l = record {
   low : l.start ≤ 1 + 3 * l.column-index;
-  wide : l.start + widths (drop l.column-index (columns_view l.columns)) ≡ 1 + widths (columns_view l.columns);
-  spread : map span_view l.spans.items ++ spans_from l.start (drop l.column-index (columns_view l.columns)) ≡ spans_from 1 (columns_view l.columns);
+  wide : l.start + widths (drop l.column-index (columns_view l.columns))
+      ≡ 1 + widths (columns_view l.columns);
+  spread : map span_view l.spans.items
+      ++ spans_from l.start (drop l.column-index (columns_view l.columns))
+      ≡ spans_from 1 (columns_view l.columns);
 }

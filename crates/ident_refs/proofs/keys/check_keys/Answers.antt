@@ -16,9 +16,13 @@ returns c =
     let transfer = transfer_of c.args.transfer.now in
     let old = all_kept_view c.in_ok-feed.feed.tables.items in
     let has = transfer_fed l transfer old _ c.in_ok-feed.ensures
-    (c.in_ok-add_tables.ensures ∙ ap (λ (ts : List CodeTableRows). fed_tables 0 (tables_rows_of ts) old) c.deref.ensures.value) in
+    (c.in_ok-add_tables.ensures
+    ∙ ap (λ (ts : List CodeTableRows). fed_tables 0 (tables_rows_of ts) old)
+    c.deref.ensures.value) in
     c.in_ok-sort_findings.ensures
     ∙ ap in_order
-    (c.in_ok-add_findings.ensures l (all_rows 0 transfer) (c.in_ok-sorted.ensures l (all_rows 0 transfer) has)
-    ∙ ap (λ (fs : List CodeFinding). findings_of fs ++ fed_keys l (all_rows 0 transfer)) c.new-findings.ensures.items
+    (c.in_ok-add_findings.ensures l (all_rows 0 transfer)
+    (c.in_ok-sorted.ensures l (all_rows 0 transfer) has)
+    ∙ ap (λ (fs : List CodeFinding). findings_of fs ++ fed_keys l (all_rows 0 transfer))
+    c.new-findings.ensures.items
     ∙ transfer_keys l transfer c.requires)

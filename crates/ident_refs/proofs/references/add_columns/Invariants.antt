@@ -10,6 +10,8 @@ abbrev pub invariant-loop-place : goal.invariant-loop-place
 invariant-loop-place l = record {
   counted : length l.left ≡ widths (drop l.place (columns_view l.columns));
   added :
-      refs_view l.refs.items ++ columns_refs (codes_of l.codes) l.line (l.place + 1) (drop l.place (columns_view l.columns)) l.left
-      ≡ refs_view l.fn.refs.items ++ columns_refs (codes_of l.codes) l.line 1 (columns_view l.columns) l.fn.words;
+      refs_view l.refs.items ++ columns_refs (codes_of l.codes) l.line (l.place + 1)
+      (drop l.place (columns_view l.columns)) l.left
+      ≡ refs_view l.fn.refs.items ++ columns_refs (codes_of l.codes) l.line 1
+      (columns_view l.columns) l.fn.words;
 }

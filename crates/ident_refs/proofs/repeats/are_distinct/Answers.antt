@@ -9,4 +9,5 @@ returns c = λ t.
     let e = c.len-place-end.ensures in
     let m = c.loop-place-test.false in
     let l : length ranked.items ≤ c.loop-place.place = omega (arith, n, e, m) in
-    all_distinct c.args.keys.now c.args.sorted.now c.loop-place.place l c.requires c.loop-place.invariant
+    all_distinct c.args.keys.now c.args.sorted.now c.loop-place.place l c.requires
+    c.loop-place.invariant

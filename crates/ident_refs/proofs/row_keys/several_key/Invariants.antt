@@ -7,5 +7,7 @@ use Rattle.ident_refs.proofs.row_keys.several_key.Given as goal
 abbrev pub invariant-loop-number : goal.invariant-loop-number
 invariant-loop-number l = record {
   key : key_in l.bytes.items ≡ Some l.bytes.items;
-  done : ended_after l.bytes.items (all_ended (drop l.number-index (map (numbered_key l.keys) l.numbers))) ≡ several_key (map (numbered_key l.keys) l.numbers);
+  done : ended_after l.bytes.items
+      (all_ended (drop l.number-index (map (numbered_key l.keys) l.numbers)))
+      ≡ several_key (map (numbered_key l.keys) l.numbers);
 }

@@ -9,7 +9,12 @@ use Rattle.ident_refs.proofs.shared_lists.all_found.Goals as goal
 
 pub loop-list-preserved : goal.loop-list-preserved
 loop-list-preserved c =
-    collected found_view (list_view (rows_view c.args.rows.now)) (list_findings c.args.lines.now) c.loop-list.found.items c.push.new.self.items _ c.args.lists.now c.loop-list.list-index c.list-item.result
+    collected found_view (list_view (rows_view c.args.rows.now))
+    (list_findings c.args.lines.now) c.loop-list.found.items c.push.new.self.items _
+    c.args.lists.now c.loop-list.list-index c.list-item.result
     c.loop-list-test.true c.list-item.is c.in_ok-push.ensures.items
-    (c.in_ok-add_list.ensures ∙ ap (λ (l : List CodeFinding). findings_of l ++ list_findings c.args.lines.now (list_view (rows_view c.args.rows.now) c.list-item.result)) c.new-findings.ensures.items)
+    (c.in_ok-add_list.ensures
+    ∙ ap (λ (l : List CodeFinding). findings_of l
+    ++ list_findings c.args.lines.now
+    (list_view (rows_view c.args.rows.now) c.list-item.result)) c.new-findings.ensures.items)
     c.loop-list.invariant

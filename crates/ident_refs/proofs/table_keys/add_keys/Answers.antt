@@ -15,6 +15,8 @@ returns c =
     let row = row_of c.args.row.now in
     let keys = c.in_ok-part_keys.field-0.items in
     on_ok_then c.add.result
-    (λ e. row_added codes table row c.args.idents.now.parts.items (rows_view c.args.rows.now) (rows_view c.add.new.self) keys c.args.idents.now.lists.items
-    (subst (λ (parts : List (Option ℕ)). HasParts codes table row parts keys) c.deref.ensures.value c.in_ok-part_keys.ensures) c.args.idents.now.numbered e)
+    (λ e. row_added codes table row c.args.idents.now.parts.items (rows_view c.args.rows.now)
+    (rows_view c.add.new.self) keys c.args.idents.now.lists.items
+    (subst (λ (parts : List (Option ℕ)). HasParts codes table row parts keys) c.deref.ensures.value
+    c.in_ok-part_keys.ensures) c.args.idents.now.numbered e)
     c.add.ensures

@@ -6,4 +6,8 @@ use Rattle.ident_refs.specs.KeptViews.{ref_view, ids_view}
 use Rattle.ident_refs.proofs.table_keys.add_references.Given as goal
 
 abbrev pub invariant-loop-reference : goal.invariant-loop-reference
-invariant-loop-reference l = findings_of l.findings.items ++ flat_map (ref_findings (ids_view l.ids)) (drop l.reference-index (map ref_view l.refs)) ≡ findings_of l.fn.findings.items ++ flat_map (ref_findings (ids_view l.ids)) (map ref_view l.refs)
+invariant-loop-reference l =
+    findings_of l.findings.items ++ flat_map (ref_findings (ids_view l.ids))
+    (drop l.reference-index (map ref_view l.refs))
+    ≡ findings_of l.fn.findings.items ++ flat_map (ref_findings (ids_view l.ids))
+    (map ref_view l.refs)

@@ -10,7 +10,8 @@ abbrev pub invariant-loop-vertex : goal.invariant-loop-vertex
 invariant-loop-vertex l = record {
   clean : are_clean (line_of l.form) (slice_of l.rest) ≡ true;
   collected :
-      map key_vertex_view l.key_vertices.items ++ map (key_vertex_of (line_of l.form)) (slice_of l.rest)
+      map key_vertex_view l.key_vertices.items
+      ++ map (key_vertex_of (line_of l.form)) (slice_of l.rest)
       ≡ map (key_vertex_of (line_of l.form)) (slice_of l.vertices);
 }
 

@@ -17,18 +17,22 @@ loop-field-preserved c =
           c.in_ok-add_field.ensures
           ∙ (ap (λ (t : List ℕ). t ++ 32 ∷ d) c.loop-field.invariant.added
           ∙ (append_assoc text before (32 ∷ d)
-          ∙ ap (λ (t : List ℕ). text ++ t) (ap (λ (f : List ℕ). before ++ 32 ∷ f) c.field-item.is ∙ sym (blank_more fields i d c.loop-field-test.true))));
+          ∙ ap (λ (t : List ℕ). text ++ t) (ap (λ (f : List ℕ). before ++ 32 ∷ f) c.field-item.is
+          ∙ sym (blank_more fields i d c.loop-field-test.true))));
       last =
           c.last_of-end.ensures
-          ∙ (ap (last_from 32) (c.bytes.ensures ∙ c.field-item.is) ∙ sym (last_more fields i c.args.last d c.loop-field-test.true));
+          ∙ (ap (last_from 32) (c.bytes.ensures ∙ c.field-item.is)
+          ∙ sym (last_more fields i c.args.last d c.loop-field-test.true));
     }
 
 pub returns-clause-added : goal.returns-clause-added
 returns-clause-added c =
     c.loop-field.invariant.added
-    ∙ ap (λ (fs : List (List ℕ)). c.args.text.now ++ blank_before fs) (take_all c.loop-field.field-index c.args.fields.now c.loop-field-test.false)
+    ∙ ap (λ (fs : List (List ℕ)). c.args.text.now ++ blank_before fs)
+    (take_all c.loop-field.field-index c.args.fields.now c.loop-field-test.false)
 
 pub returns-clause-last : goal.returns-clause-last
 returns-clause-last c =
     c.loop-field.invariant.last
-    ∙ ap (λ (fs : List (List ℕ)). last_from c.args.last (blank_before fs)) (take_all c.loop-field.field-index c.args.fields.now c.loop-field-test.false)
+    ∙ ap (λ (fs : List (List ℕ)). last_from c.args.last (blank_before fs))
+    (take_all c.loop-field.field-index c.args.fields.now c.loop-field-test.false)

@@ -7,4 +7,5 @@ use Rattle.itf_writer.proofs.adding.add_given.Given as goal
 
 abbrev pub invariant-loop-stroke : goal.invariant-loop-stroke
 invariant-loop-stroke l =
-    l.text ≡ l.fn.text ++ flat_map (λ s. lines_text l.code (stroke_lines (stroke_of s))) (take l.stroke-index l.strokes)
+    l.text ≡ l.fn.text ++ flat_map (λ s. lines_text l.code (stroke_lines (stroke_of s)))
+    (take l.stroke-index l.strokes)

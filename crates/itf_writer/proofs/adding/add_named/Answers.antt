@@ -12,11 +12,18 @@ returns c =
     let word = c.spelt.result.now in
     let field = c.args.field.now in
     let end = end_by code c.last_of.result in
-    let put = c.in_ok-add-3.ensures ∙ ap (λ (t : List ℕ). t ++ field) (c.in_ok-add-2.ensures ∙ ap (λ (t : List ℕ). t ++ 32 ∷ []) c.in_ok-add.ensures) in
+    let put = c.in_ok-add-3.ensures
+    ∙ ap (λ (t : List ℕ). t ++ field) (c.in_ok-add-2.ensures
+    ∙ ap (λ (t : List ℕ). t ++ 32 ∷ []) c.in_ok-add.ensures) in
     on_ok c.add_end.result
     (λ e.
     e
-    ∙ (ap (λ (t : List ℕ). t ++ end) (put ∙ (append_assoc (text ++ word) (32 ∷ []) field ∙ append_assoc text word ((32 ∷ []) ++ field)))
+    ∙ (ap (λ (t : List ℕ). t ++ end) (put
+    ∙ (append_assoc (text ++ word) (32 ∷ []) field
+    ∙ append_assoc text word ((32 ∷ []) ++ field)))
     ∙ (append_assoc text (word ++ ((32 ∷ []) ++ field)) end
-    ∙ ap (λ (t : List ℕ). text ++ t) (ap (λ (t : List ℕ). t ++ end) (sym (append_assoc word (32 ∷ []) field)) ∙ named_is code c.last_of.result (spelt c.args.word) word field c.spelt.ensures c.requires c.last_of.ensures))))
+    ∙ ap (λ (t : List ℕ). text ++ t)
+    (ap (λ (t : List ℕ). t ++ end) (sym (append_assoc word (32 ∷ []) field))
+    ∙ named_is code c.last_of.result (spelt c.args.word) word field c.spelt.ensures c.requires
+    c.last_of.ensures))))
     c.add_end.ensures

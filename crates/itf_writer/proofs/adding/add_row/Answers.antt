@@ -19,7 +19,10 @@ returns c =
     (λ e.
     e
     ∙ (ap (λ (t : List ℕ). t ++ lines_text code strokes)
-    (c.in_ok-add_line.ensures ∙ ap (λ (fs : List (List ℕ)). text ++ line_text code (line Obje 0 fs)) c.deref.ensures.value)
+    (c.in_ok-add_line.ensures
+    ∙ ap (λ (fs : List (List ℕ)). text ++ line_text code (line Obje 0 fs))
+    c.deref.ensures.value)
     ∙ (append_assoc text (line_text code (line Obje 0 row.fields.items)) (lines_text code strokes)
-    ∙ ap (λ (t : List ℕ). text ++ t) (sym (flat_map-cons (line_text code) (line Obje 0 row.fields.items) strokes)))))
+    ∙ ap (λ (t : List ℕ). text ++ t)
+    (sym (flat_map-cons (line_text code) (line Obje 0 row.fields.items) strokes)))))
     c.add_strokes.ensures

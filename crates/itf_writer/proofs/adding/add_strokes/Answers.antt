@@ -18,8 +18,12 @@ returns c =
     (λ e.
     e
     ∙ (ap (λ (t : List ℕ). t ++ times n c.undefined_stroke.result.now)
-    (c.in_ok-add_given.ensures ∙ ap (λ (ss : List Stroke). text ++ lines_text code (flat_map stroke_lines (strokes_of ss))) c.deref.ensures.value)
-    ∙ (append_assoc text (lines_text code (flat_map stroke_lines (strokes_of given))) (times n c.undefined_stroke.result.now)
+    (c.in_ok-add_given.ensures
+    ∙ ap (λ (ss : List Stroke). text ++ lines_text code (flat_map stroke_lines (strokes_of ss)))
+    c.deref.ensures.value)
+    ∙ (append_assoc text (lines_text code (flat_map stroke_lines (strokes_of given)))
+    (times n c.undefined_stroke.result.now)
     ∙ ap (λ (t : List ℕ). text ++ t)
-    (ap (λ (l : List ℕ). lines_text code (flat_map stroke_lines (strokes_of given)) ++ times n l) c.undefined_stroke.ensures ∙ all_strokes_text code n (strokes_of given)))))
+    (ap (λ (l : List ℕ). lines_text code (flat_map stroke_lines (strokes_of given)) ++ times n l)
+    c.undefined_stroke.ensures ∙ all_strokes_text code n (strokes_of given)))))
     c.add_times.ensures

@@ -9,4 +9,6 @@ pub returns : goal.returns
 returns c =
     let e = line_text c.args.code (line Emod 0 []) in
     let f = line_text c.args.code (line Ende 0 []) in
-    on_ok c.add_line-2.result (λ k. k ∙ (ap (λ (t : List ℕ). t ++ f) c.in_ok-add_line.ensures ∙ append_assoc c.args.text.now e f)) c.add_line-2.ensures
+    on_ok c.add_line-2.result (λ k. k
+    ∙ (ap (λ (t : List ℕ). t ++ f) c.in_ok-add_line.ensures ∙ append_assoc c.args.text.now e f))
+    c.add_line-2.ensures

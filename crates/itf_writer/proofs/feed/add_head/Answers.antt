@@ -16,7 +16,9 @@ returns c =
     on_ok c.add_named.result
     (λ e.
     e
-    ∙ (ap (λ (n : List ℕ). c.add_line.new.text ++ line_text code (line Modl 0 (n ∷ []))) c.bytes.ensures
-    ∙ (ap (λ (t : List ℕ). t ++ b) (c.in_ok-add_line.ensures ∙ ap (λ (t : List ℕ). t ++ a) c.in_ok-add.ensures)
+    ∙ (ap (λ (n : List ℕ). c.add_line.new.text ++ line_text code (line Modl 0 (n ∷ [])))
+    c.bytes.ensures
+    ∙ (ap (λ (t : List ℕ). t ++ b) (c.in_ok-add_line.ensures
+    ∙ ap (λ (t : List ℕ). t ++ a) c.in_ok-add.ensures)
     ∙ (append_assoc (text ++ head) a b ∙ append_assoc text head (a ++ b)))))
     c.add_named.ensures

@@ -14,7 +14,9 @@ pub returns-then-current-topic : goal.returns-then-current-topic
 returns-then-current-topic c =
     let opened = line Etop 0 [] ∷ topic_lines c.args.topics.now c.args.topic in
     sym (append-nil c.args.text.now)
-    ∙ ap (λ (t : List ℕ). c.args.text.now ++ t) (sym (ap (λ (b : Bool). lines_text c.args.code (if b then [] else opened)) (eq-eqb c.args.current c.args.topic c.if-current-topic.true)))
+    ∙ ap (λ (t : List ℕ). c.args.text.now ++ t)
+    (sym (ap (λ (b : Bool). lines_text c.args.code (if b then [] else opened))
+    (eq-eqb c.args.current c.args.topic c.if-current-topic.true)))
 
 pub returns : goal.returns
 returns c =
@@ -29,5 +31,6 @@ returns c =
     ∙ (append_assoc text (line_text code (line Etop 0 [])) (lines_text code topic)
     ∙ ap (λ (t : List ℕ). text ++ t)
     (sym (flat_map-cons (line_text code) (line Etop 0 []) topic)
-    ∙ sym (ap (λ (b : Bool). lines_text code (if b then [] else opened)) (ne_eqb c.args.current c.args.topic c.if-current-topic.false))))))
+    ∙ sym (ap (λ (b : Bool). lines_text code (if b then [] else opened))
+    (ne_eqb c.args.current c.args.topic c.if-current-topic.false))))))
     c.add_topic.ensures

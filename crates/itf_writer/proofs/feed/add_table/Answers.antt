@@ -17,12 +17,16 @@ returns c rows some h =
     let tabl = line_text code (line Tabl 0 (name ∷ [])) in
     let own = lines_text code (flat_map row_lines rows) in
     let etab = line_text code (line Etab 0 []) in
-    let named = c.in_ok-add_named.ensures ∙ ap (λ (n : List ℕ). text ++ line_text code (line Tabl 0 (n ∷ []))) c.bytes.ensures in
-    let held = c.in_ok-append.ensures ∙ (ap (λ (t : List ℕ). t ++ c.args.held.now.text) named ∙ ap (λ (x : HeldRows). (text ++ tabl) ++ x.text) h) in
+    let named = c.in_ok-add_named.ensures
+    ∙ ap (λ (n : List ℕ). text ++ line_text code (line Tabl 0 (n ∷ []))) c.bytes.ensures in
+    let held = c.in_ok-append.ensures
+    ∙ (ap (λ (t : List ℕ). t ++ c.args.held.now.text) named
+    ∙ ap (λ (x : HeldRows). (text ++ tabl) ++ x.text) h) in
     on_ok c.add_line.result
     (λ e.
     e
     ∙ (ap (λ (t : List ℕ). t ++ etab) held
     ∙ (ap (λ (t : List ℕ). t ++ etab) (append_assoc text tabl own)
-    ∙ (append_assoc text (tabl ++ own) etab ∙ ap (λ (t : List ℕ). text ++ t) (table_text code name rows some)))))
+    ∙ (append_assoc text (tabl ++ own) etab
+    ∙ ap (λ (t : List ℕ). text ++ t) (table_text code name rows some)))))
     c.add_line.ensures

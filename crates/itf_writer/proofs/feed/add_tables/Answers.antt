@@ -18,7 +18,8 @@ loop-number-init c = record {
   left = λ rows h. record {
     left = rows;
     held_left = h;
-    put = ap (λ (ls : List LogicalLine). c.args.text.now ++ lines_text c.args.code ls) (run_is c.args.topics.now (tables_view c.args.tables.now) rows c.requires.by_topic);
+    put = ap (λ (ls : List LogicalLine). c.args.text.now ++ lines_text c.args.code ls)
+        (run_is c.args.topics.now (tables_view c.args.tables.now) rows c.requires.by_topic);
   };
 }
 
@@ -29,7 +30,10 @@ add_in_topic-requires c =
     let lt = c.loop-number-test.true in
     let count = i.count in
     let tables = c.args.tables.now in
-    (subst (λ (ts : List CodeTable). AreByTopic i.by_topic.0 (length c.args.topics.now) (tables_view ts)) (table_there tables n c.index-tables-number.result (omega (arith, lt, count)) c.index-tables-number.is) i.by_topic.1).1
+    (subst (λ (ts : List CodeTable). AreByTopic i.by_topic.0 (length c.args.topics.now)
+    (tables_view ts))
+    (table_there tables n c.index-tables-number.result
+    (omega (arith, lt, count)) c.index-tables-number.is) i.by_topic.1).1
 
 pub loop-number-preserved : goal.loop-number-preserved
 loop-number-preserved c =
@@ -48,12 +52,20 @@ loop-number-preserved c =
     let within : n < length held = omega (arith, lt, count) in
     record {
       count = set_length held n after ∙ count;
-      by_topic = (t.topic, (subst (λ (ts : List CodeTable). AreByTopic i.by_topic.0 (length topics) (tables_view ts)) (table_there tables n t there c.index-tables-number.is) i.by_topic.1).2);
+      by_topic = (
+        t.topic,
+        (subst (λ (ts : List CodeTable). AreByTopic i.by_topic.0 (length topics) (tables_view ts))
+            (table_there tables n t there c.index-tables-number.is) i.by_topic.1).2,
+      );
       left = λ rows h.
           let l = i.left rows h in
           let f = first_of code held n d l.left within l.held_left in
-          walked code held n d after c.loop-number.text c.add_in_topic.new.text (c.args.text.now ++ lines_text code (topics_lines 0 topics (map wanted_of (tables_view tables)) rows)) topics c.loop-number.current _ tables t l f there c.index-tables-number.is
-          (c.in_ok-current.ensures.current f.own f.held_own) (c.in_ok-current.ensures.added f.own f.held_own);
+          walked code held n d after c.loop-number.text c.add_in_topic.new.text
+          (c.args.text.now ++ lines_text code
+          (topics_lines 0 topics (map wanted_of (tables_view tables)) rows)) topics
+          c.loop-number.current _ tables t l f there c.index-tables-number.is
+          (c.in_ok-current.ensures.current f.own f.held_own)
+          (c.in_ok-current.ensures.added f.own f.held_own);
     }
 
 pub returns : goal.returns
@@ -65,6 +77,9 @@ returns c rows h =
     on_ok c.add_closing.result
     (λ e.
     e
-    ∙ walk_ends c.args.code c.loop-number.held n c.loop-number.text (c.args.text.now ++ lines_text c.args.code (topics_lines 0 c.args.topics.now (map wanted_of (tables_view c.args.tables.now)) rows)) c.args.topics.now c.loop-number.current c.args.tables.now
+    ∙ walk_ends c.args.code c.loop-number.held n c.loop-number.text
+    (c.args.text.now ++ lines_text c.args.code
+    (topics_lines 0 c.args.topics.now (map wanted_of (tables_view c.args.tables.now)) rows))
+    c.args.topics.now c.loop-number.current c.args.tables.now
     (i.left rows h) (omega (arith, all, count)))
     c.add_closing.ensures

@@ -15,5 +15,8 @@ invariant-loop-number l = record {
   count : length l.held ≡ length l.tables;
   by_topic : (low : ℕ) × AreByTopic low (length l.topics) (tables_view (drop l.number l.tables));
   left : (rows : List (List Row)) → held_in l.fn.held ≡ map (rows_held l.code) rows
-      → Left l.code l.held l.number l.text (l.fn.text ++ lines_text l.code (topics_lines 0 l.topics (map wanted_of (tables_view l.tables)) rows)) l.topics l.current l.tables;
+      → Left l.code l.held l.number l.text
+      (l.fn.text ++ lines_text l.code
+      (topics_lines 0 l.topics (map wanted_of (tables_view l.tables)) rows)) l.topics l.current
+      l.tables;
 }

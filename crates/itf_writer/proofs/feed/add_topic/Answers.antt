@@ -9,10 +9,14 @@ use Rattle.itf_writer.proofs.feed.add_topic.Goals as goal
 
 pub returns : goal.returns
 returns c =
-    let named : c.bytes.result.now ≡ get_or c.args.topics.now c.args.topic [] = c.bytes.ensures ∙ (c.index-topics-topic.is ∙ get_or_default c.args.topics.now c.args.topic c.index-topics-topic.result [] c.requires) in
+    let named : c.bytes.result.now ≡ get_or c.args.topics.now c.args.topic [] = c.bytes.ensures
+    ∙ (c.index-topics-topic.is
+    ∙ get_or_default c.args.topics.now c.args.topic c.index-topics-topic.result []
+    c.requires) in
     on_ok c.add_named.result
     (λ e.
     e
     ∙ ap (λ (t : List ℕ). c.args.text.now ++ t)
-    (sym (one_line c.args.code (line Topi 0 (c.bytes.result.now ∷ []))) ∙ ap (λ (n : List ℕ). lines_text c.args.code (line Topi 0 (n ∷ []) ∷ [])) named))
+    (sym (one_line c.args.code (line Topi 0 (c.bytes.result.now ∷ [])))
+    ∙ ap (λ (n : List ℕ). lines_text c.args.code (line Topi 0 (n ∷ []) ∷ [])) named))
     c.add_named.ensures

@@ -16,7 +16,10 @@ returns-clause-kept c =
     let hy : FitsSigned w64 c.args.reach.high.y = search rules in
     let low : Point = record { x = c.lesser.result; y = c.lesser-2.result } in
     let high : Point = record { x = c.greater.result; y = c.greater-2.result } in
-    simp to_z-of_z (bigger low high (box_of c.args.reach) (simp to_z-of_z at c.lesser.ensures.first) (simp to_z-of_z at c.lesser-2.ensures.first) (simp to_z-of_z at c.greater.ensures.first) (simp to_z-of_z at c.greater-2.ensures.first))
+    simp to_z-of_z
+    (bigger low high (box_of c.args.reach) (simp to_z-of_z at c.lesser.ensures.first)
+    (simp to_z-of_z at c.lesser-2.ensures.first) (simp to_z-of_z at c.greater.ensures.first)
+    (simp to_z-of_z at c.greater-2.ensures.first))
 
 pub returns-clause-point : goal.returns-clause-point
 returns-clause-point c =
@@ -28,4 +31,7 @@ returns-clause-point c =
     let y : FitsSigned w64 c.args.p.y = search rules in
     let low : Point = record { x = c.lesser.result; y = c.lesser-2.result } in
     let high : Point = record { x = c.greater.result; y = c.greater-2.result } in
-    simp to_z-of_z (in_between low high c.args.p (simp to_z-of_z at c.lesser.ensures.second) (simp to_z-of_z at c.lesser-2.ensures.second) (simp to_z-of_z at c.greater.ensures.second) (simp to_z-of_z at c.greater-2.ensures.second))
+    simp to_z-of_z
+    (in_between low high c.args.p (simp to_z-of_z at c.lesser.ensures.second)
+    (simp to_z-of_z at c.lesser-2.ensures.second) (simp to_z-of_z at c.greater.ensures.second)
+    (simp to_z-of_z at c.greater-2.ensures.second))

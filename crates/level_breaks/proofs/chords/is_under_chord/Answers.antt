@@ -6,4 +6,7 @@ use Rattle.level_breaks.proofs.chords.is_under_chord.Goals as goal
 
 pub any_low-requires : goal.any_low-requires
 any_low-requires c =
-    subst (λ (ps : List Point). IsChordJudged c.args.half_arc.now.curve.now ps) (sym c.deref.ensures.value) (chord_judged c.args.straight.now c.args.half_arc.now c.in-None-Some.tube c.requires c.in-None-Some.is-1)
+    subst (λ (ps : List Point). IsChordJudged c.args.half_arc.now.curve.now ps)
+    (sym c.deref.ensures.value)
+    (chord_judged c.args.straight.now c.args.half_arc.now c.in-None-Some.tube c.requires
+    c.in-None-Some.is-1)

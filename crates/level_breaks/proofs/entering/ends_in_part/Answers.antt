@@ -11,7 +11,12 @@ pub enters-requires-else-enters : goal.enters-requires-else-enters
 enters-requires-else-enters c = c.requires c.args.edge.now.high (inr refl)
 
 pub returns-then-enters : goal.returns-then-enters
-returns-then-enters c = either_first _ _ _ c.enters.result c.enters.ensures c.if-enters.true (ends_or (EntersPart c.args.curve.now c.args.tube.now c.args.number) c.args.edge.now)
+returns-then-enters c =
+    either_first _ _ _ c.enters.result c.enters.ensures c.if-enters.true
+    (ends_or (EntersPart c.args.curve.now c.args.tube.now c.args.number) c.args.edge.now)
 
 pub returns-else-enters : goal.returns-else-enters
-returns-else-enters c = either_second _ _ _ c.enters.result c.enters-else-enters.result c.enters.ensures c.if-enters.false c.enters-else-enters.ensures (ends_or (EntersPart c.args.curve.now c.args.tube.now c.args.number) c.args.edge.now)
+returns-else-enters c =
+    either_second _ _ _ c.enters.result c.enters-else-enters.result c.enters.ensures
+    c.if-enters.false c.enters-else-enters.ensures
+    (ends_or (EntersPart c.args.curve.now c.args.tube.now c.args.number) c.args.edge.now)

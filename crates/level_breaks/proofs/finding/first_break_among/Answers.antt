@@ -13,14 +13,28 @@ returns-clause-settled c = λ e.
     let d = plan c.args.drawing.now in
     let ts = c.in_ok-tubes.tubes.items in
     let n = c.lesser.ensures.none e in
-    let first = subst (λ (us : List (Option Tube)). IsFirstBare d.curves us c.first_bare-bare.result) c.deref-3.ensures.value (subst (λ (cs : List Curve). IsFirstBare cs c.deref-3.result.now c.first_bare-bare.result) c.deref-2.ensures.value c.first_bare-bare.ensures) in
-    none_is_settled d c.args.level ts c.in_ok-tubes.ensures c.in_ok-pair.pair c.first_bare-bare.result c.in_ok-pair.ensures.some c.in_ok-pair.ensures.none first
-    (any_meet c.meetings_are_decided.ensures.decided c.meetings_are_decided.ensures.fine) (c.own_edges_of_tubes.ensures.meet d (drawn_bays d c.args.level)) (c.own_edges_of_tubes.ensures.enter d (drawn_bays d c.args.level))
+    let first = subst
+    (λ (us : List (Option Tube)). IsFirstBare d.curves us c.first_bare-bare.result)
+    c.deref-3.ensures.value
+    (subst (λ (cs : List Curve). IsFirstBare cs c.deref-3.result.now c.first_bare-bare.result)
+    c.deref-2.ensures.value c.first_bare-bare.ensures) in
+    none_is_settled d c.args.level ts c.in_ok-tubes.ensures c.in_ok-pair.pair
+    c.first_bare-bare.result c.in_ok-pair.ensures.some c.in_ok-pair.ensures.none first
+    (any_meet c.meetings_are_decided.ensures.decided c.meetings_are_decided.ensures.fine)
+    (c.own_edges_of_tubes.ensures.meet d (drawn_bays d c.args.level))
+    (c.own_edges_of_tubes.ensures.enter d (drawn_bays d c.args.level))
     (c.edges_of_tubed_drawing.ensures.tubes d c.args.level) n.0 n.1
 
 pub returns-clause-breaks : goal.returns-clause-breaks
 returns-clause-breaks c =
     let d = plan c.args.drawing.now in
     let ts = c.in_ok-tubes.tubes.items in
-    let first = subst (λ (us : List (Option Tube)). IsFirstBare d.curves us c.first_bare-bare.result) c.deref-3.ensures.value (subst (λ (cs : List Curve). IsFirstBare cs c.deref-3.result.now c.first_bare-bare.result) c.deref-2.ensures.value c.first_bare-bare.ensures) in
-    some_mapped c.lesser.result _ _ (lesser_is_first d c.args.level ts c.in_ok-tubes.ensures c.in_ok-pair.pair c.first_bare-bare.result c.in_ok-pair.ensures.some c.in_ok-pair.ensures.none first) c.lesser.ensures.some
+    let first = subst
+    (λ (us : List (Option Tube)). IsFirstBare d.curves us c.first_bare-bare.result)
+    c.deref-3.ensures.value
+    (subst (λ (cs : List Curve). IsFirstBare cs c.deref-3.result.now c.first_bare-bare.result)
+    c.deref-2.ensures.value c.first_bare-bare.ensures) in
+    some_mapped c.lesser.result _ _
+    (lesser_is_first d c.args.level ts c.in_ok-tubes.ensures c.in_ok-pair.pair
+    c.first_bare-bare.result c.in_ok-pair.ensures.some c.in_ok-pair.ensures.none first)
+    c.lesser.ensures.some

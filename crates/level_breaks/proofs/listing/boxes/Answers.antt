@@ -14,5 +14,7 @@ loop-number-preserved c =
     let l = c.loop-number-test.true in
     let there : n < length c.args.tubes.now = omega (arith, l, size) in
     let same = c.index-tubes-number.is ∙ one_default c.args.tubes.now n _ None there in
-    box_more c.args.curves.now c.args.tubes.now n c.loop-number.boxes.items c.push.new.self.items c.group_box.result c.loop-number.invariant c.in_ok-push.ensures.items
-    (subst (λ (t : Option Tube). HoldsAll (box_of c.group_box.result) (corners (nth_curve c.args.curves.now n) t)) same c.group_box.ensures)
+    box_more c.args.curves.now c.args.tubes.now n c.loop-number.boxes.items c.push.new.self.items
+    c.group_box.result c.loop-number.invariant c.in_ok-push.ensures.items
+    (subst (λ (t : Option Tube). HoldsAll (box_of c.group_box.result)
+    (corners (nth_curve c.args.curves.now n) t)) same c.group_box.ensures)

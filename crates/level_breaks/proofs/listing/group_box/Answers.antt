@@ -12,10 +12,14 @@ returns-in-Some c =
     let a = box_of c.with_points.result in
     let b = box_of c.with_points-in-Some.result in
     subst (λ (u : Option Tube). HoldsAll b (corners k u)) (sym c.in-Some.is)
-    (box_of_tube k t a b (subst (HoldsAll a) c.deref.ensures.value c.with_points.ensures.points) c.with_points-in-Some.ensures.kept (subst (HoldsAll b) c.deref-in-Some.ensures.value c.with_points-in-Some.ensures.points))
+    (box_of_tube k t a b (subst (HoldsAll a) c.deref.ensures.value c.with_points.ensures.points)
+    c.with_points-in-Some.ensures.kept
+    (subst (HoldsAll b) c.deref-in-Some.ensures.value c.with_points-in-Some.ensures.points))
 
 pub returns-in-None : goal.returns-in-None
 returns-in-None c =
     let k = c.args.curve.now in
     let b = box_of c.grown.result in
-    subst (λ (u : Option Tube). HoldsAll b (corners k u)) (sym c.in-None.is) (box_of_straight k (box_of c.around-in-None.result) b c.around-in-None.ensures c.grown.ensures.kept c.grown.ensures.point)
+    subst (λ (u : Option Tube). HoldsAll b (corners k u)) (sym c.in-None.is)
+    (box_of_straight k (box_of c.around-in-None.result) b c.around-in-None.ensures
+    c.grown.ensures.kept c.grown.ensures.point)

@@ -10,4 +10,5 @@ tube_for-requires-clause-fit c =
     let d = c.deref-curve-items.ensures.value in
     let i = c.loop-curve.curve-index in
     let l = subst (λ (cs : List Curve). i < length cs) d c.loop-curve-test.true in
-    subst (λ (cs : List Curve). IsFit (nth_curve cs i)) (sym d) (fit c.args.drawing.now.window _ (c.args.drawing.now.curves_drawn i _ l))
+    subst (λ (cs : List Curve). IsFit (nth_curve cs i)) (sym d)
+    (fit c.args.drawing.now.window _ (c.args.drawing.now.curves_drawn i _ l))

@@ -15,4 +15,6 @@ meets_part-requires-clause-edged c = second_edged c.args.one.now c.args.other.no
 pub meets_part-requires-clause-beside : goal.meets_part-requires-clause-beside
 meets_part-requires-clause-beside c =
     let l = subst (λ (n : ℕ). c.args.part < n) c.bay_count.ensures c.if-part-bay_count.true in
-    subst (λ (e : Edge). IsBeside e (edges_with c.args.other.now.curve.now c.args.other.now.tube.now)) (sym c.inner_of.ensures) (inner_beside c.args.one.now c.args.other.now c.args.part c.requires.groups l)
+    subst (λ (e : Edge). IsBeside e
+    (edges_with c.args.other.now.curve.now c.args.other.now.tube.now)) (sym c.inner_of.ensures)
+    (inner_beside c.args.one.now c.args.other.now c.args.part c.requires.groups l)

@@ -14,8 +14,12 @@ loop-number-init c =
     let n = c.args.from in record {
       placed = λ i f l. absurd (omega (arith, f, l));
       begins = λ l. record {
-        inner = subst (λ (ps : List Point). HoldsPoint b (nth ps n)) c.deref.ensures.value (subst (HoldsPoint b) c.point_at-first.ensures (covered b (box_of c.around.result) _ c.grown-reach.ensures.kept c.around.ensures));
-        outer = subst (λ (os : List Point). HoldsPoint b (nth (c.args.curve.now.from ∷ os) n)) c.deref-2.ensures.value (subst (HoldsPoint b) c.start.ensures c.grown-reach.ensures.point);
+        inner = subst (λ (ps : List Point). HoldsPoint b (nth ps n)) c.deref.ensures.value
+            (subst (HoldsPoint b) c.point_at-first.ensures
+            (covered b (box_of c.around.result) _ c.grown-reach.ensures.kept c.around.ensures));
+        outer = subst (λ (os : List Point). HoldsPoint b (nth (c.args.curve.now.from ∷ os) n))
+            c.deref-2.ensures.value
+            (subst (HoldsPoint b) c.start.ensures c.grown-reach.ensures.point);
       };
     }
 
@@ -31,9 +35,15 @@ loop-number-preserved c =
     let t = c.args.tube.now in
     let b = box_of c.with_part-reach.result in
     let a = box_of c.loop-number.reach in record {
-      placed = placed_more (HoldsTubePart k t b) c.args.from c.loop-number.number (placed_again (HoldsTubePart k t a) (HoldsTubePart k t b) c.args.from c.loop-number.number (part_again b a k t c.with_part-reach.ensures.kept) c.loop-number.invariant.placed) c.with_part-reach.ensures.part;
-      begins = λ l. next_start b k t c.loop-number.number (omega (arith, l)) c.with_part-reach.ensures.part;
+      placed = placed_more (HoldsTubePart k t b) c.args.from c.loop-number.number
+          (placed_again (HoldsTubePart k t a) (HoldsTubePart k t b) c.args.from c.loop-number.number
+          (part_again b a k t c.with_part-reach.ensures.kept) c.loop-number.invariant.placed)
+          c.with_part-reach.ensures.part;
+      begins = λ l. next_start b k t c.loop-number.number
+          (omega (arith, l)) c.with_part-reach.ensures.part;
     }
 
 pub returns : goal.returns
-returns c = placed_to (HoldsTubePart c.args.curve.now c.args.tube.now (box_of c.loop-number.reach)) c.args.from c.args.to c.loop-number.number c.loop-number-test.false c.loop-number.invariant.placed
+returns c = placed_to (HoldsTubePart c.args.curve.now c.args.tube.now (box_of c.loop-number.reach))
+    c.args.from c.args.to c.loop-number.number c.loop-number-test.false
+    c.loop-number.invariant.placed

@@ -6,7 +6,9 @@ use Rattle.level_breaks.proofs.BoxPoints.{covered, covers_through}
 use Rattle.level_breaks.proofs.parts.with_part.Goals as goal
 
 pub returns-clause-kept : goal.returns-clause-kept
-returns-clause-kept c = covers_through (box_of c.with_next.result) (box_of c.grown-over.result) (box_of c.args.reach) c.with_next.ensures.kept c.grown-over.ensures.kept
+returns-clause-kept c =
+    covers_through (box_of c.with_next.result) (box_of c.grown-over.result)
+    (box_of c.args.reach) c.with_next.ensures.kept c.grown-over.ensures.kept
 
 pub returns-clause-part : goal.returns-clause-part
 returns-clause-part c =
@@ -17,9 +19,16 @@ returns-clause-part c =
     let inner = c.deref-2.ensures.value in
     let sizes = c.requires.sizes in
     let z = ap length inner in
-    let all = covers_through b (box_of c.grown-over.result) (box_of c.args.reach) c.with_next.ensures.kept c.grown-over.ensures.kept in record {
+    let all = covers_through b (box_of c.grown-over.result)
+    (box_of c.args.reach) c.with_next.ensures.kept c.grown-over.ensures.kept in
+    record {
       inner = covered b (box_of c.args.reach) _ all c.requires.begins.inner;
-      next = λ l. subst (λ (ps : List Point). HoldsPoint b (nth ps (suc n))) inner (c.with_next.ensures.next (omega (arith, l, sizes, z)));
+      next = λ l. subst (λ (ps : List Point). HoldsPoint b (nth ps (suc n))) inner
+          (c.with_next.ensures.next (omega (arith, l, sizes, z)));
       start = covered b (box_of c.args.reach) _ all c.requires.begins.outer;
-      end = subst (λ (os : List Point). HoldsPoint b (nth (os ++ k.to ∷ []) n)) c.deref.ensures.value (subst (HoldsPoint b) c.end.ensures (covered b (box_of c.grown-over.result) _ c.with_next.ensures.kept c.grown-over.ensures.point));
+      end = subst (λ (os : List Point). HoldsPoint b (nth (os ++ k.to ∷ []) n))
+          c.deref.ensures.value
+          (subst (HoldsPoint b) c.end.ensures
+          (covered b (box_of c.grown-over.result) _ c.with_next.ensures.kept
+          c.grown-over.ensures.point));
     }

@@ -9,6 +9,13 @@ returns-then-number-gt0 c =
     let n = c.args.number in
     let z = point c.args.at in
     let f : 1 ≤ n = c.if-number-gt0.true in (
-      (λ t. (n - 1, omega (arith, f), gap_next c.args.inner.now c.args.outer.now z n f (c.is_in_triangle.ensures.0 t))),
-      (λ (i, e, g). c.is_in_triangle.ensures.1 (gap_back c.args.inner.now c.args.outer.now z n f (subst (InGap c.args.inner.now c.args.outer.now z) (omega (arith, e)) g))),
+      (λ t. (
+        n - 1,
+        omega (arith, f),
+        gap_next c.args.inner.now c.args.outer.now z n f
+            (c.is_in_triangle.ensures.0 t),
+      )),
+      (λ (i, e, g). c.is_in_triangle.ensures.1
+          (gap_back c.args.inner.now c.args.outer.now z n f
+          (subst (InGap c.args.inner.now c.args.outer.now z) (omega (arith, e)) g))),
     )

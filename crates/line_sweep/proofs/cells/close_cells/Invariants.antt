@@ -6,4 +6,6 @@ use Rattle.line_sweep.proofs.cells.close_cells.Given as goal
 
 abbrev pub invariant-loop-place : goal.invariant-loop-place
 invariant-loop-place l =
-    (u : Option ℕ) → gaps_of l.closed.items ++ filter is_real (gaps_by (drop l.place l.since) l.below (drop l.place l.ending) u) ≡ gaps_of l.fn.closed.items ++ filter is_real (gaps_by l.since l.fn.lower l.ending u)
+    (u : Option ℕ) → gaps_of l.closed.items
+    ++ filter is_real (gaps_by (drop l.place l.since) l.below (drop l.place l.ending) u)
+    ≡ gaps_of l.fn.closed.items ++ filter is_real (gaps_by l.since l.fn.lower l.ending u)

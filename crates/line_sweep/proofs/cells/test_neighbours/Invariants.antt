@@ -9,5 +9,6 @@ invariant-loop-edge l = record {
   left : (d e : ℕ) → AreNeighbours l.below (drop l.edge-index l.starting) l.upper d e
       → AreNeighbours l.fn.lower l.starting l.upper d e;
   tested : (d e : ℕ) → AreNeighbours l.fn.lower l.starting l.upper d e
-      → AreNeighbours l.below (drop l.edge-index l.starting) l.upper d e ⊎ Fine (edge_of l.edges d) (edge_of l.edges e);
+      → AreNeighbours l.below (drop l.edge-index l.starting) l.upper d e
+      ⊎ Fine (edge_of l.edges d) (edge_of l.edges e);
 }

@@ -4,4 +4,5 @@ use Rattle.meetings.proofs.arcs.arc_meeting.Goals as goal
 
 pub arc_meeting_among-requires-clause-marked : goal.arc_meeting_among-requires-clause-marked
 arc_meeting_among-requires-clause-marked c =
-    half_arcs_marked (plan c.args.drawing.now) c.deref-2.result.now c.in_ok-marks.marks.items c.deref-3.result.now c.deref-2.ensures.value c.deref-3.ensures.value c.in_ok-marks.ensures
+    half_arcs_marked (plan c.args.drawing.now) c.deref-2.result.now c.in_ok-marks.marks.items
+    c.deref-3.result.now c.deref-2.ensures.value c.deref-3.ensures.value c.in_ok-marks.ensures

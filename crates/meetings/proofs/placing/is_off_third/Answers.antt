@@ -10,4 +10,6 @@ returns c =
     let py : FitsSigned w64 c.args.p.y = search rules in
     let fx : FitsSigned w128 c.from.result = search rules in
     let fy : FitsSigned w128 c.from-2.result = search rules in
-    away_at c.is_away.result (half_arc c.args.circle.now) c.args.p c.from.result c.from-2.result (simp to_z-of_z at c.from.ensures) (simp to_z-of_z at c.from-2.ensures) (simp to_z-of_z at c.is_away.ensures)
+    away_at c.is_away.result (half_arc c.args.circle.now) c.args.p c.from.result c.from-2.result
+    (simp to_z-of_z at c.from.ensures) (simp to_z-of_z at c.from-2.ensures)
+    (simp to_z-of_z at c.is_away.ensures)

@@ -16,7 +16,9 @@ returns-clause-first c =
     let right = simp to_z-of_z at c.span-left.ensures.high_first in
     let under = simp to_z-of_z at c.span-under.ensures.low_first in
     let over = simp to_z-of_z at c.span-under.ensures.high_first in
-    simp to_z-of_z (beyond c.args.a c.args.x c.args.y c.span-left.result.0 c.span-left.result.1 c.span-under.result.0 c.span-under.result.1 left right under over)
+    simp to_z-of_z
+    (beyond c.args.a c.args.x c.args.y c.span-left.result.0 c.span-left.result.1
+    c.span-under.result.0 c.span-under.result.1 left right under over)
 
 pub returns-clause-second : goal.returns-clause-second
 returns-clause-second c =
@@ -32,4 +34,6 @@ returns-clause-second c =
     let right = simp to_z-of_z at c.span-left.ensures.high_second in
     let under = simp to_z-of_z at c.span-under.ensures.low_second in
     let over = simp to_z-of_z at c.span-under.ensures.high_second in
-    simp to_z-of_z (beyond c.args.b c.args.x c.args.y c.span-left.result.0 c.span-left.result.1 c.span-under.result.0 c.span-under.result.1 left right under over)
+    simp to_z-of_z
+    (beyond c.args.b c.args.x c.args.y c.span-left.result.0 c.span-left.result.1
+    c.span-under.result.0 c.span-under.result.1 left right under over)

@@ -11,8 +11,14 @@ returns-else-a-b-clause-bad c =
     let f = c.requires.bad.first in
     let g = c.requires.bad.second in
     let first : c.args.first < length ns = omega (arith, s, f) in
-    let second : c.args.second < length ns = omega (arith, s, g) in
-    (c.args.second, c.args.first, bad_back c.args.straights.now.edges.items c.args.first c.args.second c.requires.bad, c.index-b.ensures ∙ get_or_default_zero ns c.args.second _ second, c.index-a.ensures ∙ get_or_default_zero ns c.args.first _ first)
+    let second : c.args.second < length ns = omega (arith, s, g) in (
+      c.args.second,
+      c.args.first,
+      bad_back c.args.straights.now.edges.items c.args.first c.args.second c.requires.bad,
+      c.index-b.ensures ∙ get_or_default_zero ns c.args.second _ second,
+      c.index-a.ensures
+          ∙ get_or_default_zero ns c.args.first _ first,
+    )
 
 pub returns-else-a-b-clause-order : goal.returns-else-a-b-clause-order
 returns-else-a-b-clause-order c =
@@ -22,5 +28,7 @@ returns-else-a-b-clause-order c =
     let g = c.requires.bad.second in
     let first : c.args.first < length ns = omega (arith, s, f) in
     let second : c.args.second < length ns = omega (arith, s, g) in
-    lesser_number ns c.args.first c.args.second c.index-a.result.now c.index-b.result.now c.requires.rising c.requires.bad.differ first second (c.index-a.ensures ∙ get_or_default_zero ns c.args.first _ first)
+    lesser_number ns c.args.first c.args.second c.index-a.result.now c.index-b.result.now
+    c.requires.rising c.requires.bad.differ first second (c.index-a.ensures
+    ∙ get_or_default_zero ns c.args.first _ first)
     (c.index-b.ensures ∙ get_or_default_zero ns c.args.second _ second) c.if-a-b.false

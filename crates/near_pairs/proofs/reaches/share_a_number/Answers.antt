@@ -13,4 +13,6 @@ returns-then-low-b c =
     let second = simp to_z-of_z at c.greater-low.ensures.second in
     let least = simp to_z-of_z at c.greater-low.ensures.least in
     let test = simp to_z-of_z at c.if-low-b.true in
-    simp to_z-of_z (number_test c.args.a c.args.b c.args.c c.args.d c.greater-low.result first second test least)
+    simp to_z-of_z
+    (number_test c.args.a c.args.b c.args.c c.args.d c.greater-low.result first second test
+    least)

@@ -8,4 +8,5 @@ pub returns-clause-filled : goal.returns-clause-filled
 returns-clause-filled given = run_filled
 
 pub returns-clause-next : goal.returns-clause-next
-returns-clause-next given w m E steps next h g run round l = next_number_is w m E steps run next round h g l
+returns-clause-next given w m E steps next h g run round l =
+    next_number_is w m E steps run next round h g l

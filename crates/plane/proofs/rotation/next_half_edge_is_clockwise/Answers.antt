@@ -3,7 +3,10 @@ use Rattle.plane.proofs.Turning.NextOnly.{some_previous, previous_one}
 use Rattle.plane.proofs.rotation.next_half_edge_is_clockwise.Goals as goal
 
 pub returns-clause-is : goal.returns-clause-is
-returns-clause-is given w m E steps h g run lh lg = ((λ n. next_clockwise_is w m E steps run h g n), (λ c. clockwise_is_next w m E steps run h g lh lg c))
+returns-clause-is given w m E steps h g run lh lg = (
+  (λ n. next_clockwise_is w m E steps run h g n),
+  (λ c. clockwise_is_next w m E steps run h g lh lg c),
+)
 
 pub returns-clause-some : goal.returns-clause-some
 returns-clause-some given w m E steps h run l = some_next w m E steps run h l

@@ -8,4 +8,7 @@ returns-then-is_close c h =
     let py : FitsSigned w64 c.args.p.y = search rules in
     let qx : FitsSigned w64 c.args.q.x = search rules in
     let qy : FitsSigned w64 c.args.q.y = search rules in
-    record { x = simp to_z-of_z at (c.is_close.ensures c.if-is_close.true); y = simp to_z-of_z at (c.is_close-then-is_close.ensures h) }
+    record {
+      x = simp to_z-of_z at (c.is_close.ensures c.if-is_close.true);
+      y = simp to_z-of_z at (c.is_close-then-is_close.ensures h);
+    }

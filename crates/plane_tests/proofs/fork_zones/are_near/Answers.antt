@@ -8,4 +8,7 @@ returns-then-is_near c h =
     let py : FitsSigned w64 c.args.p.y = search rules in
     let qx : FitsSigned w64 c.args.q.x = search rules in
     let qy : FitsSigned w64 c.args.q.y = search rules in
-    record { x = simp to_z-of_z at (c.is_near.ensures c.if-is_near.true); y = simp to_z-of_z at (c.is_near-then-is_near.ensures h) }
+    record {
+      x = simp to_z-of_z at (c.is_near.ensures c.if-is_near.true);
+      y = simp to_z-of_z at (c.is_near-then-is_near.ensures h);
+    }

@@ -6,4 +6,7 @@ pub returns-then-is_short : goal.returns-then-is_short
 returns-then-is_short c h =
     let px : FitsSigned w64 c.args.p.x = search rules in
     let py : FitsSigned w64 c.args.p.y = search rules in
-    record { x = simp to_z-of_z at (c.is_short.ensures c.if-is_short.true); y = simp to_z-of_z at (c.is_short-then-is_short.ensures h) }
+    record {
+      x = simp to_z-of_z at (c.is_short.ensures c.if-is_short.true);
+      y = simp to_z-of_z at (c.is_short-then-is_short.ensures h);
+    }

@@ -10,8 +10,11 @@ behind n k j e = ap (before n) (e ∙ add-one j)
 pub returns-clause-before : goal.returns-clause-before
 returns-clause-before c = λ j e.
     let around = c.args.around.now in
-    let item = get_or_read around c.args.k c.index-around-k.result c.requires.place c.index-around-k.is 0 in
+    let item = get_or_read around c.args.k c.index-around-k.result c.requires.place
+    c.index-around-k.is 0 in
     let back = c.twin-back.ensures ∙ ap twin_of item in
     let linked = c.link.ensures.links.next_is c.args.k c.requires.place in
     let place = behind (length around) c.args.k j e in
-    c.next.ensures ∙ (ap (λ h. get_or c.link.new.self.next h 0) back ∙ (linked ∙ ap (λ n. get_or around n 0) place))
+    c.next.ensures
+    ∙ (ap (λ h. get_or c.link.new.self.next h 0) back
+    ∙ (linked ∙ ap (λ n. get_or around n 0) place))

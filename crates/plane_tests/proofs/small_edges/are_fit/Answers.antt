@@ -6,4 +6,5 @@ use Rattle.plane_tests.proofs.small_edges.are_fit.Goals as goal
 pub loop-e-preserved : goal.loop-e-preserved
 loop-e-preserved c =
     let h : IsTrue c.is_fit.result = search rules in
-    one_more IsFit c.args.edges.now c.loop-e.e-index _ c.loop-e-test.true c.loop-e.invariant (c.is_fit.ensures h)
+    one_more IsFit c.args.edges.now c.loop-e.e-index _ c.loop-e-test.true c.loop-e.invariant
+    (c.is_fit.ensures h)

@@ -15,5 +15,6 @@ invariant-loop-point l = record {
       → Before (get_or l.swept.events j no_move).at (get_or l.point-items l.point-index nothing).at;
   size : length l.places.items ≡ length l.points;
   each : (i : ℕ) → i < l.point-index
-      → IsPlaceOf l.edges l.swept.events (get_or l.point-items i nothing).at (get_or l.places.items (get_or l.point-items i nothing).number no_place);
+      → IsPlaceOf l.edges l.swept.events (get_or l.point-items i nothing).at
+      (get_or l.places.items (get_or l.point-items i nothing).number no_place);
 }

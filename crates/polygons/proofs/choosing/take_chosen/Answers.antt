@@ -14,7 +14,10 @@ loop-number-preserved c =
     let count = i.count in
     record {
       count = length-set c.loop-number.all n c.take_polygon.new.polygon ∙ i.count;
-      left = left_more c.args.all.now c.loop-number.all ns k n c.take_polygon.new.polygon c.requires.apart l refl i.left;
-      taken = taken_more c.args.all.now c.loop-number.all ns k n c.index-all-chosen.result c.take_polygon.result c.loop-number.taken.items c.push.new.self.items
-          l refl (omega (arith, known, count)) i.left c.take_polygon.ensures c.in_ok-push.ensures.items i.taken;
+      left = left_more c.args.all.now c.loop-number.all ns k n c.take_polygon.new.polygon
+          c.requires.apart l refl i.left;
+      taken = taken_more c.args.all.now c.loop-number.all ns k n c.index-all-chosen.result
+          c.take_polygon.result c.loop-number.taken.items c.push.new.self.items
+          l refl (omega (arith, known, count)) i.left c.take_polygon.ensures
+          c.in_ok-push.ensures.items i.taken;
     }

@@ -5,7 +5,8 @@ use Rattle.polygons.proofs.writing.put_ring.Goals as goal
 
 pub returns : goal.returns
 returns g c =
-    wrote_as (ring_words c.args.ring.now.corners.items _ _ (c.len.ensures ∙ c.args.ring.now.corners.ok.0) c.deref.ensures.value)
+    wrote_as (ring_words c.args.ring.now.corners.items _ _ (c.len.ensures
+    ∙ c.args.ring.now.corners.ok.0) c.deref.ensures.value)
     (wrote_then c.put.ensures
     (wrote_then c.put_count.ensures
     (wrote_then c.put_end.ensures

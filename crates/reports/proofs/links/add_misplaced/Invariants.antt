@@ -5,4 +5,6 @@ use Rattle.reports.specs.OutcomeViews.{misplaced_view}
 use Rattle.reports.proofs.links.add_misplaced.Given as goal
 
 abbrev pub invariant-loop-point : goal.invariant-loop-point
-invariant-loop-point l = lines_of l.lines.items ++ map misplaced_line (misplaced_view (drop l.point-index l.misplaced)) ≡ lines_of l.fn.lines.items ++ map misplaced_line (misplaced_view l.misplaced)
+invariant-loop-point l =
+    lines_of l.lines.items ++ map misplaced_line (misplaced_view (drop l.point-index l.misplaced))
+    ≡ lines_of l.fn.lines.items ++ map misplaced_line (misplaced_view l.misplaced)

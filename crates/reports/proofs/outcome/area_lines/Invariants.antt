@@ -10,5 +10,7 @@ abbrev pub invariant-loop-area : goal.invariant-loop-area
 invariant-loop-area l = record {
   can_next : (goal.iterator-loop-area).can_next l.area-iterator;
   is_finite : (goal.iterator-loop-area).is_finite l.area-iterator;
-  whole : lines_of l.lines.items ++ area_lines (layout_view l.layout) (areas_view (iter_rest (zip_first l.area-iterator))) (iter_rest (zip_second l.area-iterator)) ≡ area_lines (layout_view l.layout) (areas_view l.layout.areas.items) l.answers;
+  whole : lines_of l.lines.items ++ area_lines (layout_view l.layout)
+      (areas_view (iter_rest (zip_first l.area-iterator))) (iter_rest (zip_second l.area-iterator))
+      ≡ area_lines (layout_view l.layout) (areas_view l.layout.areas.items) l.answers;
 }

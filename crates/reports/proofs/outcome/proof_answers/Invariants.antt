@@ -9,5 +9,6 @@ abbrev pub invariant-loop-drawing : goal.invariant-loop-drawing
 invariant-loop-drawing l = record {
   can_next : (goal.iterator-loop-drawing).can_next l.drawing-iterator;
   is_finite : (goal.iterator-loop-drawing).is_finite l.drawing-iterator;
-  whole : l.answers.items ++ proof_answers (plans (iter_rest (zip_first l.drawing-iterator))) (iter_rest (zip_second l.drawing-iterator)) ≡ proof_answers (plans l.drawings) l.levels;
+  whole : l.answers.items ++ proof_answers (plans (iter_rest (zip_first l.drawing-iterator)))
+      (iter_rest (zip_second l.drawing-iterator)) ≡ proof_answers (plans l.drawings) l.levels;
 }

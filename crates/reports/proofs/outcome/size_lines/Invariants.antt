@@ -10,5 +10,7 @@ abbrev pub invariant-loop-answer : goal.invariant-loop-answer
 invariant-loop-answer l = record {
   can_next : (goal.iterator-loop-answer).can_next l.answer-iterator;
   is_finite : (goal.iterator-loop-answer).is_finite l.answer-iterator;
-  whole : lines_of l.lines.items ++ size_lines l.size (iter_rest (zip_first l.answer-iterator)) (views (iter_rest (zip_second l.answer-iterator))) ≡ size_lines l.size l.answers (views l.certificates);
+  whole : lines_of l.lines.items ++ size_lines l.size (iter_rest (zip_first l.answer-iterator))
+      (views (iter_rest (zip_second l.answer-iterator)))
+      ≡ size_lines l.size l.answers (views l.certificates);
 }

@@ -5,4 +5,6 @@ use Rattle.reports.specs.LineViews.{findings_view}
 use Rattle.reports.proofs.text.add_findings.Given as goal
 
 abbrev pub invariant-loop-finding : goal.invariant-loop-finding
-invariant-loop-finding l = l.text ++ flat_map line_text (findings_view (drop l.finding-index l.findings)) ≡ l.fn.text ++ flat_map line_text (findings_view l.findings)
+invariant-loop-finding l =
+    l.text ++ flat_map line_text (findings_view (drop l.finding-index l.findings))
+    ≡ l.fn.text ++ flat_map line_text (findings_view l.findings)

@@ -8,7 +8,11 @@ use Rattle.resolver.proofs.leaves.+leaves_in.Goals as goal
 
 pub loop-part-preserved : goal.loop-part-preserved
 loop-part-preserved t c = record {
-  counted = omega (arith, leaves_behind c.loop-part.part-index c.deref-part-items.result.now c.deref-part-items.result.now c.part-item.result refl c.loop-part-test.true c.part-item.is);
+  counted = omega (
+    arith,
+    leaves_behind c.loop-part.part-index c.deref-part-items.result.now
+        c.deref-part-items.result.now c.part-item.result refl c.loop-part-test.true c.part-item.is,
+  );
   few = omega arith;
 }
 
@@ -18,5 +22,6 @@ returns t c =
       arith,
       leaves_out c.args.element.now,
       ap (λ (l : List element.Element). leaves (elements_of l)) c.deref-part-items.ensures.value,
-      at_drop_all (λ (l : List element.Element). leaves (elements_of l)) c.deref-part-items.result.now c.loop-part.part-index c.loop-part-test.false,
+      at_drop_all (λ (l : List element.Element). leaves (elements_of l))
+          c.deref-part-items.result.now c.loop-part.part-index c.loop-part-test.false,
     )

@@ -5,4 +5,6 @@ use borrow.Author.Differences.{fits_in}
 use Rattle.resolver.proofs.numbers.in_units.Goals as goal
 
 pub overflow_cast-value : goal.overflow_cast-value
-overflow_cast-value c = let m = c.magnitude-value.ensures.most in fits_in w128 (pos c.magnitude-value.result) (omega (arith, ints, m))
+overflow_cast-value c =
+    let m = c.magnitude-value.ensures.most in
+    fits_in w128 (pos c.magnitude-value.result) (omega (arith, ints, m))

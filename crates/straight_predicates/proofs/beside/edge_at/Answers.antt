@@ -3,7 +3,11 @@ use Rattle.straight_predicates.proofs.NextEdges.{at_place, past_end}
 use Rattle.straight_predicates.proofs.beside.edge_at.Goals as goal
 
 pub returns-then-place-len : goal.returns-then-place-len
-returns-then-place-len c = ap (λ (e : ℕ). Some e) (c.get.ensures 0) ∙ sym (at_place c.args.live.now c.args.place (let l = c.if-place-len.true in let e = c.len.ensures in omega (arith, l, e)))
+returns-then-place-len c = ap (λ (e : ℕ). Some e) (c.get.ensures 0)
+    ∙ sym (at_place c.args.live.now c.args.place (let l = c.if-place-len.true in
+    let e = c.len.ensures in omega (arith, l, e)))
 
 pub returns-else-place-len : goal.returns-else-place-len
-returns-else-place-len c = sym (past_end c.args.live.now c.args.place (let l = c.if-place-len.false in let e = c.len.ensures in omega (arith, l, e)))
+returns-else-place-len c =
+    sym (past_end c.args.live.now c.args.place (let l = c.if-place-len.false in
+    let e = c.len.ensures in omega (arith, l, e)))

@@ -3,4 +3,5 @@ use Rattle.straight_predicates.proofs.NextEdges.{before_place}
 use Rattle.straight_predicates.proofs.beside.edge_before.Goals as goal
 
 pub returns-else-place-eq0 : goal.returns-else-place-eq0
-returns-else-place-eq0 c = ap (λ (e : ℕ). Some e) (c.get.ensures 0) ∙ sym (before_place c.args.live.now c.args.place (λ w. omega (arith, w)) c.requires)
+returns-else-place-eq0 c = ap (λ (e : ℕ). Some e) (c.get.ensures 0)
+    ∙ sym (before_place c.args.live.now c.args.place (λ w. omega (arith, w)) c.requires)

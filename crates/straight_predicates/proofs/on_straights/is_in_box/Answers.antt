@@ -10,7 +10,8 @@ returns-then-is_between c =
     let ay : FitsSigned w64 c.args.a.y = search rules in
     let by : FitsSigned w64 c.args.b.y = search rules in
     let py : FitsSigned w64 c.args.p.y = search rules in
-    both_of _ _ _ (simp to_z-of_z at c.is_between-then-is_between.ensures) ((simp to_z-of_z at c.is_between.ensures).0 c.if-is_between.true)
+    both_of _ _ _ (simp to_z-of_z at c.is_between-then-is_between.ensures)
+    ((simp to_z-of_z at c.is_between.ensures).0 c.if-is_between.true)
 
 pub returns-else-is_between : goal.returns-else-is_between
 returns-else-is_between c =

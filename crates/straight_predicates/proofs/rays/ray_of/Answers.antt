@@ -13,8 +13,11 @@ invariant_of-result-clause-rightward c =
     let hy : FitsSigned w64 (edge_of c.args.edges.now c.args.edge).high.y = search rules in
     let rx : FitsSigned w64 c.difference-x.result = search rules in
     let ry : FitsSigned w64 c.difference-y.result = search rules in
-    rightward (edge_of c.args.edges.now c.args.edge).low (edge_of c.args.edges.now c.args.edge).high _ _ _ _ (c.requires.sorted c.args.edge c.requires.known)
-    (to_z-of_z rx) (to_z-of_z ry) (simp to_z-of_z at c.difference-x.ensures.value) (simp to_z-of_z at c.difference-y.ensures.value)
+    rightward (edge_of c.args.edges.now c.args.edge).low
+    (edge_of c.args.edges.now c.args.edge).high _ _ _ _
+    (c.requires.sorted c.args.edge c.requires.known)
+    (to_z-of_z rx) (to_z-of_z ry) (simp to_z-of_z at c.difference-x.ensures.value)
+    (simp to_z-of_z at c.difference-y.ensures.value)
 
 pub invariant_of-result-clause-near_x : goal.invariant_of-result-clause-near_x
 invariant_of-result-clause-near_x c =

@@ -5,4 +5,6 @@ use Rattle.straight_predicates.proofs.RayOrder.{rays_rank}
 use Rattle.straight_predicates.proofs.rays.sort_rays.Goals as goal
 
 pub returns-clause-sorted : goal.returns-clause-sorted
-returns-clause-sorted c = c.sort_unstable_by.ensures.sorted ray_lt rays_rank (answers_always _ _ _ (λ f a r f' k. search rules))
+returns-clause-sorted c =
+    c.sort_unstable_by.ensures.sorted ray_lt rays_rank
+    (answers_always _ _ _ (λ f a r f' k. search rules))

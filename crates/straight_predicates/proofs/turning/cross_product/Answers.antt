@@ -16,4 +16,8 @@ returns c =
     let r2 : FitsSigned w64 c.difference-by.result = search rules in
     let r3 : FitsSigned w64 c.difference-cx.result = search rules in
     let r4 : FitsSigned w64 c.difference-cy.result = search rules in
-    to_z-of_z f ∙ cross_parts c.args.a c.args.b c.args.c _ _ _ _ _ (simp to_z-of_z at c.difference-bx.ensures.value) (simp to_z-of_z at c.difference-by.ensures.value) (simp to_z-of_z at c.difference-cx.ensures.value) (simp to_z-of_z at c.difference-cy.ensures.value) (simp to_z-of_z at c.determinant.ensures)
+    to_z-of_z f ∙ cross_parts c.args.a c.args.b c.args.c _ _ _ _ _
+    (simp to_z-of_z at c.difference-bx.ensures.value)
+    (simp to_z-of_z at c.difference-by.ensures.value)
+    (simp to_z-of_z at c.difference-cx.ensures.value)
+    (simp to_z-of_z at c.difference-cy.ensures.value) (simp to_z-of_z at c.determinant.ensures)

@@ -7,11 +7,14 @@ pub returns-clause-value : goal.returns-clause-value
 returns-clause-value c =
     let a = within_more (2 ^ 41) (2 ^ 62) c.args.a (omega arith) c.requires.a in
     let b = within_more (2 ^ 41) (2 ^ 62) c.args.b (omega arith) c.requires.b in
-    product_back c.from.result c.from-2.result c.args.a c.args.b a b (c.from.ensures ∙ to_z-of_z c.ranges.a) (c.from-2.ensures ∙ to_z-of_z c.ranges.b)
+    product_back c.from.result c.from-2.result c.args.a c.args.b a b (c.from.ensures
+    ∙ to_z-of_z c.ranges.a) (c.from-2.ensures ∙ to_z-of_z c.ranges.b)
 
 pub returns-clause-bound : goal.returns-clause-bound
 returns-clause-bound c =
     let a = within_more (2 ^ 41) (2 ^ 62) c.args.a (omega arith) c.requires.a in
     let b = within_more (2 ^ 41) (2 ^ 62) c.args.b (omega arith) c.requires.b in
-    let value = product_back c.from.result c.from-2.result c.args.a c.args.b a b (c.from.ensures ∙ to_z-of_z c.ranges.a) (c.from-2.ensures ∙ to_z-of_z c.ranges.b) in
-    subst (IsWithin (2 ^ 82)) (sym value) (within_product (2 ^ 41) (2 ^ 41) c.args.a c.args.b c.requires.a c.requires.b)
+    let value = product_back c.from.result c.from-2.result c.args.a c.args.b a b (c.from.ensures
+    ∙ to_z-of_z c.ranges.a) (c.from-2.ensures ∙ to_z-of_z c.ranges.b) in
+    subst (IsWithin (2 ^ 82)) (sym value)
+    (within_product (2 ^ 41) (2 ^ 41) c.args.a c.args.b c.requires.a c.requires.b)

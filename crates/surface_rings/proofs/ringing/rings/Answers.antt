@@ -6,13 +6,15 @@ use Rattle.surface_rings.proofs.ringing.rings.Goals as goal
 
 pub returns-in-Err-Bad-clause-answer : goal.returns-in-Err-Bad-clause-answer
 returns-in-Err-Bad-clause-answer c =
-    let bad : AreBad c.args.edges.now c.in-Err-Bad.first c.in-Err-Bad.second = subst (IsRefused c.args.edges.now) c.in-Err-Bad.field-0-is c.in-Err-Bad.ensures.refused in
+    let bad : AreBad c.args.edges.now c.in-Err-Bad.first c.in-Err-Bad.second = subst
+    (IsRefused c.args.edges.now) c.in-Err-Bad.field-0-is c.in-Err-Bad.ensures.refused in
     let a = c.in-Err-Bad.first in
     let b = c.in-Err-Bad.second in
     let low = c.min.ensures in
     let high = c.max.ensures in
     let differ = bad.differ in
-    λ u. meeting c.args.edges.now a b c.min.result c.max.result bad.first bad.second bad.differ bad.bad
+    λ u. meeting c.args.edges.now a b c.min.result c.max.result bad.first bad.second bad.differ
+    bad.bad
     (elim (cases_lt a b) [
       | inl l ↦ inl (omega (arith, low, l), omega (arith, high, l), l)
       | inr l ↦ inr (omega (arith, low, l), omega (arith, high, l), less a b l differ)

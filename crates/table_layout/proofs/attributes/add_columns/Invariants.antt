@@ -6,4 +6,8 @@ use Rattle.table_layout.specs.Values.{columns_view}
 use Rattle.table_layout.proofs.attributes.add_columns.Given as goal
 
 abbrev pub invariant-loop-attribute : goal.invariant-loop-attribute
-invariant-loop-attribute l = columns_view l.columns.items ++ flat_map (columns_of l.mains) (map attribute_of (drop l.attribute-index l.attributes)) ≡ columns_view l.fn.columns.items ++ flat_map (columns_of l.mains) (map attribute_of l.attributes)
+invariant-loop-attribute l =
+    columns_view l.columns.items ++ flat_map (columns_of l.mains)
+    (map attribute_of (drop l.attribute-index l.attributes))
+    ≡ columns_view l.fn.columns.items ++ flat_map (columns_of l.mains)
+    (map attribute_of l.attributes)

@@ -6,4 +6,7 @@ use Rattle.table_layout.specs.Values.{tables_view}
 use Rattle.table_layout.proofs.building.tables.Given as goal
 
 abbrev pub invariant-loop-number : goal.invariant-loop-number
-invariant-loop-number l = (l.number + length l.tables.items + numbers_in (topics_of (drop l.number l.topics)) ≤ 4194304) × (tables_view l.tables.items ++ tables_from l.number (length l.tables.items) (topics_of (drop l.number l.topics)) ≡ tables_from 0 0 (topics_of l.topics))
+invariant-loop-number l =
+    (l.number + length l.tables.items + numbers_in (topics_of (drop l.number l.topics)) ≤ 4194304)
+    × (tables_view l.tables.items ++ tables_from l.number (length l.tables.items)
+    (topics_of (drop l.number l.topics)) ≡ tables_from 0 0 (topics_of l.topics))

@@ -6,4 +6,7 @@ use Rattle.table_layout.specs.Values.{layout_view, tables_view}
 use Rattle.table_layout.proofs.finding.table_of.Given as goal
 
 abbrev pub invariant-loop-number : goal.invariant-loop-number
-invariant-loop-number l = number_of (layout_view l.layout) l.topic l.name ≡ position_from (is_named l.topic l.name) l.number (tables_view (drop l.number l.layout.tables.items))
+invariant-loop-number l =
+    number_of (layout_view l.layout) l.topic l.name
+    ≡ position_from (is_named l.topic l.name) l.number
+    (tables_view (drop l.number l.layout.tables.items))

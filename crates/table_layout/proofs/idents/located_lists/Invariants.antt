@@ -4,4 +4,6 @@ use Rattle.table_layout.specs.Attributes.{lists_at}
 use Rattle.table_layout.proofs.idents.located_lists.Given as goal
 
 abbrev pub invariant-loop-list : goal.invariant-loop-list
-invariant-loop-list l = places_of l.kept.items ++ lists_at l.places (places_of (drop l.list-index l.lists)) ≡ lists_at l.places (places_of l.lists)
+invariant-loop-list l =
+    places_of l.kept.items ++ lists_at l.places (places_of (drop l.list-index l.lists))
+    ≡ lists_at l.places (places_of l.lists)

@@ -4,4 +4,6 @@ use Rattle.table_layout.proofs.Listed.{all_read}
 use Rattle.table_layout.proofs.tables.add_area_tables.Goals as goal
 
 pub add_area_table-requires : goal.add_area_table-requires
-add_area_table-requires c = all_read HasFew attribute_of c.args.attributes.now c.loop-attribute.attribute-index c.attribute-item.result c.loop-attribute-test.true c.attribute-item.is c.requires.lines
+add_area_table-requires c =
+    all_read HasFew attribute_of c.args.attributes.now c.loop-attribute.attribute-index
+    c.attribute-item.result c.loop-attribute-test.true c.attribute-item.is c.requires.lines

@@ -7,9 +7,14 @@ use Rattle.table_layout.proofs.Shapes.{small_surface, surface_table_is}
 use Rattle.table_layout.proofs.tables.add_surface_table.Goals as goal
 
 pub helper_table-requires-clause-small : goal.helper_table-requires-clause-small
-helper_table-requires-clause-small c = small_surface (attribute_of c.args.attribute.now) c.args.attribute.now.name c.args.attribute.now.optional (line_of c.in-Some.line.now) (part_of c.in-Some.part.now) c.in-Some.ensures c.requires
+helper_table-requires-clause-small c =
+    small_surface (attribute_of c.args.attribute.now) c.args.attribute.now.name
+    c.args.attribute.now.optional (line_of c.in-Some.line.now)
+    (part_of c.in-Some.part.now) c.in-Some.ensures c.requires
 
 pub returns-in_ok-push-2 : goal.returns-in_ok-push-2
 returns-in_ok-push-2 c =
-    let t = surface_table_is (owner_view c.args.owner) (attribute_of c.args.attribute.now) c.args.attribute.now.name c.args.attribute.now.optional (line_of c.in-Some.line.now) (part_of c.in-Some.part.now) c.in-Some.ensures in
+    let t = surface_table_is (owner_view c.args.owner)
+    (attribute_of c.args.attribute.now) c.args.attribute.now.name c.args.attribute.now.optional
+    (line_of c.in-Some.line.now) (part_of c.in-Some.part.now) c.in-Some.ensures in
     grind (arith, common_steps)

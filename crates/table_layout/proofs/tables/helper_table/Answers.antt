@@ -9,11 +9,15 @@ use Rattle.table_layout.proofs.tables.helper_table.Goals as goal
 
 pub idents-requires-clause-few : goal.idents-requires-clause-few
 idents-requires-clause-few c =
-    let few = few_own (part_of c.args.part.now) (map attribute_of c.own.result.0.now) (places_of c.own.result.1.now) c.own.ensures c.requires.small in
+    let few = few_own (part_of c.args.part.now) (map attribute_of c.own.result.0.now)
+    (places_of c.own.result.1.now) c.own.ensures c.requires.small in
     grind (arith, common_steps)
 
 pub returns : goal.returns
 returns c =
-    let t = helper_table_is (owner_view c.args.owner) (role_view c.args.role) (columns_view c.args.columns.items) c.args.name.now (line_of c.args.line.now) (part_of c.args.part.now) (map attribute_of c.own.result.0.now) (places_of c.own.result.1.now) c.own.ensures in
+    let t = helper_table_is (owner_view c.args.owner) (role_view c.args.role)
+    (columns_view c.args.columns.items) c.args.name.now (line_of c.args.line.now)
+    (part_of c.args.part.now) (map attribute_of c.own.result.0.now)
+    (places_of c.own.result.1.now) c.own.ensures in
     let n = length-map c.args.columns.items column_view in
     grind (arith, common_steps)

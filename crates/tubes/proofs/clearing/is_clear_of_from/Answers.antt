@@ -6,10 +6,14 @@ use Rattle.tubes.proofs.ClearNumbers.{a_within, ahead_from_is, at_most_by, b_wit
 use Rattle.tubes.proofs.clearing.is_clear_of_from.Goals as goal
 
 pub dot-ahead-requires-clause-first : goal.dot-ahead-requires-clause-first
-dot-ahead-requires-clause-first c = product_within (2 ^ 80) (2 ^ 29) _ _ (omega arith) (omega arith) (omega arith) (a_within c.args.circle.now) c.offset-x.ensures.bound
+dot-ahead-requires-clause-first c =
+    product_within (2 ^ 80) (2 ^ 29) _ _ (omega arith) (omega arith) (omega arith)
+    (a_within c.args.circle.now) c.offset-x.ensures.bound
 
 pub dot-ahead-requires-clause-second : goal.dot-ahead-requires-clause-second
-dot-ahead-requires-clause-second c = product_within (2 ^ 80) (2 ^ 29) _ _ (omega arith) (omega arith) (omega arith) (b_within c.args.circle.now) c.offset-y.ensures.bound
+dot-ahead-requires-clause-second c =
+    product_within (2 ^ 80) (2 ^ 29) _ _ (omega arith) (omega arith) (omega arith)
+    (b_within c.args.circle.now) c.offset-y.ensures.bound
 
 pub is_at_most_zero-requires-clause-bound : goal.is_at_most_zero-requires-clause-bound
 is_at_most_zero-requires-clause-bound c =
@@ -19,7 +23,11 @@ is_at_most_zero-requires-clause-bound c =
     let x : FitsSigned w128 c.offset-x.result = search rules in
     let y : FitsSigned w128 c.offset-y.result = search rules in
     let h : FitsSigned w128 c.dot-ahead.result = search rules in
-    rw (to_z-of_z h) (within_more (2 ^ 110) (2 ^ 126) _ (omega arith) (sum_within (2 ^ 80) (2 ^ 29) k.a k.b c.offset-x.result c.offset-y.result c.dot-ahead.result (a_within k) (b_within k) c.offset-x.ensures.bound c.offset-y.ensures.bound (simp to_z-of_z at c.dot-ahead.ensures)))
+    rw (to_z-of_z h)
+    (within_more (2 ^ 110) (2 ^ 126) _ (omega arith)
+    (sum_within (2 ^ 80) (2 ^ 29) k.a k.b c.offset-x.result c.offset-y.result c.dot-ahead.result
+    (a_within k) (b_within k) c.offset-x.ensures.bound c.offset-y.ensures.bound
+    (simp to_z-of_z at c.dot-ahead.ensures)))
 
 pub returns : goal.returns
 returns c =
@@ -34,5 +42,7 @@ returns c =
     let x : FitsSigned w128 c.offset-x.result = search rules in
     let y : FitsSigned w128 c.offset-y.result = search rules in
     let h : FitsSigned w128 c.dot-ahead.result = search rules in
-    at_most_by c.is_at_most_zero.result _ _ (simp to_z-of_z at c.is_at_most_zero.ensures) (ahead_from_is k c.args.p c.offset-x.result c.offset-y.result c.dot-ahead.result
-    (simp to_z-of_z at c.offset-x.ensures.value) (simp to_z-of_z at c.offset-y.ensures.value) (simp to_z-of_z at c.dot-ahead.ensures))
+    at_most_by c.is_at_most_zero.result _ _ (simp to_z-of_z at c.is_at_most_zero.ensures)
+    (ahead_from_is k c.args.p c.offset-x.result c.offset-y.result c.dot-ahead.result
+    (simp to_z-of_z at c.offset-x.ensures.value) (simp to_z-of_z at c.offset-y.ensures.value)
+    (simp to_z-of_z at c.dot-ahead.ensures))

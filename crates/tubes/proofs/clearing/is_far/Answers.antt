@@ -10,7 +10,8 @@ pub determinant-more-requires-clause-second : goal.determinant-more-requires-cla
 determinant-more-requires-clause-second c =
     let s = c.ranges.square in
     let e = simp to_z-of_z at c.from.ensures in
-    product_within (2 ^ 53) (2 ^ 59) _ _ (omega arith) (omega arith) (omega arith) (d_within c.args.circle.now) (subst (IsWithin (2 ^ 59)) (sym e) c.requires.square)
+    product_within (2 ^ 53) (2 ^ 59) _ _ (omega arith) (omega arith) (omega arith)
+    (d_within c.args.circle.now) (subst (IsWithin (2 ^ 59)) (sym e) c.requires.square)
 
 pub is_at_most_zero-requires-clause-bound : goal.is_at_most_zero-requires-clause-bound
 is_at_most_zero-requires-clause-bound c =
@@ -22,7 +23,10 @@ is_at_most_zero-requires-clause-bound c =
     let o : FitsSigned w128 c.power_over-outside.result = search rules in
     let m : FitsSigned w128 c.determinant-more.result = search rules in
     let t = simp to_z-of_z at c.determinant-more.ensures in
-    rw (to_z-of_z m) (subst (IsWithin (2 ^ 126)) (sym t) (more_within k.d c.from.result c.power_over-outside.result (d_within k) (subst (IsWithin (2 ^ 59)) (sym e) c.requires.square) c.power_over-outside.ensures.bound))
+    rw (to_z-of_z m)
+    (subst (IsWithin (2 ^ 126)) (sym t)
+    (more_within k.d c.from.result c.power_over-outside.result (d_within k)
+    (subst (IsWithin (2 ^ 59)) (sym e) c.requires.square) c.power_over-outside.ensures.bound))
 
 pub returns : goal.returns
 returns c =
@@ -34,5 +38,7 @@ returns c =
     let o : FitsSigned w128 c.power_over-outside.result = search rules in
     let m : FitsSigned w128 c.determinant-more.result = search rules in
     let t = simp to_z-of_z at c.determinant-more.ensures in
-    far_by k c.args.p c.is_at_most_zero.result c.args.square c.power_over-outside.result c.determinant-more.result c.power_over-outside.ensures.value
-    (t ∙ ap (λ z. (pos 4 *ℤ c.power_over-outside.result) -ℤ (k.d *ℤ z)) e) (simp to_z-of_z at c.is_at_most_zero.ensures)
+    far_by k c.args.p c.is_at_most_zero.result c.args.square c.power_over-outside.result
+    c.determinant-more.result c.power_over-outside.ensures.value
+    (t ∙ ap (λ z. (pos 4 *ℤ c.power_over-outside.result) -ℤ (k.d *ℤ z)) e)
+    (simp to_z-of_z at c.is_at_most_zero.ensures)

@@ -17,5 +17,9 @@ returns c =
     let x : FitsSigned w64 c.difference-right.result = search rules in
     let y : FitsSigned w64 c.difference-above.result = search rules in
     let r : FitsSigned w64 c.dot.result = search rules in
-    to_z-of_z r ∙ along_is k c.args.p c.difference-wide.result c.difference-tall.result c.difference-right.result c.difference-above.result c.dot.result
-    (simp to_z-of_z at c.difference-wide.ensures.value) (simp to_z-of_z at c.difference-tall.ensures.value) (simp to_z-of_z at c.difference-right.ensures.value) (simp to_z-of_z at c.difference-above.ensures.value) (simp to_z-of_z at c.dot.ensures.value)
+    to_z-of_z r ∙ along_is k c.args.p c.difference-wide.result c.difference-tall.result
+    c.difference-right.result c.difference-above.result c.dot.result
+    (simp to_z-of_z at c.difference-wide.ensures.value)
+    (simp to_z-of_z at c.difference-tall.ensures.value)
+    (simp to_z-of_z at c.difference-right.ensures.value)
+    (simp to_z-of_z at c.difference-above.ensures.value) (simp to_z-of_z at c.dot.ensures.value)

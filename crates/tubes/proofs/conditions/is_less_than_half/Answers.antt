@@ -18,6 +18,13 @@ returns c =
     let u : FitsSigned w64 c.difference-to_x.result = search rules in
     let v : FitsSigned w64 c.difference-to_y.result = search rules in
     let r : FitsSigned w64 c.dot.result = search rules in
-    let e = facing_is k c.difference-x.result c.difference-y.result c.difference-to_x.result c.difference-to_y.result c.dot.result
-    (simp to_z-of_z at c.difference-x.ensures.value) (simp to_z-of_z at c.difference-y.ensures.value) (simp to_z-of_z at c.difference-to_x.ensures.value) (simp to_z-of_z at c.difference-to_y.ensures.value) (simp to_z-of_z at c.dot.ensures.value) in
-    rw (to_z-of_z r) (subst (λ (z : ℤ). IsTrue (lt_z (pos 0) c.dot.result) ↔ (pos 0 <ℤ z)) e (lt_test (pos 0) c.dot.result))
+    let e = facing_is k c.difference-x.result c.difference-y.result c.difference-to_x.result
+    c.difference-to_y.result c.dot.result
+    (simp to_z-of_z at c.difference-x.ensures.value)
+    (simp to_z-of_z at c.difference-y.ensures.value)
+    (simp to_z-of_z at c.difference-to_x.ensures.value)
+    (simp to_z-of_z at c.difference-to_y.ensures.value)
+    (simp to_z-of_z at c.dot.ensures.value) in
+    rw (to_z-of_z r)
+    (subst (λ (z : ℤ). IsTrue (lt_z (pos 0) c.dot.result) ↔ (pos 0 <ℤ z)) e
+    (lt_test (pos 0) c.dot.result))

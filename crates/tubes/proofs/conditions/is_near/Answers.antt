@@ -14,11 +14,17 @@ returns-then-abs_diff-lt-NEAR c =
     let qx : FitsSigned w64 q.x = search rules in
     let qy : FitsSigned w64 q.y = search rules in
     let ex : c.abs_diff.result ≡ unsigned_abs (p.x -ℤ q.x) = simp to_z-of_z at c.abs_diff.ensures in
-    let ey : c.abs_diff-then-abs_diff-lt-NEAR.result ≡ unsigned_abs (p.y -ℤ q.y) = simp to_z-of_z at c.abs_diff-then-abs_diff-lt-NEAR.ensures in
+    let ey : c.abs_diff-then-abs_diff-lt-NEAR.result
+    ≡ unsigned_abs (p.y -ℤ q.y) = simp to_z-of_z at c.abs_diff-then-abs_diff-lt-NEAR.ensures in
     let x = near_by_sizes p.x q.x (2 ^ 28) in
     let y = near_by_sizes p.y q.y (2 ^ 28) in (
-      (λ t. record { x = x.0 (subst (λ (n : ℕ). n < 2 ^ 28) ex c.if-abs_diff-lt-NEAR.true); y = y.0 (subst (λ (n : ℕ). n < 2 ^ 28) ey (below c.abs_diff-then-abs_diff-lt-NEAR.result t)) }),
-      (λ h. above c.abs_diff-then-abs_diff-lt-NEAR.result (subst (λ (n : ℕ). n < 2 ^ 28) (sym ey) (y.1 h.y))),
+      (λ t. record {
+        x = x.0 (subst (λ (n : ℕ). n < 2 ^ 28) ex c.if-abs_diff-lt-NEAR.true);
+        y = y.0 (subst (λ (n : ℕ). n < 2 ^ 28) ey
+            (below c.abs_diff-then-abs_diff-lt-NEAR.result t));
+      }),
+      (λ h. above c.abs_diff-then-abs_diff-lt-NEAR.result
+          (subst (λ (n : ℕ). n < 2 ^ 28) (sym ey) (y.1 h.y))),
     )
   where
     below : (n : ℕ) → IsTrue (nat_lt n (2 ^ 28)) → n < 2 ^ 28

@@ -20,6 +20,12 @@ returns-then-along-middle c =
     let e = c.along-middle.ensures in
     let f = c.along.ensures in
     let g = c.along-then-along-middle.ensures in
-    let test = subst (λ (z : ℤ). IsTrue (lt_z c.along-middle.result c.along-then-along-middle.result) ↔ (z <ℤ along h (point c.args.after))) e
-    (subst (λ (z : ℤ). IsTrue (lt_z c.along-middle.result c.along-then-along-middle.result) ↔ (c.along-middle.result <ℤ z)) g (lt_test c.along-middle.result c.along-then-along-middle.result)) in
-    rw (to_z-of_z m, to_z-of_z a) (both_of _ _ _ (lt_z c.along-middle.result c.along-then-along-middle.result) test (omega (arith, ints, l, e, f)) ((λ p. p), (λ p. p)))
+    let test = subst
+    (λ (z : ℤ). IsTrue (lt_z c.along-middle.result c.along-then-along-middle.result)
+    ↔ (z <ℤ along h (point c.args.after))) e
+    (subst (λ (z : ℤ). IsTrue (lt_z c.along-middle.result c.along-then-along-middle.result)
+    ↔ (c.along-middle.result <ℤ z)) g
+    (lt_test c.along-middle.result c.along-then-along-middle.result)) in
+    rw (to_z-of_z m, to_z-of_z a)
+    (both_of _ _ _ (lt_z c.along-middle.result c.along-then-along-middle.result) test
+    (omega (arith, ints, l, e, f)) ((λ p. p), (λ p. p)))

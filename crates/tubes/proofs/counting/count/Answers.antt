@@ -8,10 +8,15 @@ pub returns-then-is_inside : goal.returns-then-is_inside
 returns-then-is_inside c =
     let h = half_arc c.args.circle.now in
     let s = c.args.span.now in
-    sym (count_is h s.p s.q s.some ∙ ap (λ t. cond t (Some (with_bits (is_inside h s.p s.q) 27 0)) None) (sym c.is_inside.ensures ∙ c.if-is_inside.true) ∙ ap (λ n. Some n) (sym c.with_bits.ensures))
+    sym (count_is h s.p s.q s.some
+    ∙ ap (λ t. cond t (Some (with_bits (is_inside h s.p s.q) 27 0)) None)
+    (sym c.is_inside.ensures ∙ c.if-is_inside.true)
+    ∙ ap (λ n. Some n) (sym c.with_bits.ensures))
 
 pub returns-else-is_inside : goal.returns-else-is_inside
 returns-else-is_inside c =
     let h = half_arc c.args.circle.now in
     let s = c.args.span.now in
-    sym (count_is h s.p s.q s.some ∙ ap (λ t. cond t (Some (with_bits (is_inside h s.p s.q) 27 0)) None) (sym c.is_inside.ensures ∙ c.if-is_inside.false))
+    sym (count_is h s.p s.q s.some
+    ∙ ap (λ t. cond t (Some (with_bits (is_inside h s.p s.q) 27 0)) None)
+    (sym c.is_inside.ensures ∙ c.if-is_inside.false))

@@ -17,8 +17,11 @@ place_of-requires c =
     let m = c.from.ensures in
     let f : FitsSigned w64 c.from.result = search rules in
     let g = fits (2 ^ 62) (c.from.result -ℤ pos 2) (omega arith) (omega (arith, ints, b, m)) in
-    let e : c.beside-at.result ≡ beside (half_arc k) s.p s.q (pos c.args.k -ℤ pos 2) = (simp to_z-of_z at c.beside-at.ensures) ∙ ap (λ n. beside (half_arc k) s.p s.q (n -ℤ pos 2)) m in
-    subst (AreNear (2 ^ 32) k.s) (sym e) (tested_near (half_arc k) k.s s.p s.q c.args.k c.requires.near s.near s.some c.requires.k)
+    let e : c.beside-at.result ≡ beside (half_arc k) s.p s.q
+    (pos c.args.k -ℤ pos 2) = (simp to_z-of_z at c.beside-at.ensures)
+    ∙ ap (λ n. beside (half_arc k) s.p s.q (n -ℤ pos 2)) m in
+    subst (AreNear (2 ^ 32) k.s) (sym e)
+    (tested_near (half_arc k) k.s s.p s.q c.args.k c.requires.near s.near s.some c.requires.k)
 
 pub returns-in-Inside : goal.returns-in-Inside
 returns-in-Inside c =
@@ -28,7 +31,9 @@ returns-in-Inside c =
     let m = c.from.ensures in
     let f : FitsSigned w64 c.from.result = search rules in
     let g = fits (2 ^ 62) (c.from.result -ℤ pos 2) (omega arith) (omega (arith, ints, b, m)) in
-    let e : c.beside-at.result ≡ beside (half_arc k) s.p s.q (pos c.args.k -ℤ pos 2) = (simp to_z-of_z at c.beside-at.ensures) ∙ ap (λ n. beside (half_arc k) s.p s.q (n -ℤ pos 2)) m in
+    let e : c.beside-at.result ≡ beside (half_arc k) s.p s.q
+    (pos c.args.k -ℤ pos 2) = (simp to_z-of_z at c.beside-at.ensures)
+    ∙ ap (λ n. beside (half_arc k) s.p s.q (n -ℤ pos 2)) m in
     inside_true (half_arc k) s.p s.q c.beside-at.result c.args.k e c.in-Inside.ensures
 
 pub returns-in_default : goal.returns-in_default
@@ -39,5 +44,8 @@ returns-in_default c =
     let m = c.from.ensures in
     let f : FitsSigned w64 c.from.result = search rules in
     let g = fits (2 ^ 62) (c.from.result -ℤ pos 2) (omega arith) (omega (arith, ints, b, m)) in
-    let e : c.beside-at.result ≡ beside (half_arc k) s.p s.q (pos c.args.k -ℤ pos 2) = (simp to_z-of_z at c.beside-at.ensures) ∙ ap (λ n. beside (half_arc k) s.p s.q (n -ℤ pos 2)) m in
-    inside_false (half_arc k) s.p s.q c.beside-at.result c.args.k e (not_inside c.place_of.result _ c.place_of.ensures c.in_default.not-Inside)
+    let e : c.beside-at.result ≡ beside (half_arc k) s.p s.q
+    (pos c.args.k -ℤ pos 2) = (simp to_z-of_z at c.beside-at.ensures)
+    ∙ ap (λ n. beside (half_arc k) s.p s.q (n -ℤ pos 2)) m in
+    inside_false (half_arc k) s.p s.q c.beside-at.result c.args.k e
+    (not_inside c.place_of.result _ c.place_of.ensures c.in_default.not-Inside)

@@ -14,7 +14,9 @@ pub guess-requires : goal.guess-requires
 guess-requires c =
     let s = c.args.span.now in
     let l : FitsSigned w64 s.length = search rules in
-    let e : c.unsigned_abs-length.result ≡ whole_distance s.p s.q = (simp to_z-of_z at c.unsigned_abs-length.ensures.value) ∙ ap unsigned_abs s.distance in
+    let e : c.unsigned_abs-length.result
+    ≡ whole_distance s.p s.q = (simp to_z-of_z at c.unsigned_abs-length.ensures.value)
+    ∙ ap unsigned_abs s.distance in
     let w = whole_within s.p s.q s.near in
     omega (arith, ints, e, w)
 
@@ -22,7 +24,9 @@ pub inside_to-requires-clause-length : goal.inside_to-requires-clause-length
 inside_to-requires-clause-length c =
     let s = c.args.span.now in
     let l : FitsSigned w64 s.length = search rules in
-    let e : c.unsigned_abs-length.result ≡ whole_distance s.p s.q = (simp to_z-of_z at c.unsigned_abs-length.ensures.value) ∙ ap unsigned_abs s.distance in
+    let e : c.unsigned_abs-length.result
+    ≡ whole_distance s.p s.q = (simp to_z-of_z at c.unsigned_abs-length.ensures.value)
+    ∙ ap unsigned_abs s.distance in
     let w = whole_within s.p s.q s.near in
     omega (arith, ints, e, w)
 
@@ -30,7 +34,9 @@ pub outside_from-requires-clause-length : goal.outside_from-requires-clause-leng
 outside_from-requires-clause-length c =
     let s = c.args.span.now in
     let l : FitsSigned w64 s.length = search rules in
-    let e : c.unsigned_abs-length.result ≡ whole_distance s.p s.q = (simp to_z-of_z at c.unsigned_abs-length.ensures.value) ∙ ap unsigned_abs s.distance in
+    let e : c.unsigned_abs-length.result
+    ≡ whole_distance s.p s.q = (simp to_z-of_z at c.unsigned_abs-length.ensures.value)
+    ∙ ap unsigned_abs s.distance in
     let w = whole_within s.p s.q s.near in
     omega (arith, ints, e, w)
 
@@ -39,7 +45,13 @@ returns c =
     let s = c.args.span.now in
     let b = c.bounds-bounds.result in
     let l : FitsSigned w64 s.length = search rules in
-    let e : c.unsigned_abs-length.result ≡ whole_distance s.p s.q = (simp to_z-of_z at c.unsigned_abs-length.ensures.value) ∙ ap unsigned_abs s.distance in
-    window_is (half_arc c.args.circle.now) s.p s.q b c.inside_to.result c.outside_from.result s.some c.requires.p_inside c.requires.q_inside
-    c.bounds-bounds.ensures (subst (λ (l : ℕ). (j : ℕ) → 4 ≤ j → j ≤ c.inside_to.result → Follows l j b.low) e c.inside_to.ensures)
-    (subst (λ (l : ℕ). (i : ℕ) → c.outside_from.result ≤ i → i < 2 ^ 27 → Follows l b.high i) e c.outside_from.ensures)
+    let e : c.unsigned_abs-length.result
+    ≡ whole_distance s.p s.q = (simp to_z-of_z at c.unsigned_abs-length.ensures.value)
+    ∙ ap unsigned_abs s.distance in
+    window_is (half_arc c.args.circle.now) s.p s.q b c.inside_to.result c.outside_from.result s.some
+    c.requires.p_inside c.requires.q_inside
+    c.bounds-bounds.ensures
+    (subst (λ (l : ℕ). (j : ℕ) → 4 ≤ j → j ≤ c.inside_to.result
+    → Follows l j b.low) e c.inside_to.ensures)
+    (subst (λ (l : ℕ). (i : ℕ) → c.outside_from.result ≤ i → i < 2 ^ 27
+    → Follows l b.high i) e c.outside_from.ensures)

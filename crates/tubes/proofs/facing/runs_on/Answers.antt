@@ -20,5 +20,11 @@ returns c =
     let r : FitsSigned w64 c.difference-right.result = search rules in
     let a : FitsSigned w64 c.difference-above.result = search rules in
     let s : FitsSigned w64 c.dot.result = search rules in
-    rw (to_z-of_z s) (runs_is k e c.difference-wide.result c.difference-tall.result c.difference-right.result c.difference-above.result c.dot.result
-    (simp to_z-of_z at c.difference-wide.ensures.value) (simp to_z-of_z at c.difference-tall.ensures.value) (simp to_z-of_z at c.difference-right.ensures.value) (simp to_z-of_z at c.difference-above.ensures.value) (simp to_z-of_z at c.dot.ensures.value))
+    rw (to_z-of_z s)
+    (runs_is k e c.difference-wide.result c.difference-tall.result c.difference-right.result
+    c.difference-above.result c.dot.result
+    (simp to_z-of_z at c.difference-wide.ensures.value)
+    (simp to_z-of_z at c.difference-tall.ensures.value)
+    (simp to_z-of_z at c.difference-right.ensures.value)
+    (simp to_z-of_z at c.difference-above.ensures.value)
+    (simp to_z-of_z at c.dot.ensures.value))

@@ -3,10 +3,12 @@ use Rattle.tubes.proofs.LevelEdges.{owner_within}
 use Rattle.tubes.proofs.laws.chains_have_edges.Goals as goal
 
 pub returns-clause-inner : goal.returns-clause-inner
-returns-clause-inner given d level i t h = let o = first_inner d level i h (t i h) in (o.there, o.curve, o.part)
+returns-clause-inner given d level i t h =
+    let o = first_inner d level i h (t i h) in (o.there, o.curve, o.part)
 
 pub returns-clause-outer : goal.returns-clause-outer
-returns-clause-outer given d level i h = let o = first_outer d level i h in (o.there, o.curve, o.part)
+returns-clause-outer given d level i h =
+    let o = first_outer d level i h in (o.there, o.curve, o.part)
 
 pub returns-clause-owner : goal.returns-clause-owner
 returns-clause-owner given = owner_within

@@ -13,7 +13,8 @@ add_curve-requires-clause-fit c =
     let z = straight (record { x = pos 0; y = pos 0 }) (record { x = pos 0; y = pos 0 }) 0 in
     let d = c.deref-curve-items.ensures.value in
     let l = subst (λ (cs : List Curve). c.loop-i.i < length cs) d c.loop-i-test.true in
-    subst (λ (cs : List Curve). IsFit (get_or cs c.loop-i.i z)) (sym d) (fit c.args.drawing.now.window _ (c.args.drawing.now.curves_drawn c.loop-i.i z l))
+    subst (λ (cs : List Curve). IsFit (get_or cs c.loop-i.i z)) (sym d)
+    (fit c.args.drawing.now.window _ (c.args.drawing.now.curves_drawn c.loop-i.i z l))
 
 pub loop-i-preserved : goal.loop-i-preserved
 loop-i-preserved c =
@@ -26,19 +27,28 @@ loop-i-preserved c =
     let past = c.loop-i.owners.items in
     let new = c.add_curve.new.edges.items in
     let more = c.add_curve.new.owners.items in
-    let a = subst (IsAdded i (get_or c.deref-curve-items.result.now i z) c.args.level old new past more) c.if-not-branch.false c.in_ok-add_curve.ensures in
-    let b = subst (λ (cs : List Curve). IsAdded i (get_or cs i z) c.args.level old new past more true) d a in
-    let s = list_step p c.args.level i old new _ past more _ l b.1 c.loop-i.invariant.edges c.loop-i.invariant.owners in
+    let a = subst
+    (IsAdded i (get_or c.deref-curve-items.result.now i z) c.args.level old new past more)
+    c.if-not-branch.false c.in_ok-add_curve.ensures in
+    let b = subst
+    (λ (cs : List Curve). IsAdded i (get_or cs i z) c.args.level old new past more true) d a in
+    let s = list_step p c.args.level i old new _ past more _ l b.1 c.loop-i.invariant.edges
+    c.loop-i.invariant.owners in
     record {
       edges = s.0;
       owners = s.1;
-      tubes = one_more (λ k. (curve p k).kind ≡ kind.HalfArc → HasTube (arc (curve p k)) c.args.level) i c.loop-i.invariant.tubes b.0;
+      tubes = one_more (λ k. (curve p k).kind ≡ kind.HalfArc
+          → HasTube (arc (curve p k)) c.args.level) i c.loop-i.invariant.tubes b.0;
     }
 
 pub returns-clause-usable : goal.returns-clause-usable
 returns-clause-usable c =
     let p = plan c.args.drawing.now in
     let i = c.loop-i.i in
-    let l = subst (λ (cs : List Curve). length cs ≤ i) c.deref-curve-items.ensures.value c.loop-i-test.false in
-    let e = list_ends p c.args.level i c.loop-i.edges.items _ c.loop-i.owners.items _ l c.loop-i.invariant.edges c.loop-i.invariant.owners in
-    usable p c.args.level c.loop-i.edges.items c.args.drawing.now.curves_drawn c.args.drawing.now.points_inside (λ k h. let t = h.there in c.loop-i.invariant.tubes k (omega (arith, t, l)) h.kind) e.0
+    let l = subst (λ (cs : List Curve). length cs ≤ i) c.deref-curve-items.ensures.value
+    c.loop-i-test.false in
+    let e = list_ends p c.args.level i c.loop-i.edges.items _ c.loop-i.owners.items _ l
+    c.loop-i.invariant.edges c.loop-i.invariant.owners in
+    usable p c.args.level c.loop-i.edges.items c.args.drawing.now.curves_drawn
+    c.args.drawing.now.points_inside (λ k h. let t = h.there in
+    c.loop-i.invariant.tubes k (omega (arith, t, l)) h.kind) e.0

@@ -14,31 +14,45 @@ pub outer_points-requires-clause-near : goal.outer_points-requires-clause-near
 outer_points-requires-clause-near c =
     let k = c.args.circle.now in
     let l = c.requires.level in
-    let e = subst (AreMade (inner_points (half_arc k) (c.args.level + 1))) c.in-Some.is c.in_ok-inner.ensures in
-    subst (Each (AreNear (2 ^ 31) k.s)) (sym c.deref.ensures.value) (each_near k.s ((c.args.level + 1 + 1) * 2 ^ 28) (2 ^ 31) c.in-Some.inner.items (omega (arith, l)) (inner_at_hand (half_arc k) (c.args.level + 1) c.in-Some.inner.items k.has e).near)
+    let e = subst (AreMade (inner_points (half_arc k) (c.args.level + 1))) c.in-Some.is
+    c.in_ok-inner.ensures in
+    subst (Each (AreNear (2 ^ 31) k.s)) (sym c.deref.ensures.value)
+    (each_near k.s ((c.args.level + 1 + 1) * 2 ^ 28) (2 ^ 31) c.in-Some.inner.items
+    (omega (arith, l))
+    (inner_at_hand (half_arc k) (c.args.level + 1) c.in-Some.inner.items k.has e).near)
 
 pub outer_points-requires-clause-steps : goal.outer_points-requires-clause-steps
 outer_points-requires-clause-steps c =
     let k = c.args.circle.now in
-    let e = subst (AreMade (inner_points (half_arc k) (c.args.level + 1))) c.in-Some.is c.in_ok-inner.ensures in
-    subst (AreSteps k.s) (sym c.deref.ensures.value) (inner_at_hand (half_arc k) (c.args.level + 1) c.in-Some.inner.items k.has e).steps
+    let e = subst (AreMade (inner_points (half_arc k) (c.args.level + 1))) c.in-Some.is
+    c.in_ok-inner.ensures in
+    subst (AreSteps k.s) (sym c.deref.ensures.value)
+    (inner_at_hand (half_arc k) (c.args.level + 1) c.in-Some.inner.items k.has e).steps
 
 pub outer_points-requires-clause-inside : goal.outer_points-requires-clause-inside
 outer_points-requires-clause-inside c =
     let h = half_arc c.args.circle.now in
-    let e = subst (AreMade (inner_points h (c.args.level + 1))) c.in-Some.is c.in_ok-inner.ensures in
-    subst (Each (IsInDisk h)) (sym c.deref.ensures.value) (inner_in_disk h (c.args.level + 1) c.in-Some.inner.items e)
+    let e = subst (AreMade (inner_points h (c.args.level + 1))) c.in-Some.is
+    c.in_ok-inner.ensures in
+    subst (Each (IsInDisk h)) (sym c.deref.ensures.value)
+    (inner_in_disk h (c.args.level + 1) c.in-Some.inner.items e)
 
 pub are_corners-requires : goal.are_corners-requires
 are_corners-requires c =
     let k = c.args.circle.now in
     let e : outer_points (half_arc k) k.s c.in-Some.inner.items ≡ Some c.in-Some-2.outer.items =
-    ap (outer_points (half_arc k) k.s) (sym c.deref.ensures.value) ∙ subst (AreMade (outer_points (half_arc k) k.s c.deref.result.now)) c.in-Some-2.is c.in_ok-outer.ensures in
-    ap length c.deref-2.ensures.value ∙ sym (outer_size (half_arc k) k.s c.in-Some.inner.items c.in-Some-2.outer.items e) ∙ ap length (sym c.deref-3.ensures.value)
+    ap (outer_points (half_arc k) k.s) (sym c.deref.ensures.value)
+    ∙ subst (AreMade (outer_points (half_arc k) k.s c.deref.result.now)) c.in-Some-2.is
+    c.in_ok-outer.ensures in
+    ap length c.deref-2.ensures.value
+    ∙ sym (outer_size (half_arc k) k.s c.in-Some.inner.items c.in-Some-2.outer.items e)
+    ∙ ap length (sym c.deref-3.ensures.value)
 
 pub with_first-requires : goal.with_first-requires
 with_first-requires c =
     let k = c.args.circle.now in
     let l = c.requires.level in
-    let e = subst (AreMade (inner_points (half_arc k) (c.args.level + 1))) c.in-Some.is c.in_ok-inner.ensures in
-    subst (λ (vs : List Point). length vs < 2 ^ 20) (sym c.deref-4.ensures.value) (few_points (half_arc k) (c.args.level + 1) c.in-Some.inner.items (omega (arith, l)) e)
+    let e = subst (AreMade (inner_points (half_arc k) (c.args.level + 1))) c.in-Some.is
+    c.in_ok-inner.ensures in
+    subst (λ (vs : List Point). length vs < 2 ^ 20) (sym c.deref-4.ensures.value)
+    (few_points (half_arc k) (c.args.level + 1) c.in-Some.inner.items (omega (arith, l)) e)

@@ -13,7 +13,8 @@ returns-clause-value c =
     let d = c.ranges.d in
     let p = simp to_z-of_z at c.product-ac.ensures.value in
     let q = simp to_z-of_z at c.product-bd.ensures.value in
-    sum_back _ _ _ _ (omega (arith, ints, c.product-ac.ensures.bound)) (omega (arith, ints, c.product-bd.ensures.bound)) p q
+    sum_back _ _ _ _ (omega (arith, ints, c.product-ac.ensures.bound))
+    (omega (arith, ints, c.product-bd.ensures.bound)) p q
 
 pub returns-clause-bound : goal.returns-clause-bound
 returns-clause-bound c =
@@ -25,5 +26,7 @@ returns-clause-bound c =
     let q = simp to_z-of_z at c.product-bd.ensures.value in
     let k = c.product-ac.ensures.bound in
     let l = c.product-bd.ensures.bound in
-    subst (IsWithin (2 ^ 61)) (sym (sum_back _ _ _ _ (omega (arith, ints, k)) (omega (arith, ints, l)) p q))
-    (within_sum (2 ^ 60) (2 ^ 60) _ _ (subst (IsWithin (2 ^ 60)) p k) (subst (IsWithin (2 ^ 60)) q l))
+    subst (IsWithin (2 ^ 61))
+    (sym (sum_back _ _ _ _ (omega (arith, ints, k)) (omega (arith, ints, l)) p q))
+    (within_sum (2 ^ 60) (2 ^ 60) _ _ (subst (IsWithin (2 ^ 60)) p k)
+    (subst (IsWithin (2 ^ 60)) q l))

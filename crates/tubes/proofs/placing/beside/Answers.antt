@@ -30,5 +30,9 @@ returns c =
     let t : FitsSigned w64 c.turned-above.result = search rules in
     let x : FitsSigned w64 c.moved.result = search rules in
     let y : FitsSigned w64 c.moved-2.result = search rules in
-    rw (to_z-of_z x, to_z-of_z y) (beside_is (half_arc c.args.circle.now) s.p s.q c.args.n s.length c.turned-right.result c.turned-above.result c.moved.result c.moved-2.result s.distance
-    (simp to_z-of_z at c.turned-right.ensures.value) (simp to_z-of_z at c.turned-above.ensures.value) (simp to_z-of_z at c.moved.ensures) (simp to_z-of_z at c.moved-2.ensures))
+    rw (to_z-of_z x, to_z-of_z y)
+    (beside_is (half_arc c.args.circle.now) s.p s.q c.args.n s.length c.turned-right.result
+    c.turned-above.result c.moved.result c.moved-2.result s.distance
+    (simp to_z-of_z at c.turned-right.ensures.value)
+    (simp to_z-of_z at c.turned-above.ensures.value) (simp to_z-of_z at c.moved.ensures)
+    (simp to_z-of_z at c.moved-2.ensures))

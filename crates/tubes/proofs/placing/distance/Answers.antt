@@ -17,6 +17,11 @@ returns c =
     let b = c.root.ensures.bound in
     let z : to_z w64 c.root.result ≡ pos c.root.result = search rules in
     z
-    ∙ ap (λ n. pos n) (c.root.ensures.value ∙ ap root (simp to_z-of_z at c.unsigned_abs-3.ensures.value))
-    ∙ ap (λ z. pos (root (unsigned_abs z))) (distance_is c.args.p c.args.q c.difference-x.result c.difference-y.result c.dot-square.result
-    (simp to_z-of_z at c.difference-x.ensures.value) (simp to_z-of_z at c.difference-y.ensures.value) (simp to_z-of_z at c.dot-square.ensures.value))
+    ∙ ap (λ n. pos n) (c.root.ensures.value
+    ∙ ap root (simp to_z-of_z at c.unsigned_abs-3.ensures.value))
+    ∙ ap (λ z. pos (root (unsigned_abs z)))
+    (distance_is c.args.p c.args.q c.difference-x.result c.difference-y.result
+    c.dot-square.result
+    (simp to_z-of_z at c.difference-x.ensures.value)
+    (simp to_z-of_z at c.difference-y.ensures.value)
+    (simp to_z-of_z at c.dot-square.ensures.value))

@@ -11,4 +11,6 @@ returns-else-circle-gt0-clause-value c =
     let b = c.ranges.b in
     let r : FitsSigned w64 c.difference-else-circle-gt0.result = search rules in
     let d : FitsSigned w128 k.d = search rules in
-    to_z-of_z r ∙ turned_back (half_arc k) k.d c.args.a c.args.b c.difference-else-circle-gt0.result k.turn (lt_false (pos 0) k.d (simp to_z-of_z at c.if-circle-gt0.false)) (simp to_z-of_z at c.difference-else-circle-gt0.ensures.value)
+    to_z-of_z r ∙ turned_back (half_arc k) k.d c.args.a c.args.b c.difference-else-circle-gt0.result
+    k.turn (lt_false (pos 0) k.d (simp to_z-of_z at c.if-circle-gt0.false))
+    (simp to_z-of_z at c.difference-else-circle-gt0.ensures.value)

@@ -14,7 +14,8 @@ pub loop-point-init : goal.loop-point-init
 loop-point-init c =
     let h = half_arc c.args.circle.now in
     record {
-      made = ap (λ (s : List Point). put_before s (outer_points h h.from c.args.inner.now)) c.in_ok-outer.ensures.items ∙ put_nothing _;
+      made = ap (λ (s : List Point). put_before s (outer_points h h.from c.args.inner.now))
+          c.in_ok-outer.ensures.items ∙ put_nothing _;
       first = from_in_disk h;
       inside = c.requires.inside;
       before = self_near (2 ^ 31) h.from (omega arith);
@@ -27,7 +28,9 @@ returns-in_default c =
     let h = half_arc c.args.circle.now in
     let l = c.loop-point in
     let d = dropped c.args.inner.now l.point-index c.loop-point-test.true in
-    outer_stops h l.before _ _ l.outer.items _ c.in_default.ensures (subst (λ qs. put_before l.outer.items (outer_points h l.before qs) ≡ outer_points h h.from c.args.inner.now) d l.invariant.made)
+    outer_stops h l.before _ _ l.outer.items _ c.in_default.ensures
+    (subst (λ qs. put_before l.outer.items (outer_points h l.before qs)
+    ≡ outer_points h h.from c.args.inner.now) d l.invariant.made)
 
 pub loop-point-preserved : goal.loop-point-preserved
 loop-point-preserved c =
@@ -38,7 +41,10 @@ loop-point-preserved c =
     let inside = subst (λ qs. Each (IsInDisk h) qs) d l.invariant.inside in
     let steps = subst (λ qs. AreSteps l.before qs) d l.invariant.steps in
     record {
-      made = outer_step h l.before _ c.in-Some.above _ l.outer.items _ _ (sym c.in-Some.ensures) c.in_ok-push.ensures.items (subst (λ qs. put_before l.outer.items (outer_points h l.before qs) ≡ outer_points h h.from c.args.inner.now) d l.invariant.made);
+      made = outer_step h l.before _ c.in-Some.above _ l.outer.items _ _
+          (sym c.in-Some.ensures) c.in_ok-push.ensures.items
+          (subst (λ qs. put_before l.outer.items (outer_points h l.before qs)
+          ≡ outer_points h h.from c.args.inner.now) d l.invariant.made);
       first = inside.0;
       inside = inside.1;
       before = near.0;
@@ -47,4 +53,6 @@ loop-point-preserved c =
     }
 
 pub returns : goal.returns
-returns c = outer_ends (half_arc c.args.circle.now) c.loop-point.before _ c.loop-point.outer.items _ (all_dropped c.args.inner.now c.loop-point.point-index c.loop-point-test.false) c.loop-point.invariant.made
+returns c = outer_ends (half_arc c.args.circle.now) c.loop-point.before _ c.loop-point.outer.items _
+    (all_dropped c.args.inner.now c.loop-point.point-index c.loop-point-test.false)
+    c.loop-point.invariant.made

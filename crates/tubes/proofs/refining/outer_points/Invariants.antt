@@ -9,7 +9,9 @@ use Rattle.tubes.proofs.refining.outer_points.Given as goal
 
 abbrev pub invariant-loop-point : goal.invariant-loop-point
 invariant-loop-point l = record {
-  made : put_before l.outer.items (outer_points (half_arc l.circle) l.before (drop l.point-index l.inner)) ≡ outer_points (half_arc l.circle) l.circle.s l.inner;
+  made : put_before l.outer.items
+      (outer_points (half_arc l.circle) l.before (drop l.point-index l.inner))
+      ≡ outer_points (half_arc l.circle) l.circle.s l.inner;
   before : AreNear (2 ^ 31) l.circle.s l.before;
   near : Each (AreNear (2 ^ 31) l.circle.s) (drop l.point-index l.inner);
   first : IsInDisk (half_arc l.circle) l.before;

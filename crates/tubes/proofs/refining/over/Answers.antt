@@ -10,13 +10,17 @@ use Rattle.tubes.proofs.Rounds.{at_ends, counted, no_count, none_of, some_of}
 use Rattle.tubes.proofs.refining.over.Goals as goal
 
 pub returns-in_err-span : goal.returns-in_err-span
-returns-in_err-span c = c.from_residual.ensures ∙ none_of (count (half_arc c.args.circle.now) c.args.p c.args.q) _ (no_count (half_arc c.args.circle.now) c.args.p c.args.q c.in_err-span.ensures)
+returns-in_err-span c = c.from_residual.ensures
+    ∙ none_of (count (half_arc c.args.circle.now) c.args.p c.args.q) _
+    (no_count (half_arc c.args.circle.now) c.args.p c.args.q c.in_err-span.ensures)
 
 pub overflow_mul-k : goal.overflow_mul-k
 overflow_mul-k c =
     let h = half_arc c.args.circle.now in
     let k = c.in_ok-k.k in
-    let e : count h c.args.p c.args.q ≡ Some k = at_ends (count h) c.args.p c.args.q c.in_ok-span.span.p c.in_ok-span.span.q c.in_ok-span.ensures.0 c.in_ok-span.ensures.1 ∙ sym c.in_ok-k.ensures in
+    let e : count h c.args.p c.args.q ≡ Some k = at_ends
+    (count h) c.args.p c.args.q c.in_ok-span.span.p c.in_ok-span.span.q c.in_ok-span.ensures.0
+    c.in_ok-span.ensures.1 ∙ sym c.in_ok-k.ensures in
     let b = (counted h c.args.p c.args.q k e).small in
     search (b, rules)
 
@@ -24,18 +28,24 @@ pub overflow_add-k : goal.overflow_add-k
 overflow_add-k c =
     let h = half_arc c.args.circle.now in
     let k = c.in_ok-k.k in
-    let e : count h c.args.p c.args.q ≡ Some k = at_ends (count h) c.args.p c.args.q c.in_ok-span.span.p c.in_ok-span.span.q c.in_ok-span.ensures.0 c.in_ok-span.ensures.1 ∙ sym c.in_ok-k.ensures in
+    let e : count h c.args.p c.args.q ≡ Some k = at_ends
+    (count h) c.args.p c.args.q c.in_ok-span.span.p c.in_ok-span.span.q c.in_ok-span.ensures.0
+    c.in_ok-span.ensures.1 ∙ sym c.in_ok-k.ensures in
     let b = (counted h c.args.p c.args.q k e).small in
     search (b, rules)
 
 pub beside-requires-clause-room : goal.beside-requires-clause-room
-beside-requires-clause-room c = subst HasRoom (sym c.in_ok-span.ensures.0) (has_room c.args.circle.now.s c.args.p c.requires.short c.requires.near)
+beside-requires-clause-room c =
+    subst HasRoom (sym c.in_ok-span.ensures.0)
+    (has_room c.args.circle.now.s c.args.p c.requires.short c.requires.near)
 
 pub beside-requires-clause-n : goal.beside-requires-clause-n
 beside-requires-clause-n c =
     let h = half_arc c.args.circle.now in
     let k = c.in_ok-k.k in
-    let e : count h c.args.p c.args.q ≡ Some k = at_ends (count h) c.args.p c.args.q c.in_ok-span.span.p c.in_ok-span.span.q c.in_ok-span.ensures.0 c.in_ok-span.ensures.1 ∙ sym c.in_ok-k.ensures in
+    let e : count h c.args.p c.args.q ≡ Some k = at_ends
+    (count h) c.args.p c.args.q c.in_ok-span.span.p c.in_ok-span.span.q c.in_ok-span.ensures.0
+    c.in_ok-span.ensures.1 ∙ sym c.in_ok-k.ensures in
     let b = (counted h c.args.p c.args.q k e).small in
     let m = c.from.ensures in
     let f : FitsSigned w64 c.from.result = search rules in
@@ -45,11 +55,15 @@ pub returns : goal.returns
 returns c =
     let h = half_arc c.args.circle.now in
     let k = c.in_ok-k.k in
-    let e : count h c.args.p c.args.q ≡ Some k = at_ends (count h) c.args.p c.args.q c.in_ok-span.span.p c.in_ok-span.span.q c.in_ok-span.ensures.0 c.in_ok-span.ensures.1 ∙ sym c.in_ok-k.ensures in
+    let e : count h c.args.p c.args.q ≡ Some k = at_ends
+    (count h) c.args.p c.args.q c.in_ok-span.span.p c.in_ok-span.span.q c.in_ok-span.ensures.0
+    c.in_ok-span.ensures.1 ∙ sym c.in_ok-k.ensures in
     let b = (counted h c.args.p c.args.q k e).small in
     let m = c.from.ensures in
     let f : FitsSigned w64 c.from.result = search rules in
     let n = pos (5 * k / 2 + 4) in
-    let v : c.beside.result ≡ beside h c.args.p c.args.q n = (simp to_z-of_z at c.beside.ensures) ∙ ap (λ n. beside h c.in_ok-span.span.p c.in_ok-span.span.q n) m
-    ∙ sym (at_ends (λ p q. beside h p q n) c.args.p c.args.q c.in_ok-span.span.p c.in_ok-span.span.q c.in_ok-span.ensures.0 c.in_ok-span.ensures.1) in
+    let v : c.beside.result ≡ beside h c.args.p c.args.q n = (simp to_z-of_z at c.beside.ensures)
+    ∙ ap (λ n. beside h c.in_ok-span.span.p c.in_ok-span.span.q n) m
+    ∙ sym (at_ends (λ p q. beside h p q n) c.args.p c.args.q c.in_ok-span.span.p c.in_ok-span.span.q
+    c.in_ok-span.ensures.0 c.in_ok-span.ensures.1) in
     ap (λ v. Some v) v ∙ some_of (count h c.args.p c.args.q) _ k e

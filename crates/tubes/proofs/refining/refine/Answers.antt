@@ -14,7 +14,8 @@ pub loop-point-init : goal.loop-point-init
 loop-point-init c =
     let h = half_arc c.args.circle.now in
     record {
-      made = ap (λ (s : List Point). put_before s (refine h h.from c.args.points.now)) c.in_ok-made.ensures.items ∙ put_nothing _;
+      made = ap (λ (s : List Point). put_before s (refine h h.from c.args.points.now))
+          c.in_ok-made.ensures.items ∙ put_nothing _;
       first = from_in_disk h;
       inside = c.requires.inside;
       before = self_near (2 ^ 31) h.from (omega arith);
@@ -27,7 +28,9 @@ returns-in_default c =
     let h = half_arc c.args.circle.now in
     let l = c.loop-point in
     let d = dropped c.args.points.now l.point-index c.loop-point-test.true in
-    refine_stops h l.before _ _ l.made.items _ c.in_default.ensures (subst (λ qs. put_before l.made.items (refine h l.before qs) ≡ refine h h.from c.args.points.now) d l.invariant.made)
+    refine_stops h l.before _ _ l.made.items _ c.in_default.ensures
+    (subst (λ qs. put_before l.made.items (refine h l.before qs)
+    ≡ refine h h.from c.args.points.now) d l.invariant.made)
 
 pub loop-point-preserved : goal.loop-point-preserved
 loop-point-preserved c =
@@ -38,7 +41,11 @@ loop-point-preserved c =
     let inside = subst (λ qs. Each (IsInDisk h) qs) d l.invariant.inside in
     let steps = subst (λ qs. AreSteps l.before qs) d l.invariant.steps in
     record {
-      made = refine_step h l.before _ c.in-Some.between _ l.made.items _ _ (sym c.in-Some.ensures) (pushed_two l.made.items _ _ c.in-Some.between _ c.in_ok-push-2.ensures.items c.in_ok-push.ensures.items) (subst (λ qs. put_before l.made.items (refine h l.before qs) ≡ refine h h.from c.args.points.now) d l.invariant.made);
+      made = refine_step h l.before _ c.in-Some.between _ l.made.items _ _ (sym c.in-Some.ensures)
+          (pushed_two l.made.items _ _ c.in-Some.between _ c.in_ok-push-2.ensures.items
+          c.in_ok-push.ensures.items)
+          (subst (λ qs. put_before l.made.items (refine h l.before qs)
+          ≡ refine h h.from c.args.points.now) d l.invariant.made);
       first = inside.0;
       inside = inside.1;
       before = near.0;
@@ -47,4 +54,6 @@ loop-point-preserved c =
     }
 
 pub returns : goal.returns
-returns c = refine_ends (half_arc c.args.circle.now) c.loop-point.before _ c.loop-point.made.items _ (all_dropped c.args.points.now c.loop-point.point-index c.loop-point-test.false) c.loop-point.invariant.made
+returns c = refine_ends (half_arc c.args.circle.now) c.loop-point.before _ c.loop-point.made.items _
+    (all_dropped c.args.points.now c.loop-point.point-index c.loop-point-test.false)
+    c.loop-point.invariant.made

@@ -9,7 +9,8 @@ use Rattle.tubes.proofs.refining.refine.Given as goal
 
 abbrev pub invariant-loop-point : goal.invariant-loop-point
 invariant-loop-point l = record {
-  made : put_before l.made.items (refine (half_arc l.circle) l.before (drop l.point-index l.points)) ≡ refine (half_arc l.circle) l.circle.s l.points;
+  made : put_before l.made.items (refine (half_arc l.circle) l.before (drop l.point-index l.points))
+      ≡ refine (half_arc l.circle) l.circle.s l.points;
   before : AreNear (2 ^ 31) l.circle.s l.before;
   near : Each (AreNear (2 ^ 31) l.circle.s) (drop l.point-index l.points);
   first : IsInDisk (half_arc l.circle) l.before;

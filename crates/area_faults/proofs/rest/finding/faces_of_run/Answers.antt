@@ -20,7 +20,8 @@ use Rattle.area_faults.proofs.rest.finding.faces_of_run.Goals as goal
 pub places_of-requires : goal.places_of-requires
 places_of-requires c =
     let d = plan c.args.drawing.now in
-    let f = few_edges d c.args.out.now c.args.kept.now c.args.left.now c.requires.parted c.requires.mendable in
+    let f = few_edges d c.args.out.now c.args.kept.now c.args.left.now c.requires.parted
+    c.requires.mendable in
     let n = ap length c.requires.edges in
     record {
       left = c.requires.parted.left_are.known;
@@ -38,7 +39,11 @@ labelled_run-requires c =
     let g = c.requires.mendable.few in
     record {
       few = omega (arith, f, g);
-      run = (edge_of c.args.edges.items, subst (λ (m : ℕ). Run m (edge_of c.args.edges.items) (steps_from [] c.args.swept.events)) n c.requires.run);
+      run = (
+        edge_of c.args.edges.items,
+        subst (λ (m : ℕ). Run m (edge_of c.args.edges.items) (steps_from [] c.args.swept.events))
+            n c.requires.run,
+      );
       fit = c.requires.fit;
       cells = c.requires.cells;
     }
@@ -50,15 +55,21 @@ open_faces-requires c =
     let vs = c.args.swept.events in
     let l = c.in_ok-labelled.labelled in
     let places = c.in_ok-places.places.items in
-    let run = subst (λ (es : List Edge). Run (length es) (edge_of es) (steps_from [] vs)) c.requires.edges c.requires.run in
-    let a = subst (λ (es : List Edge). ArePlaces es vs (half_points d c.args.left.now) places) c.requires.edges c.in_ok-places.ensures in
-    let known = known_places d c.args.out.now c.args.kept.now c.args.left.now c.requires.parted c.requires.mendable vs run l c.in_ok-labelled.ensures (half_points d c.args.left.now) places a in
+    let run = subst (λ (es : List Edge). Run (length es) (edge_of es) (steps_from [] vs))
+    c.requires.edges c.requires.run in
+    let a = subst (λ (es : List Edge). ArePlaces es vs (half_points d c.args.left.now) places)
+    c.requires.edges c.in_ok-places.ensures in
+    let known = known_places d c.args.out.now c.args.kept.now c.args.left.now c.requires.parted
+    c.requires.mendable vs run l c.in_ok-labelled.ensures
+    (half_points d c.args.left.now) places a in
     let n = c.len-first.ensures ∙ w.points.ok.0 in
     let s = a.size in
     let p = points_count d c.args.left.now in
     let v = ap length c.deref.ensures.value in
     record {
-      known = subst (λ (ps : List Place). (j : ℕ) → j < length ps → IsKnownPlace (size l.mesh) (slice_index_or ps j no_place)) (sym c.deref.ensures.value) known;
+      known = subst (λ (ps : List Place). (j : ℕ) → j < length ps
+          → IsKnownPlace (size l.mesh) (slice_index_or ps j no_place))
+          (sym c.deref.ensures.value) known;
       below = c.in_ok-labelled.ensures.below;
       some = c.in_ok-labelled.ensures.some;
       first = omega (arith, n, s, p, v);
@@ -71,15 +82,21 @@ point_places-requires c =
     let vs = c.args.swept.events in
     let l = c.in_ok-labelled.labelled in
     let places = c.in_ok-places.places.items in
-    let run = subst (λ (es : List Edge). Run (length es) (edge_of es) (steps_from [] vs)) c.requires.edges c.requires.run in
-    let a = subst (λ (es : List Edge). ArePlaces es vs (half_points d c.args.left.now) places) c.requires.edges c.in_ok-places.ensures in
-    let known = known_places d c.args.out.now c.args.kept.now c.args.left.now c.requires.parted c.requires.mendable vs run l c.in_ok-labelled.ensures (half_points d c.args.left.now) places a in
+    let run = subst (λ (es : List Edge). Run (length es) (edge_of es) (steps_from [] vs))
+    c.requires.edges c.requires.run in
+    let a = subst (λ (es : List Edge). ArePlaces es vs (half_points d c.args.left.now) places)
+    c.requires.edges c.in_ok-places.ensures in
+    let known = known_places d c.args.out.now c.args.kept.now c.args.left.now c.requires.parted
+    c.requires.mendable vs run l c.in_ok-labelled.ensures
+    (half_points d c.args.left.now) places a in
     let n = c.len-first.ensures ∙ w.points.ok.0 in
     let s = a.size in
     let p = points_count d c.args.left.now in
     let v = ap length c.deref-2.ensures.value in
     record {
-      known = subst (λ (ps : List Place). (j : ℕ) → j < length ps → IsKnownPlace (size l.mesh) (slice_index_or ps j no_place)) (sym c.deref-2.ensures.value) known;
+      known = subst (λ (ps : List Place). (j : ℕ) → j < length ps
+          → IsKnownPlace (size l.mesh) (slice_index_or ps j no_place))
+          (sym c.deref-2.ensures.value) known;
       size = c.in_ok-labelled.ensures.size_is;
       count = omega (arith, n, s, p, v);
     }
@@ -89,7 +106,9 @@ curve_faces-requires c =
     let f = c.requires.parted.kept_are.few in
     let g = c.requires.mendable.few in
     record {
-      kept = subst (λ (cs : List Curve). (m : ℕ) → m < length c.args.kept.now → slice_index c.args.kept.now m < length cs) (sym c.deref-3.ensures.value) c.requires.parted.kept_are.known;
+      kept = subst (λ (cs : List Curve). (m : ℕ) → m < length c.args.kept.now
+          → slice_index c.args.kept.now m < length cs)
+          (sym c.deref-3.ensures.value) c.requires.parted.kept_are.known;
       rising = c.requires.parted.kept_are.rising;
       few = omega (arith, f, g);
       size = c.in_ok-labelled.ensures.size_is;
@@ -104,18 +123,41 @@ returns c =
     let left = c.args.left.now in
     let l = c.in_ok-labelled.labelled in
     let places = c.in_ok-places.places.items in
-    let run = subst (λ (es : List Edge). Run (length es) (edge_of es) (steps_from [] vs)) c.requires.edges c.requires.run in
-    let a = subst (λ (es : List Edge). ArePlaces es vs (half_points d left) places) c.requires.edges c.in_ok-places.ensures in
+    let run = subst (λ (es : List Edge). Run (length es) (edge_of es) (steps_from [] vs))
+    c.requires.edges c.requires.run in
+    let a = subst (λ (es : List Edge). ArePlaces es vs (half_points d left) places) c.requires.edges
+    c.in_ok-places.ensures in
     let n : c.len-first.result ≡ length d.points = c.len-first.ensures ∙ w.points.ok.0 in
-    let f : DrawingFaces = record { «open» = c.in_ok-open_faces.field-0; points = c.in_ok-point_places.field-0; curves = c.in_ok-curve_faces.field-0; next = c.in_ok-next_sides.field-0 } in
-    let opened = subst (λ (m : ℕ). AreOpenTo l.mesh.face l.count places m (length places) c.in_ok-open_faces.field-0.items) n
-    (subst (λ (ps : List Place). AreOpenTo l.mesh.face l.count ps c.len-first.result (length ps) c.in_ok-open_faces.field-0.items) c.deref.ensures.value c.in_ok-open_faces.ensures) in
-    let points : c.in_ok-point_places.field-0.items ≡ map (point_place l.mesh.face kept) (take (length d.points) places) = c.in_ok-point_places.ensures
-    ∙ ap (λ (ps : List Place). map (point_place l.mesh.face kept) (take c.len-first.result ps)) c.deref-2.ensures.value
+    let f : DrawingFaces = record {
+      «open» = c.in_ok-open_faces.field-0;
+      points = c.in_ok-point_places.field-0;
+      curves = c.in_ok-curve_faces.field-0;
+      next = c.in_ok-next_sides.field-0;
+    } in
+    let opened = subst
+    (λ (m : ℕ). AreOpenTo l.mesh.face l.count places m
+    (length places) c.in_ok-open_faces.field-0.items) n
+    (subst (λ (ps : List Place). AreOpenTo l.mesh.face l.count ps c.len-first.result
+    (length ps) c.in_ok-open_faces.field-0.items) c.deref.ensures.value
+    c.in_ok-open_faces.ensures) in
+    let points : c.in_ok-point_places.field-0.items
+    ≡ map (point_place l.mesh.face kept) (take (length d.points) places) =
+    c.in_ok-point_places.ensures
+    ∙ ap (λ (ps : List Place). map (point_place l.mesh.face kept) (take c.len-first.result ps))
+    c.deref-2.ensures.value
     ∙ ap (λ (m : ℕ). map (point_place l.mesh.face kept) (take m places)) n in
-    let curves = subst (λ (cs : List Curve). AreCurveFacesTo cs kept l.mesh.face (length kept) c.in_ok-curve_faces.field-0.items) c.deref-3.ensures.value c.in_ok-curve_faces.ensures in
+    let curves = subst
+    (λ (cs : List Curve). AreCurveFacesTo cs kept l.mesh.face
+    (length kept) c.in_ok-curve_faces.field-0.items) c.deref-3.ensures.value
+    c.in_ok-curve_faces.ensures in
     record {
-      faces = has_all d c.args.out.now kept left c.requires.parted c.requires.mendable w.window.low w.window.high w.curves_drawn vs run l c.in_ok-labelled.ensures places a f opened points curves;
-      numbered = numbered d c.args.out.now kept left c.requires.parted c.requires.mendable w.window.low w.window.high w.curves_drawn vs run l c.in_ok-labelled.ensures places a f opened points curves;
-      sizes = sizes d c.args.out.now kept left c.requires.parted c.requires.mendable w.window.low w.window.high w.curves_drawn vs run l c.in_ok-labelled.ensures places a f opened points curves;
+      faces = has_all d c.args.out.now kept left c.requires.parted c.requires.mendable w.window.low
+          w.window.high w.curves_drawn vs run l c.in_ok-labelled.ensures places a f opened points
+          curves;
+      numbered = numbered d c.args.out.now kept left c.requires.parted c.requires.mendable
+          w.window.low w.window.high w.curves_drawn vs run l c.in_ok-labelled.ensures places a f
+          opened points curves;
+      sizes = sizes d c.args.out.now kept left c.requires.parted c.requires.mendable w.window.low
+          w.window.high w.curves_drawn vs run l c.in_ok-labelled.ensures places a f opened points
+          curves;
     }

@@ -21,8 +21,10 @@ numbers_with-requires-2 c = let s = c.requires.size in let f = c.requires.few in
 pub edges_in_halves-requires : goal.edges_in_halves-requires
 edges_in_halves-requires c =
     let d = plan c.args.drawing.now in
-    let parted = parted_by d c.args.out.now c.in_ok-kept.kept.items c.in_ok-left.left.items c.requires.size c.in_ok-kept.ensures c.in_ok-left.ensures in
-    subst (λ (ns : List ℕ). (m : ℕ) → m < length ns → slice_index ns m < length d.curves) (sym c.deref.ensures.value) parted.kept_are.known
+    let parted = parted_by d c.args.out.now c.in_ok-kept.kept.items c.in_ok-left.left.items
+    c.requires.size c.in_ok-kept.ensures c.in_ok-left.ensures in
+    subst (λ (ns : List ℕ). (m : ℕ) → m < length ns → slice_index ns m < length d.curves)
+    (sym c.deref.ensures.value) parted.kept_are.known
 
 pub sweep-requires : goal.sweep-requires
 sweep-requires c =
@@ -30,28 +32,47 @@ sweep-requires c =
     let d = plan w in
     let kept = c.in_ok-kept.kept.items in
     let left = c.in_ok-left.left.items in
-    let parted = parted_by d c.args.out.now kept left c.requires.size c.in_ok-kept.ensures c.in_ok-left.ensures in
-    let mend : AreMendable d (mark_of c.args.out.now) = record { straights = c.requires.straights; few = c.requires.few; pairs = c.requires.pairs } in
-    let same : c.deref-2.result.now ≡ half_edges d kept = c.deref-2.ensures.value ∙ c.in_ok-edges.ensures ∙ ap (half_edges d) c.deref.ensures.value in
+    let parted = parted_by d c.args.out.now kept left c.requires.size c.in_ok-kept.ensures
+    c.in_ok-left.ensures in
+    let mend : AreMendable d (mark_of c.args.out.now) = record {
+      straights = c.requires.straights;
+      few = c.requires.few;
+      pairs = c.requires.pairs;
+    } in
+    let same : c.deref-2.result.now ≡ half_edges d kept = c.deref-2.ensures.value
+    ∙ c.in_ok-edges.ensures ∙ ap (half_edges d) c.deref.ensures.value in
     let n = ap length same in
     let f = few_edges d c.args.out.now kept left parted mend in
     record {
       few = omega (arith, n, f);
-      sorted = subst AreSorted (sym same) (edges_sorted d w.window.low w.window.high w.window.narrow w.curves_drawn kept parted.kept_are.known);
-      close = subst AreAllClose (sym same) (edges_close d w.window.low w.window.high w.window.narrow w.curves_drawn kept parted.kept_are.known);
+      sorted = subst AreSorted (sym same)
+          (edges_sorted d w.window.low w.window.high w.window.narrow w.curves_drawn kept
+          parted.kept_are.known);
+      close = subst AreAllClose (sym same)
+          (edges_close d w.window.low w.window.high w.window.narrow w.curves_drawn kept
+          parted.kept_are.known);
     }
 
 pub faces_of_run-requires : goal.faces_of_run-requires
 faces_of_run-requires c =
     let d = plan c.args.drawing.now in
     let marks = c.args.out.now in
-    let parted = parted_by d marks c.in_ok-kept.kept.items c.in_ok-left.left.items c.requires.size c.in_ok-kept.ensures c.in_ok-left.ensures in
+    let parted = parted_by d marks c.in_ok-kept.kept.items c.in_ok-left.left.items c.requires.size
+    c.in_ok-kept.ensures c.in_ok-left.ensures in
     record {
-      mendable = record { straights = c.requires.straights; few = c.requires.few; pairs = c.requires.pairs };
-      parted = subst (λ (ks : List ℕ). AreParted d marks ks c.deref-in-Ok-2.result.now) (sym c.deref-in-Ok.ensures.value)
-          (subst (λ (ls : List ℕ). AreParted d marks c.in_ok-kept.kept.items ls) (sym c.deref-in-Ok-2.ensures.value) parted);
-      edges = c.in_ok-edges.ensures ∙ ap (half_edges d) (c.deref.ensures.value ∙ sym c.deref-in-Ok.ensures.value);
-      run = subst (λ (es : List Edge). Run (length es) (edge_of es) (steps_from [] c.in-Ok.swept.events)) c.deref-2.ensures.value c.in-Ok.ensures.run;
+      mendable = record {
+        straights = c.requires.straights;
+        few = c.requires.few;
+        pairs = c.requires.pairs;
+      };
+      parted = subst (λ (ks : List ℕ). AreParted d marks ks c.deref-in-Ok-2.result.now)
+          (sym c.deref-in-Ok.ensures.value)
+          (subst (λ (ls : List ℕ). AreParted d marks c.in_ok-kept.kept.items ls)
+          (sym c.deref-in-Ok-2.ensures.value) parted);
+      edges = c.in_ok-edges.ensures
+          ∙ ap (half_edges d) (c.deref.ensures.value ∙ sym c.deref-in-Ok.ensures.value);
+      run = subst (λ (es : List Edge). Run (length es) (edge_of es)
+          (steps_from [] c.in-Ok.swept.events)) c.deref-2.ensures.value c.in-Ok.ensures.run;
       fit = c.in-Ok.ensures.fit;
       cells = c.in-Ok.ensures.cells;
     }
@@ -61,7 +82,13 @@ unreachable-requires c =
     let d = plan c.args.drawing.now in
     let kept = c.in_ok-kept.kept.items in
     let left = c.in_ok-left.left.items in
-    let parted = parted_by d c.args.out.now kept left c.requires.size c.in_ok-kept.ensures c.in_ok-left.ensures in
-    let same : c.deref-2.result.now ≡ half_edges d kept = c.deref-2.ensures.value ∙ c.in_ok-edges.ensures ∙ ap (half_edges d) c.deref.ensures.value in
-    never_bad d c.args.out.now kept left parted (record { straights = c.requires.straights; few = c.requires.few; pairs = c.requires.pairs }) c.deref-2.result.now same _ _
+    let parted = parted_by d c.args.out.now kept left c.requires.size c.in_ok-kept.ensures
+    c.in_ok-left.ensures in
+    let same : c.deref-2.result.now ≡ half_edges d kept = c.deref-2.ensures.value
+    ∙ c.in_ok-edges.ensures ∙ ap (half_edges d) c.deref.ensures.value in
+    never_bad d c.args.out.now kept left parted (record {
+      straights = c.requires.straights;
+      few = c.requires.few;
+      pairs = c.requires.pairs;
+    }) c.deref-2.result.now same _ _
     (subst (IsRefused c.deref-2.result.now) c.in-Err-Bad.field-0-is c.in-Err-Bad.ensures.refused)

@@ -10,5 +10,7 @@ loop-edge-preserved c =
     let k = c.loop-edge.edge in
     let n = get_or c.args.kept.now k 0 in
     let there = c.requires.kept k c.loop-edge-test.true in
-    curve_more c.args.curves.now c.args.kept.now c.args.mesh.now.face k c.loop-edge.faces.items _ c.sides_of.result c.loop-edge-test.true there c.requires.rising refl
-    (subst (λ (v : Curve). AreSidesOf v c.args.mesh.now.face k c.sides_of.result) (get_or_default c.args.curves.now n _ _ there) c.sides_of.ensures) c.loop-edge.invariant
+    curve_more c.args.curves.now c.args.kept.now c.args.mesh.now.face k c.loop-edge.faces.items _
+    c.sides_of.result c.loop-edge-test.true there c.requires.rising refl
+    (subst (λ (v : Curve). AreSidesOf v c.args.mesh.now.face k c.sides_of.result)
+    (get_or_default c.args.curves.now n _ _ there) c.sides_of.ensures) c.loop-edge.invariant

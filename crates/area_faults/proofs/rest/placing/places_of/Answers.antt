@@ -13,6 +13,11 @@ locate-requires-clause-close c =
     let d = plan w in
     let left = c.args.left.now in
     let (kept, known, same) = c.requires.edges in
-    subst (λ (ps : List Point). (j : ℕ) → j < length ps → IsCloseToAll c.deref.result.now (slice_index_or ps j no_point)) (sym (c.deref-2.ensures.value ∙ c.in_ok-points.ensures))
-    (subst (λ (es : List Edge). (j : ℕ) → j < length (half_points d left) → IsCloseToAll es (slice_index_or (half_points d left) j no_point)) (sym (c.deref.ensures.value ∙ same))
-    (points_close d w.window.low w.window.high w.window.narrow w.curves_drawn kept known w.points_inside left c.requires.left))
+    subst (λ (ps : List Point). (j : ℕ) → j < length ps
+    → IsCloseToAll c.deref.result.now (slice_index_or ps j no_point))
+    (sym (c.deref-2.ensures.value ∙ c.in_ok-points.ensures))
+    (subst (λ (es : List Edge). (j : ℕ) → j < length (half_points d left)
+    → IsCloseToAll es (slice_index_or (half_points d left) j no_point))
+    (sym (c.deref.ensures.value ∙ same))
+    (points_close d w.window.low w.window.high w.window.narrow w.curves_drawn kept known
+    w.points_inside left c.requires.left))

@@ -22,4 +22,5 @@ returns c =
     c.meeting-in-Some.ensures (own_meeting t d p.first p.second bad)
 
 pub unreachable-requires : goal.unreachable-requires
-unreachable-requires c = c.in_ok-least.ensures.none c.in-None.is c.args.pair.first c.args.pair.second c.requires
+unreachable-requires c =
+    c.in_ok-least.ensures.none c.in-None.is c.args.pair.first c.args.pair.second c.requires

@@ -16,7 +16,8 @@ returns-in-Some c =
     let settled = rw c.in-Some.is at c.in_ok-facings.ensures.settled in
     record {
       least = record { low = c.requires.low; settled = settled; least = c.requires.least };
-      case = subst (λ (es : List Edge). IsCase d level es list.owners.items c.in-Some.facings.items vs)
+      case = subst
+          (λ (es : List Edge). IsCase d level es list.owners.items c.in-Some.facings.items vs)
           same case;
       edges = same;
       few = subst (λ (es : List Edge). length es < 2 ^ 31) same c.requires.few;

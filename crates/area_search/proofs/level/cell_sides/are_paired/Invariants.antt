@@ -5,4 +5,5 @@ use Rattle.area_search.specs.Level.CellSides.{IsPaired}
 use Rattle.area_search.proofs.level.cell_sides.are_paired.Given as goal
 
 abbrev pub invariant-loop-cell : goal.invariant-loop-cell
-invariant-loop-cell l = (k : ℕ) (x : Cell) → k < l.cell-index → IsPaired l.facings l.owners (gap_of (get_or l.cells k x))
+invariant-loop-cell l = (k : ℕ) (x : Cell) → k < l.cell-index
+    → IsPaired l.facings l.owners (gap_of (get_or l.cells k x))

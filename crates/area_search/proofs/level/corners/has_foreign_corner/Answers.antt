@@ -8,15 +8,25 @@ pub returns-clause-own : goal.returns-clause-own
 returns-clause-own c =
     let d = plan c.args.drawing.now in
     let table = table_of c.in_ok-table.table in
-    let f = found_is d c.args.level c.args.list.now table c.deref.result.now c.deref-2.result.now c.in_ok-of.of.low.items c.in_ok-of.of.high.items c.deref-3.result.now c.deref-4.result.now c.events.result c.in_ok-found.found c.requires.list c.in_ok-found.ensures
-    c.deref.ensures.value c.in_ok-table.ensures c.deref-2.ensures.value c.in_ok-of.ensures c.deref-3.ensures.value c.deref-4.ensures.value c.events.ensures in
-    λ e p. none_found d c.args.level table c.in_ok-found.found c.is_some.result f c.is_some.ensures e
-    (c.settled_levels.ensures.corners d c.args.level table p (table_at d c.args.level c.args.list.now table c.deref.result.now c.requires.list c.deref.ensures.value c.in_ok-table.ensures))
+    let f = found_is d c.args.level c.args.list.now table c.deref.result.now c.deref-2.result.now
+    c.in_ok-of.of.low.items c.in_ok-of.of.high.items c.deref-3.result.now c.deref-4.result.now
+    c.events.result c.in_ok-found.found c.requires.list c.in_ok-found.ensures
+    c.deref.ensures.value c.in_ok-table.ensures c.deref-2.ensures.value c.in_ok-of.ensures
+    c.deref-3.ensures.value c.deref-4.ensures.value c.events.ensures in
+    λ e p. none_found d c.args.level table c.in_ok-found.found c.is_some.result f c.is_some.ensures
+    e
+    (c.settled_levels.ensures.corners d c.args.level table p
+    (table_at d c.args.level c.args.list.now table c.deref.result.now c.requires.list
+    c.deref.ensures.value c.in_ok-table.ensures))
 
 pub returns-clause-foreign : goal.returns-clause-foreign
 returns-clause-foreign c =
     let d = plan c.args.drawing.now in
     let table = table_of c.in_ok-table.table in
-    let f = found_is d c.args.level c.args.list.now table c.deref.result.now c.deref-2.result.now c.in_ok-of.of.low.items c.in_ok-of.of.high.items c.deref-3.result.now c.deref-4.result.now c.events.result c.in_ok-found.found c.requires.list c.in_ok-found.ensures
-    c.deref.ensures.value c.in_ok-table.ensures c.deref-2.ensures.value c.in_ok-of.ensures c.deref-3.ensures.value c.deref-4.ensures.value c.events.ensures in
-    λ t s. one_found d c.args.level table c.in_ok-found.found c.is_some.result f c.is_some.ensures t (λ k h. c.settled_levels.ensures.foreign d c.args.level k table h s)
+    let f = found_is d c.args.level c.args.list.now table c.deref.result.now c.deref-2.result.now
+    c.in_ok-of.of.low.items c.in_ok-of.of.high.items c.deref-3.result.now c.deref-4.result.now
+    c.events.result c.in_ok-found.found c.requires.list c.in_ok-found.ensures
+    c.deref.ensures.value c.in_ok-table.ensures c.deref-2.ensures.value c.in_ok-of.ensures
+    c.deref-3.ensures.value c.deref-4.ensures.value c.events.ensures in
+    λ t s. one_found d c.args.level table c.in_ok-found.found c.is_some.result f c.is_some.ensures t
+    (λ k h. c.settled_levels.ensures.foreign d c.args.level k table h s)

@@ -22,7 +22,8 @@ returns-in_ok-faces-in-Settled c =
     let h = subst (AreShown d) c.in-Settled.is c.in_ok-found.ensures in
     record {
       settled = (s.level, h.least);
-      clear = no_bad_pair d s.level (edges_at d s.level) s.owners.items s.facings.items s.swept.events h.case;
+      clear = no_bad_pair d s.level (edges_at d s.level) s.owners.items s.facings.items
+          s.swept.events h.case;
       faces = c.in_ok-faces-in-Settled.ensures.faces;
       numbered = c.in_ok-faces-in-Settled.ensures.numbered;
     }
@@ -30,5 +31,8 @@ returns-in_ok-faces-in-Settled c =
 pub returns-in-Unsettled : goal.returns-in-Unsettled
 returns-in-Unsettled c =
     let d = plan c.args.drawing.now in
-    let h = subst (AreShown d) c.in-Unsettled.is c.in_ok-found.ensures in
-    (h.0, subst (MeetsBadlyIfAny d) (sym c.pair_if_any.ensures) (same_pair d c.in-Unsettled.bad h.1))
+    let h = subst (AreShown d) c.in-Unsettled.is c.in_ok-found.ensures in (
+      h.0,
+      subst (MeetsBadlyIfAny d) (sym c.pair_if_any.ensures)
+          (same_pair d c.in-Unsettled.bad h.1),
+    )

@@ -13,8 +13,11 @@ use Rattle.area_search.proofs.level.settled_runs.settled_facings.Goals as goal
 pub are_paired-requires-clause-curves : goal.are_paired-requires-clause-curves
 are_paired-requires-clause-curves c =
     let few = c.args.drawing.now.few_curves in
-    subst (λ (os : List Owner). (e : ℕ) → e < length os → (owner_at os e).curve < 1073741824) (sym c.deref-3.ensures.value)
-    (curves_below (plan c.args.drawing.now) c.args.level c.args.list.now c.in_ok-facings.facings.items (c.in_ok-facings.ensures c.args.level c.requires.list) c.requires.list (omega (arith, few))
+    subst (λ (os : List Owner). (e : ℕ) → e < length os → (owner_at os e).curve < 1073741824)
+    (sym c.deref-3.ensures.value)
+    (curves_below (plan c.args.drawing.now) c.args.level c.args.list.now
+    c.in_ok-facings.facings.items (c.in_ok-facings.ensures c.args.level c.requires.list)
+    c.requires.list (omega (arith, few))
     (c.chains_have_edges.ensures.owner (plan c.args.drawing.now) c.args.level))
 
 pub returns-then-not-are_paired-clause-unsettled : goal.returns-then-not-are_paired-clause-unsettled
@@ -24,9 +27,15 @@ returns-then-not-are_paired-clause-unsettled c = λ e s.
     let vs = c.args.swept.now.events in
     let n : c.are_paired.result ≡ false = search rules in
     unfit c.are_paired.result c.are_paired.ensures n
-    (paired_lent c.deref-2.result.now c.in_ok-facings.facings.items c.deref-3.result.now l.owners.items c.deref.result.now c.args.swept.now.cells.items vs c.deref-2.ensures.value c.deref-3.ensures.value c.deref.ensures.value c.requires.cells
-    (settled_pairs d c.args.level l c.requires.list c.in_ok-facings.facings.items (c.in_ok-facings.ensures c.args.level c.requires.list) vs c.requires.fit (c.settled_levels.ensures.run d c.args.level l (steps_from [] vs) c.requires.list s c.requires.run)
-    (λ m E t. c.blank_labels.ensures.pair (pos 0) d (drawn_bays d c.args.level) m E (steps_from [] vs) t)))
+    (paired_lent c.deref-2.result.now c.in_ok-facings.facings.items c.deref-3.result.now
+    l.owners.items c.deref.result.now c.args.swept.now.cells.items vs c.deref-2.ensures.value
+    c.deref-3.ensures.value c.deref.ensures.value c.requires.cells
+    (settled_pairs d c.args.level l c.requires.list c.in_ok-facings.facings.items
+    (c.in_ok-facings.ensures c.args.level c.requires.list) vs c.requires.fit
+    (c.settled_levels.ensures.run d c.args.level l
+    (steps_from [] vs) c.requires.list s c.requires.run)
+    (λ m E t. c.blank_labels.ensures.pair (pos 0) d (drawn_bays d c.args.level) m E
+    (steps_from [] vs) t)))
 
 pub returns-clause-case : goal.returns-clause-case
 returns-clause-case c =
@@ -35,9 +44,15 @@ returns-clause-case c =
     let vs = c.args.swept.now.events in
     let y : IsTrue c.are_paired.result = search rules in
     let own = c.in_ok-has_foreign_corner.ensures.own (search rules) in
-    is_case d c.args.level l c.requires.list c.in_ok-facings.facings.items (c.in_ok-facings.ensures c.args.level c.requires.list) vs c.requires.fit (c.settled_levels.ensures.wide d c.args.level c.requires.list.tubes)
-    (c.settled_levels.ensures.own d c.args.level l (steps_from [] vs) c.requires.list own c.requires.run) (c.settled_levels.ensures.level d c.args.level (steps_from [] vs) c.requires.list.tubes)
-    (paired_level c.deref-2.result.now c.in_ok-facings.facings.items c.deref-3.result.now l.owners.items c.deref.result.now c.args.swept.now.cells.items vs c.deref-2.ensures.value c.deref-3.ensures.value c.deref.ensures.value c.requires.cells (c.are_paired.ensures.0 y))
+    is_case d c.args.level l c.requires.list c.in_ok-facings.facings.items
+    (c.in_ok-facings.ensures c.args.level c.requires.list) vs c.requires.fit
+    (c.settled_levels.ensures.wide d c.args.level c.requires.list.tubes)
+    (c.settled_levels.ensures.own d c.args.level l
+    (steps_from [] vs) c.requires.list own c.requires.run)
+    (c.settled_levels.ensures.level d c.args.level (steps_from [] vs) c.requires.list.tubes)
+    (paired_level c.deref-2.result.now c.in_ok-facings.facings.items c.deref-3.result.now
+    l.owners.items c.deref.result.now c.args.swept.now.cells.items vs c.deref-2.ensures.value
+    c.deref-3.ensures.value c.deref.ensures.value c.requires.cells (c.are_paired.ensures.0 y))
     c.requires.low
 
 pub returns-clause-settled : goal.returns-clause-settled
@@ -47,7 +62,13 @@ returns-clause-settled c =
     let vs = c.args.swept.now.events in
     let y : IsTrue c.are_paired.result = search rules in
     let own = c.in_ok-has_foreign_corner.ensures.own (search rules) in
-    is_settled d c.args.level l c.requires.list c.in_ok-facings.facings.items (c.in_ok-facings.ensures c.args.level c.requires.list) vs c.requires.fit (c.settled_levels.ensures.wide d c.args.level c.requires.list.tubes)
-    (c.settled_levels.ensures.own d c.args.level l (steps_from [] vs) c.requires.list own c.requires.run) (c.settled_levels.ensures.level d c.args.level (steps_from [] vs) c.requires.list.tubes)
-    (paired_level c.deref-2.result.now c.in_ok-facings.facings.items c.deref-3.result.now l.owners.items c.deref.result.now c.args.swept.now.cells.items vs c.deref-2.ensures.value c.deref-3.ensures.value c.deref.ensures.value c.requires.cells (c.are_paired.ensures.0 y))
+    is_settled d c.args.level l c.requires.list c.in_ok-facings.facings.items
+    (c.in_ok-facings.ensures c.args.level c.requires.list) vs c.requires.fit
+    (c.settled_levels.ensures.wide d c.args.level c.requires.list.tubes)
+    (c.settled_levels.ensures.own d c.args.level l
+    (steps_from [] vs) c.requires.list own c.requires.run)
+    (c.settled_levels.ensures.level d c.args.level (steps_from [] vs) c.requires.list.tubes)
+    (paired_level c.deref-2.result.now c.in_ok-facings.facings.items c.deref-3.result.now
+    l.owners.items c.deref.result.now c.args.swept.now.cells.items vs c.deref-2.ensures.value
+    c.deref-3.ensures.value c.deref.ensures.value c.requires.cells (c.are_paired.ensures.0 y))
     c.requires.low

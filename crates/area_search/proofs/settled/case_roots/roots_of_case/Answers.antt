@@ -7,5 +7,6 @@ returns c = λ cells b. record {
   are_chains = c.in_ok-chains.ensures;
   border = c.args.border.now;
   border_is = b;
-  roots_are = joined_lists _ _ _ _ _ _ _ c.new-roots.ensures.items c.in_ok-add_tubes.ensures c.in_ok-extend_from_slice.ensures.items c.in_ok-add_spots.ensures;
+  roots_are = joined_lists _ _ _ _ _ _ _ c.new-roots.ensures.items c.in_ok-add_tubes.ensures
+      c.in_ok-extend_from_slice.ensures.items c.in_ok-add_spots.ensures;
 }

@@ -10,30 +10,49 @@ use Rattle.area_search.proofs.settled.case_sides.faces_beside.Goals as goal
 
 pub loop-number-init : goal.loop-number-init
 loop-number-init c = record {
-  first = sym (no_first (drawn_bays (plan c.args.settled.now.drawing.now) c.args.settled.now.level) 0 c.args.settled.now.drawing.now.curves.items);
+  first = sym (no_first (drawn_bays (plan c.args.settled.now.drawing.now) c.args.settled.now.level)
+      0 c.args.settled.now.drawing.now.curves.items);
   besides = record { size = search rules; each = λ i l. absurd (omega (arith, l)) };
 }
 
 pub overflow_add-first : goal.overflow_add-first
 overflow_add-first c =
-    let l : c.loop-number.number < length c.args.settled.now.drawing.now.curves.items = (let t = c.loop-number-test.true in let n = c.len-number-end.ensures in omega (arith, t, n)) in
-    let t = next_fits (plan c.args.settled.now.drawing.now) c.args.settled.now.level (edges_of c.args.settled.now) c.args.settled.now.owners.now c.args.settled.now.facings.now c.requires.settled.0 c.requires.settled.1
-    c.index-curve.result.now c.loop-number.number c.loop-number.first l (nth_curve_is (plan c.args.settled.now.drawing.now) c.loop-number.number c.index-curve.result.now l c.index-curve.ensures) c.loop-number.invariant.first
+    let l : c.loop-number.number < length
+    c.args.settled.now.drawing.now.curves.items =
+    (let t = c.loop-number-test.true in let n = c.len-number-end.ensures in
+    omega (arith, t, n)) in
+    let t = next_fits (plan c.args.settled.now.drawing.now) c.args.settled.now.level
+    (edges_of c.args.settled.now) c.args.settled.now.owners.now c.args.settled.now.facings.now
+    c.requires.settled.0 c.requires.settled.1
+    c.index-curve.result.now c.loop-number.number c.loop-number.first l
+    (nth_curve_is (plan c.args.settled.now.drawing.now) c.loop-number.number
+    c.index-curve.result.now l c.index-curve.ensures) c.loop-number.invariant.first
     c.edge_count-first.result c.edge_count-first.ensures in
     let f = c.requires.few in
     omega (arith, t, f)
 
 pub loop-number-preserved : goal.loop-number-preserved
 loop-number-preserved c =
-    let l : c.loop-number.number < length c.args.settled.now.drawing.now.curves.items = (let t = c.loop-number-test.true in let n = c.len-number-end.ensures in omega (arith, t, n)) in
+    let l : c.loop-number.number < length
+    c.args.settled.now.drawing.now.curves.items =
+    (let t = c.loop-number-test.true in let n = c.len-number-end.ensures in
+    omega (arith, t, n)) in
     let i = c.loop-number.invariant in
     record {
-      first = next_is (plan c.args.settled.now.drawing.now) c.args.settled.now.level (edges_of c.args.settled.now) c.args.settled.now.owners.now c.args.settled.now.facings.now c.requires.settled.0 c.requires.settled.1
-          c.index-curve.result.now c.loop-number.number c.loop-number.first l (nth_curve_is (plan c.args.settled.now.drawing.now) c.loop-number.number c.index-curve.result.now l c.index-curve.ensures) i.first
+      first = next_is (plan c.args.settled.now.drawing.now) c.args.settled.now.level
+          (edges_of c.args.settled.now) c.args.settled.now.owners.now c.args.settled.now.facings.now
+          c.requires.settled.0 c.requires.settled.1
+          c.index-curve.result.now c.loop-number.number c.loop-number.first l
+          (nth_curve_is (plan c.args.settled.now.drawing.now) c.loop-number.number
+          c.index-curve.result.now l c.index-curve.ensures) i.first
           c.edge_count-first.result c.edge_count-first.ensures;
       besides = record {
-        size = one_more_size c.loop-number.besides.items c.push.new.self.items c.faces_of_curve.result c.loop-number.number i.besides.size c.in_ok-push.ensures.items;
-        each = one_more (IsBeside (plan c.args.settled.now.drawing.now) c.args.settled.now.level c.args.mesh.now.face) c.loop-number.besides.items c.push.new.self.items c.faces_of_curve.result no_beside c.loop-number.number
+        size = one_more_size c.loop-number.besides.items c.push.new.self.items
+            c.faces_of_curve.result c.loop-number.number i.besides.size c.in_ok-push.ensures.items;
+        each = one_more
+            (IsBeside (plan c.args.settled.now.drawing.now) c.args.settled.now.level
+            c.args.mesh.now.face) c.loop-number.besides.items c.push.new.self.items
+            c.faces_of_curve.result no_beside c.loop-number.number
             i.besides.size c.in_ok-push.ensures.items i.besides.each c.faces_of_curve.ensures;
       };
     }

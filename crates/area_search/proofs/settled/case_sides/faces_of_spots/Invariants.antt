@@ -4,4 +4,6 @@ use Rattle.area_search.specs.Settled.Cases.{spot_faces}
 use Rattle.area_search.proofs.settled.case_sides.faces_of_spots.Given as goal
 
 abbrev pub invariant-loop-point : goal.invariant-loop-point
-invariant-loop-point l = l.faces.items ≡ spot_faces (plan l.settled.drawing.now) l.settled.level l.mesh.face (take l.point l.spots)
+invariant-loop-point l =
+    l.faces.items ≡ spot_faces (plan l.settled.drawing.now) l.settled.level l.mesh.face
+    (take l.point l.spots)

@@ -37,8 +37,11 @@ numbers_of_faces-requires-clause-known c =
     let beside = c.in_ok-besides.ensures in
     subst (λ (bs : List Beside). (i : ℕ) → i < length bs → IsBesideIn count (beside_at bs i))
     (sym c.deref.ensures.value)
-    (λ i l. besides_known d s.level (edges_of s) s.owners.now s.facings.now c.args.swept.events c.requires.settled mesh count faces
-    (λ i h. arc_first d s.level i (c.chains_have_edges.ensures.inner d s.level i c.requires.settled.tubes h) (c.chains_have_edges.ensures.outer d s.level i h))
+    (λ i l. besides_known d s.level (edges_of s) s.owners.now s.facings.now c.args.swept.events
+    c.requires.settled mesh count faces
+    (λ i h. arc_first d s.level i
+    (c.chains_have_edges.ensures.inner d s.level i c.requires.settled.tubes h)
+    (c.chains_have_edges.ensures.outer d s.level i h))
     besides beside i
     (let n = beside.size in omega (arith, l, n)))
 
@@ -80,8 +83,11 @@ places_of-requires-clause-numbered c =
     → spot_face d s.level mesh.face (spot_at ss j) < length c.in_ok-numbers.numbers.of_face.items)
     (sym c.deref-4.ensures.value)
     (λ j l.
-    let k = spot_known d s.level (edges_of s) s.owners.now s.facings.now c.args.swept.events c.requires.settled mesh count faces
-    (λ i h. arc_first d s.level i (c.chains_have_edges.ensures.inner d s.level i c.requires.settled.tubes h) (c.chains_have_edges.ensures.outer d s.level i h))
+    let k = spot_known d s.level (edges_of s) s.owners.now s.facings.now c.args.swept.events
+    c.requires.settled mesh count faces
+    (λ i h. arc_first d s.level i
+    (c.chains_have_edges.ensures.inner d s.level i c.requires.settled.tubes h)
+    (c.chains_have_edges.ensures.outer d s.level i h))
     besides beside
     (object d j) (spot_at spots j) (are.each j (let n = are.size in omega (arith, l, n))) in
     omega (arith, k, size)))
@@ -104,8 +110,11 @@ faces_of-requires-clause-known c =
     subst (λ (bs : List Beside). (i : ℕ) → i < length bs
     → IsBesideIn (length c.deref-7.result.now) (beside_at bs i)) (sym c.deref-6.ensures.value)
     (λ i l. subst (λ (n : ℕ). IsBesideIn n (beside_at besides i)) (sym size)
-    (besides_known d s.level (edges_of s) s.owners.now s.facings.now c.args.swept.events c.requires.settled mesh count faces
-    (λ i h. arc_first d s.level i (c.chains_have_edges.ensures.inner d s.level i c.requires.settled.tubes h) (c.chains_have_edges.ensures.outer d s.level i h))
+    (besides_known d s.level (edges_of s) s.owners.now s.facings.now c.args.swept.events
+    c.requires.settled mesh count faces
+    (λ i h. arc_first d s.level i
+    (c.chains_have_edges.ensures.inner d s.level i c.requires.settled.tubes h)
+    (c.chains_have_edges.ensures.outer d s.level i h))
     besides beside i
     (let n = beside.size in omega (arith, l, n))))
 
@@ -132,8 +141,11 @@ returns-clause-faces c =
     let spots = c.in_ok-spots.spots.items in
     let same : c.in_ok-open.open.items ≡ replicate c.in_ok-numbers.numbers.count false =
     search rules in
-    drawing_faces d s.level (edges_of s) s.owners.now s.facings.now c.args.swept.events c.requires.settled mesh count faces
-    (λ i h. arc_first d s.level i (c.chains_have_edges.ensures.inner d s.level i c.requires.settled.tubes h) (c.chains_have_edges.ensures.outer d s.level i h))
+    drawing_faces d s.level (edges_of s) s.owners.now s.facings.now c.args.swept.events
+    c.requires.settled mesh count faces
+    (λ i h. arc_first d s.level i
+    (c.chains_have_edges.ensures.inner d s.level i c.requires.settled.tubes h)
+    (c.chains_have_edges.ensures.outer d s.level i h))
     besides beside names c.in_ok-numbers.numbers.count
     c.in_ok-numbers.ensures.size
     (subst (λ (bs : List Beside). AreFaceNumbers (faces_met bs) names c.in_ok-numbers.numbers.count)
@@ -165,8 +177,11 @@ returns-clause-numbered c =
     let spots = c.in_ok-spots.spots.items in
     let same : c.in_ok-open.open.items ≡ replicate c.in_ok-numbers.numbers.count false =
     search rules in
-    faces_numbered d s.level (edges_of s) s.owners.now s.facings.now c.args.swept.events c.requires.settled mesh count faces
-    (λ i h. arc_first d s.level i (c.chains_have_edges.ensures.inner d s.level i c.requires.settled.tubes h) (c.chains_have_edges.ensures.outer d s.level i h))
+    faces_numbered d s.level (edges_of s) s.owners.now s.facings.now c.args.swept.events
+    c.requires.settled mesh count faces
+    (λ i h. arc_first d s.level i
+    (c.chains_have_edges.ensures.inner d s.level i c.requires.settled.tubes h)
+    (c.chains_have_edges.ensures.outer d s.level i h))
     besides beside names c.in_ok-numbers.numbers.count
     c.in_ok-numbers.ensures.size
     (subst (λ (bs : List Beside). AreFaceNumbers (faces_met bs) names c.in_ok-numbers.numbers.count)

@@ -23,6 +23,8 @@ returns-else-face-ne0-clause-numbers c = λ met are.
     let face = c.args.face in
     kept_numbers met names c.args.numbers.now.count face are
     (elim c.else-face-ne0.branch [
-      | else-face-ne0-via-then-face-ne0+else-index-eq0 w ↦ λ z. absurd (w.if-index-eq0.false (w.index.ensures ∙ get_or_default_zero names face w.index.result.now c.requires.known ∙ z))
+      | else-face-ne0-via-then-face-ne0+else-index-eq0 w ↦ λ z. absurd
+          (w.if-index-eq0.false (w.index.ensures
+          ∙ get_or_default_zero names face w.index.result.now c.requires.known ∙ z))
       | else-face-ne0-via-else-face-ne0 w ↦ λ z. w.if-face-ne0.false
     ])

@@ -20,7 +20,9 @@ loop-curve-preserved c =
     record {
       size = b.size ∙ (a.size ∙ i.size);
       few = omega (arith, few_a, few_b, few_i);
-      numbers = subst (λ (met : List ℕ). AreFaceNumbers met c.add_face-in-loop-curve.new.numbers.of_face.items c.add_face-in-loop-curve.new.numbers.count)
+      numbers = subst
+          (λ (met : List ℕ). AreFaceNumbers met c.add_face-in-loop-curve.new.numbers.of_face.items
+          c.add_face-in-loop-curve.new.numbers.count)
           (sym (ap faces_met (take_more bs k no_beside l) ∙ met_more (take k bs) (beside_at bs k)))
           (b.numbers _ (a.numbers _ i.numbers));
     }

@@ -14,10 +14,17 @@ use Rattle.area_search.proofs.settled.finishing.answer_placed.Goals as goal
 
 pub label_with_joins-requires : goal.label_with_joins-requires
 label_with_joins-requires c = record {
-  known = subst (λ (cs : List Cell). AreKnown (size c.in_ok-mesh.mesh) (gaps_of cs)) (sym c.cells_alone-cells.ensures)
-      (known_cells (plan c.args.settled.now.drawing.now) c.args.settled.now.level (edges_of c.args.settled.now) c.args.settled.now.owners.now c.args.settled.now.facings.now c.args.swept.events c.requires.settled
+  known = subst (λ (cs : List Cell). AreKnown (size c.in_ok-mesh.mesh) (gaps_of cs))
+      (sym c.cells_alone-cells.ensures)
+      (known_cells (plan c.args.settled.now.drawing.now) c.args.settled.now.level
+      (edges_of c.args.settled.now) c.args.settled.now.owners.now c.args.settled.now.facings.now
+      c.args.swept.events c.requires.settled
       (gaps_of c.args.swept.cells.items) c.in_ok-mesh.mesh c.requires.cells
-      (owner_mesh (plan c.args.settled.now.drawing.now) c.args.settled.now.level (edges_of c.args.settled.now) c.args.settled.now.owners.now c.args.settled.now.facings.now c.args.swept.events c.requires.settled (length c.args.settled.now.owners.now) refl c.in_ok-mesh.mesh c.in_ok-mesh.ensures.turned).count);
+      (owner_mesh (plan c.args.settled.now.drawing.now) c.args.settled.now.level
+      (edges_of c.args.settled.now) c.args.settled.now.owners.now c.args.settled.now.facings.now
+      c.args.swept.events c.requires.settled
+      (length c.args.settled.now.owners.now) refl c.in_ok-mesh.mesh
+      c.in_ok-mesh.ensures.turned).count);
 }
 
 pub answer_run-requires-clause-run : goal.answer_run-requires-clause-run
@@ -27,7 +34,9 @@ answer_run-requires-clause-run c =
     let vs = c.args.swept.events in
     let l = c.in_ok-joined.ensures in
     let same = ap gaps_of c.cells_alone-cells.ensures ∙ c.requires.cells in
-    let t = owner_mesh (plan c.args.settled.now.drawing.now) c.args.settled.now.level (edges_of c.args.settled.now) c.args.settled.now.owners.now c.args.settled.now.facings.now c.args.swept.events c.requires.settled (length c.args.settled.now.owners.now) refl
+    let t = owner_mesh (plan c.args.settled.now.drawing.now) c.args.settled.now.level
+    (edges_of c.args.settled.now) c.args.settled.now.owners.now c.args.settled.now.facings.now
+    c.args.swept.events c.requires.settled (length c.args.settled.now.owners.now) refl
     c.in_ok-mesh.mesh c.in_ok-mesh.ensures.turned in
     record {
       vs = vs;
@@ -35,21 +44,35 @@ answer_run-requires-clause-run c =
       timed = c.requires.timed;
       placed = c.requires.placed;
       places = c.requires.places;
-      faces = subst (λ (m : HalfEdges). HasRunFaces d level vs m c.in_ok-joined.joined.labelled.count) (sym l.unchanged)
-          (has_run_faces d level (edges_of c.args.settled.now) c.args.settled.now.owners.now c.args.settled.now.facings.now vs c.requires.settled
-          c.in_ok-mesh.mesh t c.in_ok-joined.joined.labelled.mesh.face _ c.in_ok-joined.joined.labelled.count same l.faces l.count);
+      faces = subst
+          (λ (m : HalfEdges). HasRunFaces d level vs m c.in_ok-joined.joined.labelled.count)
+          (sym l.unchanged)
+          (has_run_faces d level (edges_of c.args.settled.now) c.args.settled.now.owners.now
+          c.args.settled.now.facings.now vs c.requires.settled
+          c.in_ok-mesh.mesh t c.in_ok-joined.joined.labelled.mesh.face _
+          c.in_ok-joined.joined.labelled.count same l.faces l.count);
       outline = subst (IsRunMesh d level vs) (sym l.unchanged)
-          (run_mesh d level (edges_of c.args.settled.now) c.args.settled.now.owners.now c.args.settled.now.facings.now vs c.requires.settled
-          c.in_ok-mesh.mesh t c.in_ok-joined.joined.labelled.mesh.face (subst IsMesh l.unchanged c.edges.ensures.kept));
-      joins = subst (λ (m : HalfEdges). AreJoins (size m) (closed_gaps vs) c.in_ok-joined.joined.joins) (sym l.unchanged)
-          (subst (λ (gs : List Gap). AreJoins (size c.in_ok-mesh.mesh) gs c.in_ok-joined.joined.joins) same l.joins);
+          (run_mesh d level (edges_of c.args.settled.now) c.args.settled.now.owners.now
+          c.args.settled.now.facings.now vs c.requires.settled
+          c.in_ok-mesh.mesh t c.in_ok-joined.joined.labelled.mesh.face
+          (subst IsMesh l.unchanged c.edges.ensures.kept));
+      joins = subst
+          (λ (m : HalfEdges). AreJoins (size m) (closed_gaps vs) c.in_ok-joined.joined.joins)
+          (sym l.unchanged)
+          (subst (λ (gs : List Gap). AreJoins
+          (size c.in_ok-mesh.mesh) gs c.in_ok-joined.joined.joins) same l.joins);
       positions_are = c.in_ok-positions.ensures;
     }
 
 pub mesh_of_run-requires-clause-few : goal.mesh_of_run-requires-clause-few
 mesh_of_run-requires-clause-few c =
-    owner_few (plan c.args.settled.now.drawing.now) c.args.settled.now.level (edges_of c.args.settled.now) c.args.settled.now.owners.now c.args.settled.now.facings.now c.args.swept.events c.requires.settled (length c.args.settled.now.owners.now) refl c.requires.few
+    owner_few (plan c.args.settled.now.drawing.now) c.args.settled.now.level
+    (edges_of c.args.settled.now) c.args.settled.now.owners.now c.args.settled.now.facings.now
+    c.args.swept.events c.requires.settled
+    (length c.args.settled.now.owners.now) refl c.requires.few
 
 pub mesh_of_run-requires-clause-run : goal.mesh_of_run-requires-clause-run
 mesh_of_run-requires-clause-run c =
-    owner_edges (plan c.args.settled.now.drawing.now) c.args.settled.now.level (edges_of c.args.settled.now) c.args.settled.now.owners.now c.args.settled.now.facings.now c.args.swept.events c.requires.settled (length c.args.settled.now.owners.now) refl
+    owner_edges (plan c.args.settled.now.drawing.now) c.args.settled.now.level
+    (edges_of c.args.settled.now) c.args.settled.now.owners.now c.args.settled.now.facings.now
+    c.args.swept.events c.requires.settled (length c.args.settled.now.owners.now) refl

@@ -67,6 +67,7 @@ split_at-requires c =
     let all = c.in_ok-all.ensures.size in
     let a = length-append (map (λ (p : Placed). p.at) d.points) c.args.places.now in
     let b = length-map d.points (λ (p : Placed). p.at) in
-    let n : length c.deref.result.now ≡ length c.in_ok-all.all.items = ap length c.deref.ensures.value in
+    let n : length c.deref.result.now ≡ length c.in_ok-all.all.items = ap length
+    c.deref.ensures.value in
     let m : c.len.result ≡ length d.points = c.len.ensures ∙ s.drawing.now.points.ok.0 in
     omega (arith, all, a, b, n, m)

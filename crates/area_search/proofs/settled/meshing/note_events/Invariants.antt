@@ -8,5 +8,8 @@ abbrev pub invariant-loop-number : goal.invariant-loop-number
 invariant-loop-number l = record {
   within : l.from ≤ length l.ended;
   rest : drop l.from l.ended ≡ ended_at (drop l.number (steps_from [] l.events));
-  noted : HasNoted l.edges (steps_from [] l.events) l.number (record { low = l.low; high = l.high });
+  noted : HasNoted l.edges (steps_from [] l.events) l.number (record {
+    low = l.low;
+    high = l.high;
+  });
 }

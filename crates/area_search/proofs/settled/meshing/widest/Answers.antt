@@ -6,5 +6,7 @@ use Rattle.area_search.proofs.settled.meshing.widest.Goals as goal
 pub loop-number-preserved : goal.loop-number-preserved
 loop-number-preserved c =
     let v = c.get-event.result in
-    let m : c.max-most.result ≡ max c.loop-number.most (length v.starting.now + v.ending) = search rules in
-    widest_next c.args.events.now c.loop-number.number c.loop-number.most c.max-most.result (move_of v) (sym c.get-event.ensures) m c.loop-number.invariant
+    let m : c.max-most.result ≡ max c.loop-number.most
+    (length v.starting.now + v.ending) = search rules in
+    widest_next c.args.events.now c.loop-number.number c.loop-number.most c.max-most.result
+    (move_of v) (sym c.get-event.ensures) m c.loop-number.invariant

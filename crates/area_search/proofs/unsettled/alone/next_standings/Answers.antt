@@ -8,11 +8,16 @@ pub returns-in-Settled : goal.returns-in-Settled
 returns-in-Settled c =
     let d = plan c.args.drawing.now in
     let r = c.in_ok-rest.rest in
-    let is = subst (λ (ms : List Bool). IsRest d ms [] r) c.deref.ensures.value c.in_ok-rest.ensures in
+    let is = subst (λ (ms : List Bool). IsRest d ms [] r) c.deref.ensures.value
+    c.in_ok-rest.ensures in
     let s = subst (IsSettling (plan r.drawing)) c.in-Settled.is c.in_ok-settle.ensures in
-    apart_when_settled d c.args.standings.now c.in_ok-after_settling-in-Settled.field-0.items c.in_ok-marks.marks.items [] r is c.in_ok-marks.ensures c.in_ok-after_settling-in-Settled.ensures
+    apart_when_settled d c.args.standings.now c.in_ok-after_settling-in-Settled.field-0.items
+    c.in_ok-marks.marks.items [] r is c.in_ok-marks.ensures
+    c.in_ok-after_settling-in-Settled.ensures
     (λ i j a b. c.breaks_are_of_curves.ensures d (plan r.drawing) 5 i j a b) s.1 c.requires.apart
 
 pub returns-in-Near : goal.returns-in-Near
 returns-in-Near c =
-    apart_when_left (plan c.args.drawing.now) c.args.standings.now c.in_ok-after_leaving-in-Near.field-0.items c.in_ok-after_leaving-in-Near.ensures c.requires.apart
+    apart_when_left (plan c.args.drawing.now) c.args.standings.now
+    c.in_ok-after_leaving-in-Near.field-0.items c.in_ok-after_leaving-in-Near.ensures
+    c.requires.apart

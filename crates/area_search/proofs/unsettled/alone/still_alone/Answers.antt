@@ -7,6 +7,8 @@ use Rattle.area_search.proofs.unsettled.alone.still_alone.Goals as goal
 
 pub returns-then-are_seen : goal.returns-then-are_seen
 returns-then-are_seen c =
-    alone_in_the_end (plan c.args.drawing.now) c.loop.standings.items c.in_ok-alone_marks.field-0.items c.loop.invariant
+    alone_in_the_end (plan c.args.drawing.now) c.loop.standings.items
+    c.in_ok-alone_marks.field-0.items c.loop.invariant
     (subst (All IsSeen) c.deref.ensures.value (c.are_seen.ensures c.if-are_seen.true))
-    (c.in_ok-alone_marks.ensures ∙ ap (λ (ss : List SearchState). map is_alone ss) c.deref-then-are_seen.ensures.value)
+    (c.in_ok-alone_marks.ensures
+    ∙ ap (λ (ss : List SearchState). map is_alone ss) c.deref-then-are_seen.ensures.value)

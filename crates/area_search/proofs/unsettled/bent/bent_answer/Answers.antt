@@ -47,10 +47,12 @@ returns-in-Some c =
     let h = subst (IsSettledFound g c.args.places.now) c.in-Some.is c.in_ok-found.ensures in
     bent_found laws c.args.drawing.now.tolerance (plan c.args.drawing.now) g _ c.args.places.now f
     c.requires.clear c.requires.unsettled c.in_ok-copy.ensures.bent h _
-    (c.named_answer-answer.ensures ∙ ap (λ (os : List ℕ). named os f.answer) c.deref.ensures.value) refl
+    (c.named_answer-answer.ensures ∙ ap (λ (os : List ℕ). named os f.answer) c.deref.ensures.value)
+    refl
 
 pub returns : goal.returns
 returns c =
     let g = plan c.in_ok-copy.copy.drawing in
     unsettled_bent c.args.drawing.now.tolerance (plan c.args.drawing.now) g _
-    c.in_ok-copy.ensures.bent (subst (IsSettledFound g c.args.places.now) c.in-None.is c.in_ok-found.ensures)
+    c.in_ok-copy.ensures.bent
+    (subst (IsSettledFound g c.args.places.now) c.in-None.is c.in_ok-found.ensures)

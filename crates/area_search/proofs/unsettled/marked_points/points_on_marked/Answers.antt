@@ -4,5 +4,9 @@ use Rattle.area_search.proofs.unsettled.marked_points.points_on_marked.Goals as 
 
 pub returns : goal.returns
 returns c =
-    lent_pairs_on (plan c.args.drawing.now) c.args.marked.now c.in_ok-numbers.numbers.items c.deref.result.now c.deref-2.result.now c.deref-3.result.now c.in_ok-pairs.pairs c.in_ok-ons.ons.items c.requires c.deref.ensures.value c.deref-2.ensures.value c.deref-3.ensures.value
-    c.in_ok-numbers.ensures c.in_ok-pairs.ensures.pairs c.in_ok-pairs.ensures.few c.if-not-pairs.false c.in_ok-ons.ensures
+    lent_pairs_on (plan c.args.drawing.now) c.args.marked.now c.in_ok-numbers.numbers.items
+    c.deref.result.now c.deref-2.result.now c.deref-3.result.now c.in_ok-pairs.pairs
+    c.in_ok-ons.ons.items c.requires c.deref.ensures.value c.deref-2.ensures.value
+    c.deref-3.ensures.value
+    c.in_ok-numbers.ensures c.in_ok-pairs.ensures.pairs c.in_ok-pairs.ensures.few
+    c.if-not-pairs.false c.in_ok-ons.ensures

@@ -12,5 +12,8 @@ loop-number-preserved c =
     let d = plan c.args.drawing.now in
     let l = c.loop-number in
     let known = c.requires.numbers l.number-index c.loop-number-test.true in
-    curve_box_more d c.args.numbers.now l.number-index l.boxes.items c.push.new.self.items c.reach.result l.invariant c.in_ok-push.ensures.items
-    (subst (HoldsCurve (box_of c.reach.result)) (c.index.ensures ∙ get_same d.curves (slice_index c.args.numbers.now l.number-index) _ no_curve known) c.reach.ensures)
+    curve_box_more d c.args.numbers.now l.number-index l.boxes.items c.push.new.self.items
+    c.reach.result l.invariant c.in_ok-push.ensures.items
+    (subst (HoldsCurve (box_of c.reach.result)) (c.index.ensures
+    ∙ get_same d.curves (slice_index c.args.numbers.now l.number-index) _ no_curve known)
+    c.reach.ensures)

@@ -22,9 +22,12 @@ locate-requires-clause-close c =
     let es = c.deref-2.result.now in
     let ns = c.args.straights.now.numbers.items in
     let vs = c.args.swept.now.events in
-    let s = subst (λ (xs : List Edge). AreStraightsTo d.curves (length d.curves) xs ns) (sym c.deref-2.ensures.value) c.requires.straights in
-    let r = subst (λ (xs : List Edge). Run (length xs) (edge_of xs) (steps_from [] vs)) (sym c.deref-2.ensures.value) c.requires.run in
-    let p = c.deref-3.ensures.value ∙ c.in_ok-points.ensures ∙ ap (map (λ (x : Placed). x.at)) c.deref.ensures.value in
+    let s = subst (λ (xs : List Edge). AreStraightsTo d.curves (length d.curves) xs ns)
+    (sym c.deref-2.ensures.value) c.requires.straights in
+    let r = subst (λ (xs : List Edge). Run (length xs) (edge_of xs) (steps_from [] vs))
+    (sym c.deref-2.ensures.value) c.requires.run in
+    let p = c.deref-3.ensures.value ∙ c.in_ok-points.ensures
+    ∙ ap (map (λ (x : Placed). x.at)) c.deref.ensures.value in
     points_close d es ns vs s r c.deref-3.result.now p w.curves_drawn w.points_inside
 
 pub returns-in-Some : goal.returns-in-Some
@@ -33,16 +36,21 @@ returns-in-Some c =
     let es = c.deref-2.result.now in
     let ns = c.args.straights.now.numbers.items in
     let vs = c.args.swept.now.events in
-    let s = subst (λ (xs : List Edge). AreStraightsTo d.curves (length d.curves) xs ns) (sym c.deref-2.ensures.value) c.requires.straights in
-    let r = subst (λ (xs : List Edge). Run (length xs) (edge_of xs) (steps_from [] vs)) (sym c.deref-2.ensures.value) c.requires.run in
-    let p = c.deref-3.ensures.value ∙ c.in_ok-points.ensures ∙ ap (map (λ (x : Placed). x.at)) c.deref.ensures.value in
+    let s = subst (λ (xs : List Edge). AreStraightsTo d.curves (length d.curves) xs ns)
+    (sym c.deref-2.ensures.value) c.requires.straights in
+    let r = subst (λ (xs : List Edge). Run (length xs) (edge_of xs) (steps_from [] vs))
+    (sym c.deref-2.ensures.value) c.requires.run in
+    let p = c.deref-3.ensures.value ∙ c.in_ok-points.ensures
+    ∙ ap (map (λ (x : Placed). x.at)) c.deref.ensures.value in
     let places = c.deref-4.result.now in
-    let are = subst (λ (ps : List Place). ArePlaces es vs c.deref-3.result.now ps) (sym c.deref-4.ensures.value) c.in_ok-places.ensures in
+    let are = subst (λ (ps : List Place). ArePlaces es vs c.deref-3.result.now ps)
+    (sym c.deref-4.ensures.value) c.in_ok-places.ensures in
     let f = subst (IsFirstOn places) c.in-Some.is c.first_on.ensures in
     let l = edge_here d es ns vs s r c.deref-3.result.now places p are c.in-Some.on f in
     let z = s.size in
     let on : OnCurve = record { point = c.in-Some.on.point; curve = c.index.result.now } in
-    first_is d es ns vs s r c.deref-3.result.now places p are c.in-Some.on on f refl (c.index.ensures ∙ get_same ns c.in-Some.on.curve _ 0 (omega (arith, l, z)))
+    first_is d es ns vs s r c.deref-3.result.now places p are c.in-Some.on on f refl
+    (c.index.ensures ∙ get_same ns c.in-Some.on.curve _ 0 (omega (arith, l, z)))
 
 pub returns : goal.returns
 returns c =
@@ -50,9 +58,14 @@ returns c =
     let es = c.deref-2.result.now in
     let ns = c.args.straights.now.numbers.items in
     let vs = c.args.swept.now.events in
-    let s = subst (λ (xs : List Edge). AreStraightsTo d.curves (length d.curves) xs ns) (sym c.deref-2.ensures.value) c.requires.straights in
-    let r = subst (λ (xs : List Edge). Run (length xs) (edge_of xs) (steps_from [] vs)) (sym c.deref-2.ensures.value) c.requires.run in
-    let p = c.deref-3.ensures.value ∙ c.in_ok-points.ensures ∙ ap (map (λ (x : Placed). x.at)) c.deref.ensures.value in
+    let s = subst (λ (xs : List Edge). AreStraightsTo d.curves (length d.curves) xs ns)
+    (sym c.deref-2.ensures.value) c.requires.straights in
+    let r = subst (λ (xs : List Edge). Run (length xs) (edge_of xs) (steps_from [] vs))
+    (sym c.deref-2.ensures.value) c.requires.run in
+    let p = c.deref-3.ensures.value ∙ c.in_ok-points.ensures
+    ∙ ap (map (λ (x : Placed). x.at)) c.deref.ensures.value in
     let places = c.deref-4.result.now in
-    let are = subst (λ (ps : List Place). ArePlaces es vs c.deref-3.result.now ps) (sym c.deref-4.ensures.value) c.in_ok-places.ensures in
-    none_on d es ns vs s r c.deref-3.result.now places p are (subst (IsFirstOn places) c.in-None.is c.first_on.ensures)
+    let are = subst (λ (ps : List Place). ArePlaces es vs c.deref-3.result.now ps)
+    (sym c.deref-4.ensures.value) c.in_ok-places.ensures in
+    none_on d es ns vs s r c.deref-3.result.now places p are
+    (subst (IsFirstOn places) c.in-None.is c.first_on.ensures)

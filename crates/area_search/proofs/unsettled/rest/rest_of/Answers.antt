@@ -8,9 +8,11 @@ use Rattle.area_search.proofs.unsettled.rest.rest_of.Goals as goal
 pub rest_with-requires-clause-inside : goal.rest_with-requires-clause-inside
 rest_with-requires-clause-inside c =
     let w = c.args.drawing.now in
-    subst (All (λ (p : Placed). IsInside w.window.low w.window.high p.at)) (sym (c.in_ok-points.ensures.items ∙ c.deref.ensures.value)) w.points_inside
+    subst (All (λ (p : Placed). IsInside w.window.low w.window.high p.at))
+    (sym (c.in_ok-points.ensures.items ∙ c.deref.ensures.value)) w.points_inside
 
 pub returns : goal.returns
 returns c =
     let d = plan c.args.drawing.now in
-    subst (λ (ps : List Placed). IfOk c.rest_with.result (IsRest d c.args.marks.now ps)) (c.in_ok-points.ensures.items ∙ c.deref.ensures.value) c.rest_with.ensures
+    subst (λ (ps : List Placed). IfOk c.rest_with.result (IsRest d c.args.marks.now ps))
+    (c.in_ok-points.ensures.items ∙ c.deref.ensures.value) c.rest_with.ensures

@@ -7,5 +7,6 @@ returns-clause-graph c =
     let (cells, joins) = c.requires.joins in
     record {
       mesh_is = c.halves_of.ensures.mesh;
-      joins = joins_again (size c.args.mesh.now) cells c.args.joins.now joins c.halves_of.ensures.mesh.pairs;
+      joins = joins_again (size c.args.mesh.now) cells c.args.joins.now joins
+          c.halves_of.ensures.mesh.pairs;
     }

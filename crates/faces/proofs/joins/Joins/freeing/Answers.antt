@@ -5,4 +5,6 @@ use Rattle.faces.specs.Joined.{AreKnown}
 use Rattle.faces.proofs.joins.Joins.freeing.Goals as goal
 
 pub new-requires-clause-known : goal.new-requires-clause-known
-new-requires-clause-known c = subst (λ (cs : List Cell). AreKnown c.args.halves (gaps_of cs)) (sym c.deref.ensures.value) c.requires.known
+new-requires-clause-known c =
+    subst (λ (cs : List Cell). AreKnown c.args.halves (gaps_of cs))
+    (sym c.deref.ensures.value) c.requires.known

@@ -12,5 +12,6 @@ pub returns : goal.returns
 returns c = record {
   known = c.requires.known;
   rows = c.in_ok-partners.ensures;
-  border = λ h. subst (λ (b : List ℕ). Has h b ↔ AtBorder (gaps_of c.args.cells.now) h) (sym c.in_ok-border.ensures) (border_is (gaps_of c.args.cells.now) h);
+  border = λ h. subst (λ (b : List ℕ). Has h b ↔ AtBorder (gaps_of c.args.cells.now) h)
+      (sym c.in_ok-border.ensures) (border_is (gaps_of c.args.cells.now) h);
 }

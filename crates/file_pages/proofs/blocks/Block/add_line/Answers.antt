@@ -10,7 +10,8 @@ invariant_of-self-2 c =
     let after = c.in-Some.ensures.after in
     let was = c.len.ensures in
     let now = c.len-self-inside.ensures in
-    let more = ap settled_by c.in_ok-push.ensures.items ∙ settled_more c.self.inside.repeats.items c.in-Some.repeat in
+    let more = ap settled_by c.in_ok-push.ensures.items
+    ∙ settled_more c.self.inside.repeats.items c.in-Some.repeat in
     (omega (arith, settled, within, after, was, now, more), omega (arith, was, now))
 
 pub returns-clause-added : goal.returns-clause-added
@@ -20,7 +21,9 @@ returns-clause-added c = λ e.
     let after = c.in-Some.ensures.after in
     let was = c.len.ensures in
     let same : c.self.inside.line.items ≡ c.args.line.now = search rules in
-    repeat_more c.self.inside.line.items c.self.inside.repeats.items c.push.new.self.items c.self.inside.bytes.items c.args.self.now c.in-Some.repeat
+    repeat_more c.self.inside.line.items c.self.inside.repeats.items c.push.new.self.items
+    c.self.inside.bytes.items c.args.self.now c.in-Some.repeat
     c.in_ok-push.ensures.items (omega (arith, settled, within, after, was)) (sym c.self.view_is)
     ∙ ap (λ (t : List ℕ). c.args.self.now ++ t)
-    (ap (λ (n : ℕ). times n c.self.inside.line.items) c.in-Some.ensures.count ∙ ap (times c.args.count) same)
+    (ap (λ (n : ℕ). times n c.self.inside.line.items) c.in-Some.ensures.count
+    ∙ ap (times c.args.count) same)

@@ -6,5 +6,6 @@ use Rattle.file_pages.proofs.held.HeldText.put.Goals as goal
 pub returns : goal.returns
 returns g c =
     appends_text c.finish.result c.new-page.ensures.failed c.new-page.ensures.waits
-    (wrote_as (ap (λ (bs : List (List ℕ)). joined bs ++ c.self.inside.last) c.deref.ensures.value ∙ c.self.view_is) (wrote_then c.put_blocks.ensures c.put_block.ensures))
+    (wrote_as (ap (λ (bs : List (List ℕ)). joined bs ++ c.self.inside.last) c.deref.ensures.value
+    ∙ c.self.view_is) (wrote_then c.put_blocks.ensures c.put_block.ensures))
     c.finish.ensures

@@ -16,6 +16,8 @@ is_on_straight-requires-clause-point c =
     let w = c.args.self.now.drawing.now in
     let l : c.args.first < length c.args.self.now.parts.now = search rules in
     let d = (c.requires.2 c.args.first no_curve l).drawn in
-    let k : c.args.second - length c.args.self.now.parts.now < length w.points.items = search rules in
-    let p = subst (λ (x : Placed). IsInside w.window.low w.window.high x.at) (sym c.index.ensures) (w.points_inside (c.args.second - length c.args.self.now.parts.now) c.index.result.now k) in
+    let k : c.args.second - length c.args.self.now.parts.now < length w.points.items = search
+    rules in
+    let p = subst (λ (x : Placed). IsInside w.window.low w.window.high x.at) (sym c.index.ensures)
+    (w.points_inside (c.args.second - length c.args.self.now.parts.now) c.index.result.now k) in
     nearer _ _ (inside_near w.window.low w.window.high _ _ w.window.narrow d.from p)

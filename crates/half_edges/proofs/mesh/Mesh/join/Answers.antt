@@ -8,8 +8,10 @@ loop-h-preserved c =
     let item = get_or_read _ _ _ c.loop-h-test.true c.h-item.is 0 in
     record {
       before = rw add-one item;
-      linked = links_step _ _ _ _ _ _ c.h-item.result _ _ _ _ c.requires.pairs c.requires.lengths c.requires.within c.requires.once
-          c.loop-h-test.true item c.loop-h.invariant.before c.twin-back.ensures c.back.view_is c.before-in-loop-h.view_is c.loop-h.invariant.linked;
+      linked = links_step _ _ _ _ _ _ c.h-item.result _ _ _ _ c.requires.pairs c.requires.lengths
+          c.requires.within c.requires.once
+          c.loop-h-test.true item c.loop-h.invariant.before c.twin-back.ensures c.back.view_is
+          c.before-in-loop-h.view_is c.loop-h.invariant.linked;
     }
 
 pub returns : goal.returns

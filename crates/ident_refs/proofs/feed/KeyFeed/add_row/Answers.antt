@@ -10,8 +10,11 @@ use Rattle.ident_refs.proofs.feed.KeyFeed.add_row.Goals as goal
 pub returns : goal.returns
 returns c l rows h =
     let r = row_of c.args.row.now in
-    ap all_kept_view (with_items_is c.args.self.now.tables c.add_at.new.tables (c.add_at.auto.tables ∙ c.deref_mut.ensures.len))
+    ap all_kept_view
+    (with_items_is c.args.self.now.tables c.add_at.new.tables (c.add_at.auto.tables
+    ∙ c.deref_mut.ensures.len))
     ∙ c.in_ok-add_at.ensures
-    ∙ ap (λ (ts : List TableKeys). row_at c.args.table.0 r (all_kept_view ts)) c.deref_mut.ensures.value
+    ∙ ap (λ (ts : List TableKeys). row_at c.args.table.0 r (all_kept_view ts))
+    c.deref_mut.ensures.value
     ∙ ap (row_at c.args.table.0 r) h
     ∙ row_fed l c.args.table.0 rows r

@@ -5,4 +5,7 @@ use Rattle.ident_refs.specs.KeptViews.{all_kept_view}
 use Rattle.ident_refs.proofs.feed.KeyFeed.add_tables.Given as goal
 
 abbrev pub invariant-loop-place : goal.invariant-loop-place
-invariant-loop-place l = fed_tables l.place (drop l.place (tables_rows_of l.transfer)) (all_kept_view l.self.tables.items) ≡ fed_tables 0 (tables_rows_of l.transfer) (all_kept_view l.fn.self.tables.items)
+invariant-loop-place l =
+    fed_tables l.place (drop l.place (tables_rows_of l.transfer))
+    (all_kept_view l.self.tables.items)
+    ≡ fed_tables 0 (tables_rows_of l.transfer) (all_kept_view l.fn.self.tables.items)

@@ -8,5 +8,8 @@ use Rattle.ident_refs.proofs.feed.KeyFeed.row_count.Goals as goal
 
 pub returns : goal.returns
 returns c l rows h =
-    rows_counted l rows c.args.table.0 (all_kept_view c.args.self.now.tables.items) c.lines_at.result.now h
-    (c.lines_at.ensures ∙ ap (λ (ts : List TableKeys). slice_index_or (all_lines (all_kept_view ts)) c.args.table.0 []) c.deref.ensures.value)
+    rows_counted l rows c.args.table.0
+    (all_kept_view c.args.self.now.tables.items) c.lines_at.result.now h
+    (c.lines_at.ensures
+    ∙ ap (λ (ts : List TableKeys). slice_index_or
+    (all_lines (all_kept_view ts)) c.args.table.0 []) c.deref.ensures.value)

@@ -13,5 +13,6 @@ invariant-loop-place l = record {
   numbered : AreNumbered l.parts.items l.kept.items;
   within : All (λ j. j < length l.kept.items) l.order.items;
   done : (codes : Codes) (t : Table)
-      → picked (lists_view [] l.kept.items) l.order.items ≡ kept_lists codes t [] (places_of (take l.place l.lists));
+      → picked (lists_view [] l.kept.items) l.order.items
+      ≡ kept_lists codes t [] (places_of (take l.place l.lists));
 }

@@ -5,5 +5,8 @@ use Rattle.ident_refs.proofs.repeats.KeyColumn.add_repeats.Given as goal
 
 abbrev pub invariant-loop-place : goal.invariant-loop-place
 invariant-loop-place l =
-    findings_of l.findings.items ++ repeats l.code l.column (take l.place (zip_keys l.self.lines.now l.self.keys.now)) (drop l.place (zip_keys l.self.lines.now l.self.keys.now))
-    ≡ findings_of l.fn.findings.items ++ repeats l.code l.column [] (zip_keys l.self.lines.now l.self.keys.now)
+    findings_of l.findings.items ++ repeats l.code l.column
+    (take l.place (zip_keys l.self.lines.now l.self.keys.now))
+    (drop l.place (zip_keys l.self.lines.now l.self.keys.now))
+    ≡ findings_of l.fn.findings.items ++ repeats l.code l.column []
+    (zip_keys l.self.lines.now l.self.keys.now)

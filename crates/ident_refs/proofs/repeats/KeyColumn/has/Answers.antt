@@ -5,4 +5,5 @@ use Rattle.ident_refs.proofs.KeyPlaces.{any_place}
 use Rattle.ident_refs.proofs.repeats.KeyColumn.has.Goals as goal
 
 pub returns : goal.returns
-returns c = c.is_some.ensures ∙ ap is_some c.first.ensures ∙ any_place (is_key c.args.key.now) 0 c.args.self.now.keys.now
+returns c = c.is_some.ensures ∙ ap is_some c.first.ensures
+    ∙ any_place (is_key c.args.key.now) 0 c.args.self.now.keys.now

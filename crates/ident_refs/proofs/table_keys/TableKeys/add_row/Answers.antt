@@ -15,6 +15,10 @@ returns c =
     let lists = c.args.self.now.idents.lists.items in
     on_ok_then c.add_refs.result
     (λ r. kept_same codes table _ _ _ _ _ _ _ _ c.in_ok-push.ensures.items
-    (c.in_ok-push-2.ensures.items ∙ ap (λ (k : Option (List ℕ)). c.args.self.now.ids.items ++ k ∷ []) c.in_ok-row_key.ensures)
-    (lists_taken (with_key codes table (row_of c.args.row.now)) (lists_view (rows_view c.args.self.now.rows) lists) (lists_view (rows_view c.add_keys.new.rows) lists) c.args.self.now.idents.order.items c.in_ok-add_keys.ensures) r)
+    (c.in_ok-push-2.ensures.items
+    ∙ ap (λ (k : Option (List ℕ)). c.args.self.now.ids.items ++ k ∷ []) c.in_ok-row_key.ensures)
+    (lists_taken (with_key codes table (row_of c.args.row.now))
+    (lists_view (rows_view c.args.self.now.rows) lists)
+    (lists_view (rows_view c.add_keys.new.rows) lists) c.args.self.now.idents.order.items
+    c.in_ok-add_keys.ensures) r)
     c.add_refs.ensures

@@ -18,8 +18,10 @@ abbrev pub invariant-elements-loop-elements : goal.invariant-elements-loop-eleme
 invariant-elements-loop-elements l = record {
   further : l.fn.at ≤ l.first;
   within : l.first ≤ length l.self.tokens.now;
-  reads : ElementsFrom l.depth (map element_of l.elements.items) (rest l.self l.fn.at) (rest l.self l.first);
-  runs : Goes (rest l.self l.fn.at) (elements l.depth ∷ []) (rest l.self l.first) (elements l.depth ∷ []);
+  reads : ElementsFrom l.depth (map element_of l.elements.items) (rest l.self l.fn.at)
+      (rest l.self l.first);
+  runs : Goes (rest l.self l.fn.at) (elements l.depth ∷ []) (rest l.self l.first)
+      (elements l.depth ∷ []);
 }
 
 abbrev pub decreases-elements-loop-elements : goal.decreases-elements-loop-elements

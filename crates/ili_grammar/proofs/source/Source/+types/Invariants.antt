@@ -27,8 +27,10 @@ abbrev pub invariant-attributes-attributes : goal.invariant-attributes-attribute
 invariant-attributes-attributes l = record {
   further : l.fn.at ≤ l.first;
   within : l.first ≤ length l.self.tokens.now;
-  reads : AttributesFrom l.depth (map attribute_of l.attributes.items) (rest l.self l.fn.at) (rest l.self l.first);
-  runs : Goes (rest l.self l.fn.at) (attributes l.depth ∷ []) (rest l.self l.first) (attributes l.depth ∷ []);
+  reads : AttributesFrom l.depth (map attribute_of l.attributes.items) (rest l.self l.fn.at)
+      (rest l.self l.first);
+  runs : Goes (rest l.self l.fn.at) (attributes l.depth ∷ []) (rest l.self l.first)
+      (attributes l.depth ∷ []);
 }
 
 abbrev pub decreases-attributes-attributes : goal.decreases-attributes-attributes

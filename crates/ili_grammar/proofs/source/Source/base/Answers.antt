@@ -12,13 +12,22 @@ pub returns-then-not-is_keyword-clause-reads : goal.returns-then-not-is_keyword-
 returns-then-not-is_keyword-clause-reads c = no_base (rest c.args.self.now c.args.at)
 
 pub returns-clause-reads : goal.returns-clause-reads
-returns-clause-reads c = base_read (rest c.args.self.now c.args.at) (rest c.args.self.now (c.args.at + 1)) (rest c.args.self.now c.in_ok-next.next) c.if-not-is_keyword.ensures.here c.in_ok-next.ensures.reads
+returns-clause-reads c =
+    base_read (rest c.args.self.now c.args.at) (rest c.args.self.now (c.args.at + 1))
+    (rest c.args.self.now c.in_ok-next.next) c.if-not-is_keyword.ensures.here
+    c.in_ok-next.ensures.reads
 
 pub returns-then-not-is_keyword-clause-runs : goal.returns-then-not-is_keyword-clause-runs
-returns-then-not-is_keyword-clause-runs c = no_base_at (rest c.args.self.now c.args.at) c.if-not-is_keyword.ensures.here
+returns-then-not-is_keyword-clause-runs c =
+    no_base_at (rest c.args.self.now c.args.at) c.if-not-is_keyword.ensures.here
 
 pub returns-in_err-next-clause-stops : goal.returns-in_err-next-clause-stops
-returns-in_err-next-clause-stops c = handed _ _ _ c.from_residual.ensures.1 (within _ (by_token maybe_base (word BASE) (want explanation ∷ []) _ _ (λ i. refl) c.if-not-is_keyword.ensures.here) c.in_err-next.ensures.stops)
+returns-in_err-next-clause-stops c =
+    handed _ _ _ c.from_residual.ensures.1
+    (within _ (by_token maybe_base (word BASE) (want explanation ∷ []) _ _
+    (λ i. refl) c.if-not-is_keyword.ensures.here) c.in_err-next.ensures.stops)
 
 pub returns-clause-runs : goal.returns-clause-runs
-returns-clause-runs c = by_way _ (by_token maybe_base (word BASE) (want explanation ∷ []) _ _ (λ i. refl) c.if-not-is_keyword.ensures.here) c.in_ok-next.ensures.runs
+returns-clause-runs c =
+    by_way _ (by_token maybe_base (word BASE) (want explanation ∷ []) _ _
+    (λ i. refl) c.if-not-is_keyword.ensures.here) c.in_ok-next.ensures.runs

@@ -9,7 +9,8 @@ abbrev pub invariant-body : goal.invariant-body
 invariant-body l = record {
   further : l.fn.at ≤ l.first;
   within : l.first ≤ length l.self.tokens.now;
-  reads : BodyFrom (domains_of l.domains.items) (tables_of l.tables.items) (rest l.self l.fn.at) (rest l.self l.first);
+  reads : BodyFrom (domains_of l.domains.items) (tables_of l.tables.items) (rest l.self l.fn.at)
+      (rest l.self l.first);
   runs : Goes (rest l.self l.fn.at) (body 32 ∷ []) (rest l.self l.first) (body 32 ∷ []);
 }
 

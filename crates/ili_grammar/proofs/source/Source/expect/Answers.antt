@@ -8,4 +8,6 @@ pub returns-then-is-clause-runs : goal.returns-then-is-clause-runs
 returns-then-is-clause-runs c = goes_want (kind_of c.args.kind) _ _ c.if-is.ensures.here
 
 pub returns-clause-stops : goal.returns-clause-stops
-returns-clause-stops c = stops_want (all c.args.self.now) (rest c.args.self.now c.args.at) (kind_of c.args.kind) _ c.requires c.if-is.ensures.here c.fault.ensures
+returns-clause-stops c =
+    stops_want (all c.args.self.now) (rest c.args.self.now c.args.at)
+    (kind_of c.args.kind) _ c.requires c.if-is.ensures.here c.fault.ensures

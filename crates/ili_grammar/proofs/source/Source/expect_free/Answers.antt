@@ -8,4 +8,6 @@ pub returns-then-is_keyword-clause-runs : goal.returns-then-is_keyword-clause-ru
 returns-then-is_keyword-clause-runs c = goes_want (word FREE) _ _ c.if-is_keyword.ensures.here
 
 pub returns-clause-stops : goal.returns-clause-stops
-returns-clause-stops c = stops_free (all c.args.self.now) (rest c.args.self.now c.args.at) _ c.if-is_keyword.ensures.here c.fault.ensures
+returns-clause-stops c =
+    stops_free (all c.args.self.now) (rest c.args.self.now c.args.at) _ c.if-is_keyword.ensures.here
+    c.fault.ensures

@@ -12,11 +12,13 @@ returns-in-Ok-clause-reads c =
     let r = c.in_ok-next.ensures.reads in
     let t = get_or c.args.self.now.tokens.now c.args.at nothing in
     let same = c.in-Ok.ensures ∙ c.bytes.ensures in
-    let e = info_here c.args.self.now.text.now c.args.self.now.tokens.now c.args.at name r.0 (rest c.args.self.now c.in_ok-next.next) c.in_ok-next.ensures.within.1 r.1 in
+    let e = info_here c.args.self.now.text.now c.args.self.now.tokens.now c.args.at name r.0
+    (rest c.args.self.now c.in_ok-next.next) c.in_ok-next.ensures.within.1 r.1 in
     (r.0, r.1, (λ z. record { text = same z; line = t.line; column = t.column }) ∙ ap ident e)
 
 pub returns-in-Err-clause-stops : goal.returns-in-Err-clause-stops
-returns-in-Err-clause-stops c = no_memory (all c.args.self.now) (rest c.args.self.now c.args.at) (want name ∷ []) _ refl
+returns-in-Err-clause-stops c =
+    no_memory (all c.args.self.now) (rest c.args.self.now c.args.at) (want name ∷ []) _ refl
 
 pub returns-in-Ok-clause-runs : goal.returns-in-Ok-clause-runs
 returns-in-Ok-clause-runs c = c.in_ok-next.ensures.runs

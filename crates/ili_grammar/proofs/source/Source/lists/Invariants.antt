@@ -11,7 +11,8 @@ invariant-lists l = record {
   further : l.fn.at < l.first;
   within : l.first ≤ length l.self.tokens.now;
   reads : ListsFrom (lists_of l.lists.items) (rest l.self l.fn.at) (rest l.self l.first);
-  runs : Goes (rest l.self l.fn.at) (name_list ∷ want semicolon ∷ lists ∷ []) (rest l.self l.first) (lists ∷ []);
+  runs : Goes (rest l.self l.fn.at) (name_list ∷ want semicolon ∷ lists ∷ []) (rest l.self l.first)
+      (lists ∷ []);
 }
 
 abbrev pub decreases-lists : goal.decreases-lists

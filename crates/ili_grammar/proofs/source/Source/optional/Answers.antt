@@ -10,10 +10,14 @@ pub returns-then-is_keyword-clause-past : goal.returns-then-is_keyword-clause-pa
 returns-then-is_keyword-clause-past c = past_it (word OPTIONAL) _ _ c.if-is_keyword.ensures.here
 
 pub returns-clause-past : goal.returns-clause-past
-returns-clause-past c = not_past (word OPTIONAL) (rest c.args.self.now c.args.at) c.if-is_keyword.ensures.here
+returns-clause-past c =
+    not_past (word OPTIONAL) (rest c.args.self.now c.args.at) c.if-is_keyword.ensures.here
 
 pub returns-then-is_keyword-clause-content : goal.returns-then-is_keyword-clause-content
-returns-then-is_keyword-clause-content c d = by_token (first_content d) (word OPTIONAL) (content d ∷ []) _ _ (λ i. refl) c.if-is_keyword.ensures.here
+returns-then-is_keyword-clause-content c d =
+    by_token (first_content d) (word OPTIONAL) (content d ∷ []) _ _
+    (λ i. refl) c.if-is_keyword.ensures.here
 
 pub returns-clause-content : goal.returns-clause-content
-returns-clause-content c d = not_optional d (rest c.args.self.now c.args.at) c.if-is_keyword.ensures.here
+returns-clause-content c d =
+    not_optional d (rest c.args.self.now c.args.at) c.if-is_keyword.ensures.here

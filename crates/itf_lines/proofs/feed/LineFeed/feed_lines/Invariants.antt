@@ -7,7 +7,8 @@ use Rattle.itf_lines.proofs.feed.LineFeed.feed_lines.Given as goal
 abbrev pub invariant-loop-line : goal.invariant-loop-line
 invariant-loop-line l = record {
   within : l.at ≤ length l.piece;
-  adds : Adds (lines_view l.fn.into.items) l.fn.self l.piece (lines_view l.into.items) l.self (drop l.at l.piece);
+  adds : Adds (lines_view l.fn.into.items) l.fn.self l.piece (lines_view l.into.items) l.self
+      (drop l.at l.piece);
   few : l.self.ended ≤ l.fn.self.ended + l.at;
 }
 

@@ -10,4 +10,6 @@ returns c =
     let fields = c.push.new.self.items in
     let last = c.len-last.result - 1 in
     let i : last ≡ length fields - 1 = omega arith in
-    on_ok_weaker c.set.result (λ e. rw e (last_filled h fields c.empty.result c.args.field.now last c.in_ok-push.ensures.items i)) c.set.ensures.set
+    on_ok_weaker c.set.result
+    (λ e. rw e (last_filled h fields c.empty.result c.args.field.now last
+    c.in_ok-push.ensures.items i)) c.set.ensures.set

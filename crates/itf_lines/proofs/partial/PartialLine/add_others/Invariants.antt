@@ -8,7 +8,8 @@ use Rattle.itf_lines.proofs.partial.PartialLine.add_others.Given as goal
 abbrev pub invariant-loop-rest : goal.invariant-loop-rest
 invariant-loop-rest l = record {
   front : IsTrue (begins_with_field l.rest);
-  fields : with_others (open_line_view l.self) (fields l.rest) ≡ with_others (open_line_view l.fn.self) (fields l.text);
+  fields : with_others (open_line_view l.self) (fields l.rest)
+      ≡ with_others (open_line_view l.fn.self) (fields l.text);
 }
 
 abbrev pub decreases-loop-rest : goal.decreases-loop-rest

@@ -11,9 +11,12 @@ invariant-loop-column l = record {
   number : l.number ≡ l.column-index + 1;
   counted : length l.rest ≡ widths (columns_view (drop l.column-index l.columns));
   cells :
-      cells_view l.cells.items ++ cells_of (codes_of l.codes) (columns_view (drop l.column-index l.columns)) l.rest
+      cells_view l.cells.items ++ cells_of (codes_of l.codes)
+      (columns_view (drop l.column-index l.columns)) l.rest
       ≡ cells_view l.fn.cells.items ++ cells_of (codes_of l.codes) (columns_view l.columns) l.words;
   findings :
-      findings_of l.findings.items ++ columns_findings (codes_of l.codes) l.line l.number (columns_view (drop l.column-index l.columns)) l.rest
-      ≡ findings_of l.fn.findings.items ++ columns_findings (codes_of l.codes) l.line 1 (columns_view l.columns) l.words;
+      findings_of l.findings.items ++ columns_findings (codes_of l.codes) l.line l.number
+      (columns_view (drop l.column-index l.columns)) l.rest
+      ≡ findings_of l.fn.findings.items
+      ++ columns_findings (codes_of l.codes) l.line 1 (columns_view l.columns) l.words;
 }

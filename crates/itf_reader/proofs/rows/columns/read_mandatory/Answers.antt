@@ -11,10 +11,12 @@ use Rattle.itf_reader.proofs.rows.columns.read_mandatory.Goals as goal
 pub returns-in-Ok-clause-code : goal.returns-in-Ok-clause-code
 returns-in-Ok-clause-code c =
     let words = c.args.words.now in
-    code_ok (field_fault (form_of c.args.form.now) (codes_of c.args.codes.now) words) (value_of (form_of c.args.form.now) words) (value_view words c.in-Ok.value) c.in-Ok.ensures
+    code_ok (field_fault (form_of c.args.form.now) (codes_of c.args.codes.now) words)
+    (value_of (form_of c.args.form.now) words) (value_view words c.in-Ok.value) c.in-Ok.ensures
 
 pub returns-in-Err-clause-code : goal.returns-in-Err-clause-code
 returns-in-Err-clause-code c =
     let words = c.args.words.now in
     ap (λ (k : Code). Some k) c.code_of.ensures
-    ∙ code_err (field_fault (form_of c.args.form.now) (codes_of c.args.codes.now) words) (value_of (form_of c.args.form.now) words) c.in-Err.fault c.in-Err.ensures
+    ∙ code_err (field_fault (form_of c.args.form.now) (codes_of c.args.codes.now) words)
+    (value_of (form_of c.args.form.now) words) c.in-Err.fault c.in-Err.ensures

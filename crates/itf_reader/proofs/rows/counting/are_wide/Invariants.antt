@@ -4,4 +4,6 @@ use Rattle.itf_reader.specs.RowFindings.{widths}
 use Rattle.itf_reader.proofs.rows.counting.are_wide.Given as goal
 
 abbrev pub invariant-loop-column : goal.invariant-loop-column
-invariant-loop-column l = eqb l.left (widths (columns_view (drop l.column-index l.columns))) ≡ eqb l.words (widths (columns_view l.columns))
+invariant-loop-column l =
+    eqb l.left (widths (columns_view (drop l.column-index l.columns)))
+    ≡ eqb l.words (widths (columns_view l.columns))

@@ -17,9 +17,15 @@ invariant-loop-form l =
       is_finite : (goal.iterator-loop-form).is_finite l.form-iterator;
       column : l.column + length (iter_rest (zip_first l.form-iterator)) ≡ l.first + length l.forms;
       cells : l.values.cells.items ≡ l.fn.values.cells.items;
-      vertices : vertices_view l.values.vertices.items ++ lines_vertices forms rest ≡ vertices_view l.fn.values.vertices.items ++ lines_vertices (lines_view l.forms) (strokes_of l.strokes);
-      heights : l.values.heights.items ++ lines_heights forms rest ≡ l.fn.values.heights.items ++ lines_heights (lines_view l.forms) (strokes_of l.strokes);
+      vertices : vertices_view l.values.vertices.items ++ lines_vertices forms rest
+          ≡ vertices_view l.fn.values.vertices.items
+          ++ lines_vertices (lines_view l.forms) (strokes_of l.strokes);
+      heights : l.values.heights.items ++ lines_heights forms rest
+          ≡ l.fn.values.heights.items ++ lines_heights (lines_view l.forms) (strokes_of l.strokes);
       findings :
-          findings_of l.findings.items ++ lines_findings (role_view l.role) l.line l.column forms rest
-          ≡ findings_of l.fn.findings.items ++ lines_findings (role_view l.role) l.line l.first (lines_view l.forms) (strokes_of l.strokes);
+          findings_of l.findings.items ++ lines_findings
+          (role_view l.role) l.line l.column forms rest
+          ≡ findings_of l.fn.findings.items
+          ++ lines_findings (role_view l.role) l.line l.first (lines_view l.forms)
+          (strokes_of l.strokes);
     }

@@ -5,4 +5,7 @@ use Rattle.itf_reader.specs.RowReadings.{vertices_view}
 use Rattle.itf_reader.proofs.rows.strokes.are_at.Given as goal
 
 abbrev pub invariant-loop-vertex : goal.invariant-loop-vertex
-invariant-loop-vertex l = list_all (λ v. is_same_place (place_view l.fn.place) v.at) (vertices_view (drop l.vertex-index l.vertices)) ≡ list_all (λ v. is_same_place (place_view l.fn.place) v.at) (vertices_view l.vertices)
+invariant-loop-vertex l =
+    list_all (λ v. is_same_place (place_view l.fn.place) v.at)
+    (vertices_view (drop l.vertex-index l.vertices))
+    ≡ list_all (λ v. is_same_place (place_view l.fn.place) v.at) (vertices_view l.vertices)

@@ -14,10 +14,13 @@ invariant-loop-vertex l =
     let all = slice_of l.vertices in
     record {
       clean : (l.clean && are_clean line rest) ≡ are_clean line all;
-      vertices : vertices_view l.values.vertices.items ++ sound_vertices line rest ≡ vertices_view l.fn.values.vertices.items ++ sound_vertices line all;
-      heights : l.values.heights.items ++ sound_heights line rest ≡ l.fn.values.heights.items ++ sound_heights line all;
+      vertices : vertices_view l.values.vertices.items ++ sound_vertices line rest
+          ≡ vertices_view l.fn.values.vertices.items ++ sound_vertices line all;
+      heights : l.values.heights.items ++ sound_heights line rest
+          ≡ l.fn.values.heights.items ++ sound_heights line all;
       cells : l.values.cells.items ≡ l.fn.values.cells.items;
-      findings : findings_of l.findings.items ++ flat_map (vertex_finding line l.column) rest ≡ findings_of l.fn.findings.items ++ flat_map (vertex_finding line l.column) all;
+      findings : findings_of l.findings.items ++ flat_map (vertex_finding line l.column) rest
+          ≡ findings_of l.fn.findings.items ++ flat_map (vertex_finding line l.column) all;
     }
 
 abbrev pub decreases-loop-vertex : goal.decreases-loop-vertex

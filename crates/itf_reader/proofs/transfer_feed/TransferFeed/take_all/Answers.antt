@@ -10,11 +10,16 @@ use Rattle.itf_reader.proofs.transfer_feed.TransferFeed.take_all.Goals as goal
 
 pub returns-clause-at : goal.returns-clause-at
 returns-clause-at c =
-    at_by c.take_lines.result (form_of (layout_view c.args.layout.now)) (form_in c.in_ok-names.names) c.take_lines.new.self.at c.args.self.now.at c.self.inside.feed.at (lines_view c.args.lines.now)
+    at_by c.take_lines.result (form_of (layout_view c.args.layout.now))
+    (form_in c.in_ok-names.names) c.take_lines.new.self.at c.args.self.now.at
+    c.self.inside.feed.at (lines_view c.args.lines.now)
     c.in_ok-names.ensures (ap (λ (s : TransferState). s.at) c.self.view_is) c.take_lines.ensures.at
 
 pub returns-clause-rows : goal.returns-clause-rows
 returns-clause-rows c =
-    rows_by c.take_lines.result (form_of (layout_view c.args.layout.now)) (form_in c.in_ok-names.names) c.take_lines.new.self.rows c.args.self.now.rows (read_rows c.self.inside.tables)
+    rows_by c.take_lines.result (form_of (layout_view c.args.layout.now))
+    (form_in c.in_ok-names.names) c.take_lines.new.self.rows c.args.self.now.rows
+    (read_rows c.self.inside.tables)
     c.args.self.now.at c.self.inside.feed.at (lines_view c.args.lines.now)
-    c.in_ok-names.ensures (ap (λ (s : TransferState). s.at) c.self.view_is) (ap (λ (s : TransferState). s.rows) c.self.view_is) c.take_lines.ensures.rows
+    c.in_ok-names.ensures (ap (λ (s : TransferState). s.at) c.self.view_is)
+    (ap (λ (s : TransferState). s.rows) c.self.view_is) c.take_lines.ensures.rows

@@ -5,7 +5,8 @@ use Rattle.itf_reader.proofs.transfer_feed.placing.put.Goals as goal
 
 pub returns-in_ok-put_in_front : goal.returns-in_ok-put_in_front
 returns-in_ok-put_in_front c =
-    put_at c.args.tables.now (read_table_view c.args.read) c.index-tables-place.result c.put_in_front.new.table (search rules) c.in_ok-put_in_front.ensures
+    put_at c.args.tables.now (read_table_view c.args.read) c.index-tables-place.result
+    c.put_in_front.new.table (search rules) c.in_ok-put_in_front.ensures
 
 pub returns-else-place-tables : goal.returns-else-place-tables
 returns-else-place-tables c =

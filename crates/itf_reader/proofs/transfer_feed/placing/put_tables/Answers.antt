@@ -4,7 +4,10 @@ use Rattle.itf_reader.proofs.Placed.{table_taken, tables_ended}
 use Rattle.itf_reader.proofs.transfer_feed.placing.put_tables.Goals as goal
 
 pub loop-table-preserved : goal.loop-table-preserved
-loop-table-preserved c = table_taken c.loop-table.left.items c.pop.new.self.items c.in-Some.table (tables_rows_of c.loop-table.tables) _ _ c.in-Some.ensures.items c.in_ok-put.ensures c.loop-table.invariant
+loop-table-preserved c =
+    table_taken c.loop-table.left.items c.pop.new.self.items c.in-Some.table
+    (tables_rows_of c.loop-table.tables) _ _ c.in-Some.ensures.items c.in_ok-put.ensures
+    c.loop-table.invariant
 
 pub returns : goal.returns
 returns c =

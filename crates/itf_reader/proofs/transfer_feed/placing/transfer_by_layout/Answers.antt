@@ -14,9 +14,16 @@ returns c =
     let e : c.len.result ≡ length c.args.layout.now.tables.items = search rules in
     let front = all_pairs (read_tables_view c.args.read.tables.items) in
     let back = pairs (read_table_view c.args.read.last) in
-    let v = with_items_is c.in_ok-tables.tables c.put.new.tables (c.put.auto.tables ∙ c.deref_mut.ensures.len) in
-    let w = with_items_is (with_items c.in_ok-tables.tables c.put.new.tables) c.put_tables.new.tables (c.put_tables.auto.tables ∙ c.deref_mut-2.ensures.len) in
-    let over = ap (λ (ts : List TableRows). with_rows 0 back (tables_rows_of ts)) c.deref_mut.ensures.value in
+    let v = with_items_is c.in_ok-tables.tables c.put.new.tables (c.put.auto.tables
+    ∙ c.deref_mut.ensures.len) in
+    let w = with_items_is (with_items c.in_ok-tables.tables c.put.new.tables)
+    c.put_tables.new.tables (c.put_tables.auto.tables ∙ c.deref_mut-2.ensures.len) in
+    let over = ap (λ (ts : List TableRows). with_rows 0 back (tables_rows_of ts))
+    c.deref_mut.ensures.value in
     let first = c.in_ok-put.ensures ∙ over in
-    let second = c.in_ok-put_tables.ensures ∙ ap (λ (ts : List TableRows). with_rows 0 front (tables_rows_of ts)) (c.deref_mut-2.ensures.value ∙ v) in
-    all_placed c.args.layout.now front back (tables_rows_of c.in_ok-tables.tables.items) _ c.len.result e c.in_ok-tables.ensures (ap tables_rows_of w ∙ (second ∙ ap (with_rows 0 front) first))
+    let second = c.in_ok-put_tables.ensures
+    ∙ ap (λ (ts : List TableRows). with_rows 0 front (tables_rows_of ts))
+    (c.deref_mut-2.ensures.value ∙ v) in
+    all_placed c.args.layout.now front back
+    (tables_rows_of c.in_ok-tables.tables.items) _ c.len.result e c.in_ok-tables.ensures
+    (ap tables_rows_of w ∙ (second ∙ ap (with_rows 0 front) first))

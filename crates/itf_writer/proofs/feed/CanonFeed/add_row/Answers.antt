@@ -16,7 +16,8 @@ returns c =
     let n = c.args.table.0 in
     on_ok c.add_at.result
     (λ k rows h.
-    ap held_in (with_items_is c.args.self.now.tables c.add_at.new.tables (c.add_at.auto.tables ∙ c.deref_mut.ensures.len))
+    ap held_in (with_items_is c.args.self.now.tables c.add_at.new.tables (c.add_at.auto.tables
+    ∙ c.deref_mut.ensures.len))
     ∙ (k (by_table (form_of l) rows) (ap held_in c.deref_mut.ensures.value ∙ h)
     ∙ ap (map (rows_held l.codes.continued)) (sym (row_came (form_of l) n rows r))))
     c.add_at.ensures

@@ -16,8 +16,11 @@ use Rattle.itf_writer.proofs.feed.CanonFeed.finish.Goals as goal
 
 pub add_tables-requires-clause-by_topic : goal.add_tables-requires-clause-by_topic
 add_tables-requires-clause-by_topic c =
-    subst (λ (ts : List Table). AreByTopic 0 (length c.deref.result.now) (tables_view ts)) (sym c.deref-2.ensures.value)
-    (subst (λ (ns : List (List ℕ)). AreByTopic 0 (length ns) (tables_view c.args.layout.now.tables.items)) (sym c.deref.ensures.value) c.requires.valid.by_topic)
+    subst (λ (ts : List Table). AreByTopic 0 (length c.deref.result.now) (tables_view ts))
+    (sym c.deref-2.ensures.value)
+    (subst (λ (ns : List (List ℕ)). AreByTopic 0 (length ns)
+    (tables_view c.args.layout.now.tables.items))
+    (sym c.deref.ensures.value) c.requires.valid.by_topic)
 
 pub add_tables-requires-clause-all : goal.add_tables-requires-clause-all
 add_tables-requires-clause-all c =
@@ -25,7 +28,8 @@ add_tables-requires-clause-all c =
     let fed = c.requires.fed in
     ap length c.deref_mut.ensures.value
     ∙ (as_many l.codes.continued c.args.self.tables.items (by_table (form_of l) fed.0) fed.1
-    ∙ (table_count 0 c.args.layout.now.tables.items fed.0 ∙ ap length (sym c.deref-2.ensures.value)))
+    ∙ (table_count 0 c.args.layout.now.tables.items fed.0
+    ∙ ap length (sym c.deref-2.ensures.value)))
 
 pub returns : goal.returns
 returns c rows h =
@@ -40,10 +44,16 @@ returns c rows h =
     let e = line Emod 0 [] in
     let f = line Ende 0 [] in
     let ts = topics_lines 0 topics (map wanted_of (tables_view tables)) transfer in
-    let all : topics_lines 0 c.deref.result.now (map wanted_of (tables_view c.deref-2.result.now)) transfer ≡ ts =
-    ap (λ (ns : List (List ℕ)). topics_lines 0 ns (map wanted_of (tables_view c.deref-2.result.now)) transfer) c.deref.ensures.value
-    ∙ ap (λ (xs : List Table). topics_lines 0 topics (map wanted_of (tables_view xs)) transfer) c.deref-2.ensures.value in
-    let put = c.in_ok-add_tables.ensures transfer (ap held_in c.deref_mut.ensures.value ∙ h) ∙ ap (λ ls. c.add_head.new.text ++ lines_text code ls) all in
-    parts_of c.in_ok-text.text c.add_head.new.text c.add_tables.new.text c.add_foot.new.text head (line_text code a) (line_text code b) (lines_text code ts) (line_text code e) (line_text code f)
+    let all : topics_lines 0 c.deref.result.now
+    (map wanted_of (tables_view c.deref-2.result.now)) transfer ≡ ts =
+    ap (λ (ns : List (List ℕ)). topics_lines 0 ns
+    (map wanted_of (tables_view c.deref-2.result.now)) transfer) c.deref.ensures.value
+    ∙ ap (λ (xs : List Table). topics_lines 0 topics (map wanted_of (tables_view xs)) transfer)
+    c.deref-2.ensures.value in
+    let put = c.in_ok-add_tables.ensures transfer (ap held_in c.deref_mut.ensures.value ∙ h)
+    ∙ ap (λ ls. c.add_head.new.text ++ lines_text code ls) all in
+    parts_of c.in_ok-text.text c.add_head.new.text c.add_tables.new.text c.add_foot.new.text head
+    (line_text code a) (line_text code b) (lines_text code ts) (line_text code e)
+    (line_text code f)
     c.in_ok-text.ensures c.in_ok-add_head.ensures put c.in_ok-add_foot.ensures
     ∙ text_is code head a b ts e f

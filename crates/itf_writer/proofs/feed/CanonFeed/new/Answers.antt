@@ -9,4 +9,5 @@ returns c =
     let l = layout_view c.args.layout.now in
     let n : c.len.result ≡ length c.args.layout.now.tables.items = search rules in
     c.in_ok-tables.ensures
-    ∙ (ap (λ (n : ℕ). replicate n (rows_held l.codes.continued [])) n ∙ none_held l.codes.continued 0 c.args.layout.now.tables.items)
+    ∙ (ap (λ (n : ℕ). replicate n (rows_held l.codes.continued [])) n
+    ∙ none_held l.codes.continued 0 c.args.layout.now.tables.items)

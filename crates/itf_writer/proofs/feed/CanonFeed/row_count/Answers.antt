@@ -5,4 +5,6 @@ use Rattle.itf_writer.specs.Feeds.{held_in}
 use Rattle.itf_writer.proofs.feed.CanonFeed.row_count.Goals as goal
 
 pub returns : goal.returns
-returns c l rows h = c.rows_at.ensures l.codes.continued (by_table (form_of l) rows) (ap held_in c.deref.ensures.value ∙ h)
+returns c l rows h =
+    c.rows_at.ensures l.codes.continued (by_table (form_of l) rows)
+    (ap held_in c.deref.ensures.value ∙ h)

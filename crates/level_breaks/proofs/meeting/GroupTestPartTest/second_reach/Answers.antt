@@ -2,4 +2,5 @@ use Rattle.level_breaks.proofs.PlacedGroups.{second_edged}
 use Rattle.level_breaks.proofs.meeting.GroupTestPartTest.second_reach.Goals as goal
 
 pub parts_reach-requires-clause-edged : goal.parts_reach-requires-clause-edged
-parts_reach-requires-clause-edged c = second_edged c.args.self.now.one c.args.self.now.other c.requires.can
+parts_reach-requires-clause-edged c =
+    second_edged c.args.self.now.one c.args.self.now.other c.requires.can

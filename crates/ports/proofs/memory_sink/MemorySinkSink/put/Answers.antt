@@ -14,14 +14,16 @@ returns-then-is_ok-clause-space c =
       calls = c.count_call-listed.new.calls;
       faults = c.self.inside.faults;
     }) in
-    output_fell (length c.args.bytes.now) c.args.self.now now (search rules) (search rules) (returns-then-is_ok-clause-room c)
+    output_fell (length c.args.bytes.now) c.args.self.now now (search rules) (search rules)
+    (returns-then-is_ok-clause-room c)
 
 pub returns-clause-unlisted : goal.returns-clause-unlisted
 returns-clause-unlisted c = search rules
 
 pub returns-clause-answers : goal.returns-clause-answers
 returns-clause-answers c h =
-    let sure = room_sure (length c.args.bytes.now) c.args.self.now.calls c.args.self.now.listed (Some c.args.self.now.room) h in
+    let sure = room_sure (length c.args.bytes.now) c.args.self.now.calls c.args.self.now.listed
+    (Some c.args.self.now.room) h in
     returns-clause-unlisted c sure.0 sure.1
 
 pub returns-clause-calls : goal.returns-clause-calls
@@ -41,4 +43,5 @@ returns-clause-space c =
       calls = c.else-not-listed.self-inside.calls;
       faults = c.saturating_add-self-inside.result;
     }) in
-    output_fell (length c.args.bytes.now) c.args.self.now now (returns-clause-calls c) (returns-clause-list c) (returns-clause-room c)
+    output_fell (length c.args.bytes.now) c.args.self.now now (returns-clause-calls c)
+    (returns-clause-list c) (returns-clause-room c)

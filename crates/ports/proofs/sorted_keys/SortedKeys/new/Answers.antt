@@ -10,6 +10,9 @@ returns g c =
     let keys = map g.K.Keyed.key c.args.keys.now in
     let compares = always_returns_same _ _ _ (λ a r f' k. search rules) in
     merely (record {
-      listed = IsListed-sorted keys c.shared_by_all-skip.result c.in_ok-ranked.ranked.items c.sort_unstable_by.new.self.items c.sort_unstable_by.ensures.permutation c.in_ok-ranked.ensures;
-      ascending = c.sort_unstable_by.ensures.sorted (is_before keys) (is_before_ranks keys) compares;
+      listed = IsListed-sorted keys c.shared_by_all-skip.result c.in_ok-ranked.ranked.items
+          c.sort_unstable_by.new.self.items c.sort_unstable_by.ensures.permutation
+          c.in_ok-ranked.ensures;
+      ascending = c.sort_unstable_by.ensures.sorted (is_before keys)
+          (is_before_ranks keys) compares;
     })

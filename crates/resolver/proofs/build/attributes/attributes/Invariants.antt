@@ -9,6 +9,8 @@ use Rattle.resolver.proofs.build.attributes.attributes.Given as goal
 
 abbrev pub invariant-loop-each : goal.invariant-loop-each
 invariant-loop-each l = record {
-  resolved : map resolved_attribute l.done.items ++ listed (attributes (scope_of l.scope) (attributes_of (drop l.each-index l.written))) ≡ listed (attributes (scope_of l.scope) (attributes_of l.written));
+  resolved : map resolved_attribute l.done.items
+      ++ listed (attributes (scope_of l.scope) (attributes_of (drop l.each-index l.written)))
+      ≡ listed (attributes (scope_of l.scope) (attributes_of l.written));
   bounded : AreBounded (attributes_of (drop l.each-index l.written));
 }

@@ -9,6 +9,9 @@ use Rattle.resolver.proofs.build.attributes.line_attributes.Given as goal
 
 abbrev pub invariant-loop-attribute : goal.invariant-loop-attribute
 invariant-loop-attribute l = record {
-  resolved : map resolved_attribute l.done.items ++ listed (line_attributes (scope_of l.scope) (attributes_of (drop l.attribute-index l.attributes))) ≡ listed (line_attributes (scope_of l.scope) (attributes_of l.attributes));
+  resolved : map resolved_attribute l.done.items
+      ++ listed (line_attributes (scope_of l.scope)
+      (attributes_of (drop l.attribute-index l.attributes)))
+      ≡ listed (line_attributes (scope_of l.scope) (attributes_of l.attributes));
   bounded : AreBounded (attributes_of (drop l.attribute-index l.attributes));
 }

@@ -12,6 +12,9 @@ use Rattle.resolver.proofs.build.forms.form.Goals as goal
 pub returns-in-Enumeration : goal.returns-in-Enumeration
 unfolding roll-TypeSyntax roll
 returns-in-Enumeration c =
-    counted_form (type_of c.args.counted.now.kind.now) (elements_of c.in-Enumeration.field-0.items) c.leaves.result
-    (ap type_of c.in-Enumeration.is ∙ fold-roll-TypeSyntax Content TypeSyntax AttributeSyntax LineSyntax content_step type_step attribute_step line_step (opened.Enumeration c.in-Enumeration.field-0))
+    counted_form (type_of c.args.counted.now.kind.now)
+    (elements_of c.in-Enumeration.field-0.items) c.leaves.result
+    (ap type_of c.in-Enumeration.is
+    ∙ fold-roll-TypeSyntax Content TypeSyntax AttributeSyntax LineSyntax content_step type_step
+    attribute_step line_step (opened.Enumeration c.in-Enumeration.field-0))
     c.leaves.ensures c.requires.names

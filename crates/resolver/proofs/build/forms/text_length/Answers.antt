@@ -15,15 +15,19 @@ fits n le = fits_in w64 (pos n) (omega (arith, ints, le))
 
 digits_back : (d : Decimal) → is_text_length d ≡ true
     → to_z w64 (of_z w64 d.digits) ≡ pos (text_length d)
-digits_back d e = let h = length_kept d e in to_z-of_z (subst (FitsSigned w64) (sym h.value) (fits (text_length d) h.few)) ∙ h.value
+digits_back d e =
+    let h = length_kept d e in
+    to_z-of_z (subst (FitsSigned w64) (sym h.value) (fits (text_length d) h.few)) ∙ h.value
 
 pub overflow_cast-result : goal.overflow_cast-result
 overflow_cast-result c =
-    let e : is_text_length (decimal_of c.args.number) ≡ true = sym c.is_text_length.ensures ∙ c.if-not-is_text_length.false in
+    let e : is_text_length (decimal_of c.args.number) ≡ true = sym c.is_text_length.ensures
+    ∙ c.if-not-is_text_length.false in
     let few = (length_kept (decimal_of c.args.number) e).few in
     rw (digits_back (decimal_of c.args.number) e) (tt, omega (arith, few))
 
 pub returns : goal.returns
 returns c =
-    let e : is_text_length (decimal_of c.args.number) ≡ true = sym c.is_text_length.ensures ∙ c.if-not-is_text_length.false in
+    let e : is_text_length (decimal_of c.args.number) ≡ true = sym c.is_text_length.ensures
+    ∙ c.if-not-is_text_length.false in
     ap unsigned_abs (digits_back (decimal_of c.args.number) e)

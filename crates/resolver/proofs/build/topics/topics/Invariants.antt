@@ -6,4 +6,7 @@ use Rattle.resolver.specs.Values.{topics_of as built_topics}
 use Rattle.resolver.proofs.build.topics.topics.Given as goal
 
 abbrev pub invariant-loop-each : goal.invariant-loop-each
-invariant-loop-each l = built_topics l.done.items ++ map (topic (domains_in l.above)) (topics_of (drop l.each-index l.written)) ≡ map (topic (domains_in l.above)) (topics_of l.written)
+invariant-loop-each l =
+    built_topics l.done.items ++ map (topic (domains_in l.above))
+    (topics_of (drop l.each-index l.written))
+    ≡ map (topic (domains_in l.above)) (topics_of l.written)

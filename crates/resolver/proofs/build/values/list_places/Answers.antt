@@ -10,6 +10,11 @@ use Rattle.resolver.proofs.build.values.list_places.Goals as goal
 
 pub loop-name-preserved : goal.loop-name-preserved
 loop-name-preserved c =
-    next_pushed (λ (l : List ident.Ident). numbers (texts (names_in c.args.attributes.now)) (map ident_of l)) _ _ _ _ _ _ _ (λ rest. refl) c.deref-name-items.ensures.value c.loop-name-test.true c.name-item.is
-    (c.in_ok-push.ensures.items ∙ ap (λ (n : ℕ). c.loop-name.places.items ++ (n ∷ [])) (c.number.ensures ∙ ap (λ (t : List ℕ). unwrap_or (place t (texts (names_in c.args.attributes.now))) 0) c.bytes.ensures))
+    next_pushed (λ (l : List ident.Ident). numbers (texts (names_in c.args.attributes.now))
+    (map ident_of l)) _ _ _ _ _ _ _ (λ rest. refl) c.deref-name-items.ensures.value
+    c.loop-name-test.true c.name-item.is
+    (c.in_ok-push.ensures.items
+    ∙ ap (λ (n : ℕ). c.loop-name.places.items ++ (n ∷ [])) (c.number.ensures
+    ∙ ap (λ (t : List ℕ). unwrap_or (place t (texts (names_in c.args.attributes.now))) 0)
+    c.bytes.ensures))
     ∙ c.loop-name.invariant

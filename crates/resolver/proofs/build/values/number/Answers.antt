@@ -8,4 +8,9 @@ use Rattle.resolver.proofs.build.values.number.Goals as goal
 
 pub overflow_cast-result : goal.overflow_cast-result
 overflow_cast-result c =
-    omega (arith, place_below c.args.name.now (texts (names_in c.args.names.now)) c.in-Some.place c.in-Some.ensures, length-map (names_in c.args.names.now) (λ (n : Ident). n.text))
+    omega (
+      arith,
+      place_below c.args.name.now
+          (texts (names_in c.args.names.now)) c.in-Some.place c.in-Some.ensures,
+      length-map (names_in c.args.names.now) (λ (n : Ident). n.text),
+    )

@@ -8,4 +8,6 @@ use Rattle.resolver.proofs.rules.domains.check_types.Given as goal
 
 abbrev pub invariant-loop-domain : goal.invariant-loop-domain
 invariant-loop-domain l =
-    Leaves l.fn.earliest l.earliest (flat_map (domain_faults (scope_of l.scope)) (domains_at l.domains)) (flat_map (domain_faults (scope_of l.scope)) (domains_at (drop l.domain-index l.domains)))
+    Leaves l.fn.earliest l.earliest
+    (flat_map (domain_faults (scope_of l.scope)) (domains_at l.domains))
+    (flat_map (domain_faults (scope_of l.scope)) (domains_at (drop l.domain-index l.domains)))

@@ -8,4 +8,9 @@ use Rattle.resolver.proofs.rules.helpers.check_helpers.Given as goal
 
 abbrev pub invariant-loop-attribute : goal.invariant-loop-attribute
 invariant-loop-attribute l = (rest : List Entry) →
-    Leaves l.fn.earliest l.earliest (twice (keys l.fn.names) (helpers (scope_of l.scope) l.table.name.text (attributes_of l.table.attributes.items) ++ rest)) (twice (keys l.names) (helpers (scope_of l.scope) l.table.name.text (attributes_of (drop l.attribute-index l.table.attributes.items)) ++ rest))
+    Leaves l.fn.earliest l.earliest
+    (twice (keys l.fn.names)
+    (helpers (scope_of l.scope) l.table.name.text (attributes_of l.table.attributes.items)
+    ++ rest)) (twice (keys l.names)
+    (helpers (scope_of l.scope) l.table.name.text
+    (attributes_of (drop l.attribute-index l.table.attributes.items)) ++ rest))

@@ -14,15 +14,26 @@ use Rattle.resolver.proofs.rules.helpers.check_table_names.Goals as goal
 
 pub loop-table-preserved : goal.loop-table-preserved
 loop-table-preserved c = λ rest.
-    entries_told (table_entries (scope_of c.args.scope.now) (table_of c.table-item.result)) (flat_map (table_entries (scope_of c.args.scope.now)) (tables_of (drop (c.loop-table.table-index + 1) c.args.tables.now))) rest
-    (keys c.check_table_name.new.names) (keys c.loop-table.names) (fault_in c.loop-table.earliest) (fault_in c.check_table_name.new.earliest) c.in_ok-check_table_name.ensures
-    ∙ ap (λ (l : List table.TableSyntax). first_from (fault_in c.loop-table.earliest) (twice (keys c.loop-table.names) (flat_map (table_entries (scope_of c.args.scope.now)) (tables_of l) ++ rest)))
-    (sym (list_from c.loop-table.table-index c.args.tables.now c.args.tables.now c.table-item.result refl c.loop-table-test.true c.table-item.is))
+    entries_told (table_entries (scope_of c.args.scope.now) (table_of c.table-item.result))
+    (flat_map (table_entries (scope_of c.args.scope.now))
+    (tables_of (drop (c.loop-table.table-index + 1) c.args.tables.now))) rest
+    (keys c.check_table_name.new.names) (keys c.loop-table.names) (fault_in c.loop-table.earliest)
+    (fault_in c.check_table_name.new.earliest) c.in_ok-check_table_name.ensures
+    ∙ ap (λ (l : List table.TableSyntax). first_from (fault_in c.loop-table.earliest)
+    (twice (keys c.loop-table.names)
+    (flat_map (table_entries (scope_of c.args.scope.now)) (tables_of l) ++ rest)))
+    (sym (list_from c.loop-table.table-index c.args.tables.now c.args.tables.now c.table-item.result
+    refl c.loop-table-test.true c.table-item.is))
     ∙ c.loop-table.invariant rest
 
 pub returns : goal.returns
 returns c =
-    let all : drop c.loop-table.table-index c.args.tables.now ≡ [] = drop_all c.loop-table.table-index c.args.tables.now (omega arith) in
-    ap (λ (l : List table.TableSyntax). first_from (fault_in c.loop-table.earliest) (twice (keys c.loop-table.names) (flat_map (table_entries (scope_of c.args.scope.now)) (tables_of l) ++ []))) (sym all)
+    let all : drop c.loop-table.table-index c.args.tables.now
+    ≡ [] = drop_all c.loop-table.table-index c.args.tables.now (omega arith) in
+    ap (λ (l : List table.TableSyntax). first_from (fault_in c.loop-table.earliest)
+    (twice (keys c.loop-table.names)
+    (flat_map (table_entries (scope_of c.args.scope.now)) (tables_of l) ++ []))) (sym all)
     ∙ c.loop-table.invariant []
-    ∙ ap (λ (es : List Entry). first_from (fault_in c.args.earliest.now) (twice [] es)) (append-nil (flat_map (table_entries (scope_of c.args.scope.now)) (tables_of c.args.tables.now)))
+    ∙ ap (λ (es : List Entry). first_from (fault_in c.args.earliest.now) (twice [] es))
+    (append-nil (flat_map (table_entries (scope_of c.args.scope.now))
+    (tables_of c.args.tables.now)))

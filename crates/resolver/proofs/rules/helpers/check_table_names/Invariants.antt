@@ -9,4 +9,8 @@ use Rattle.resolver.proofs.rules.helpers.check_table_names.Given as goal
 
 abbrev pub invariant-loop-table : goal.invariant-loop-table
 invariant-loop-table l = (rest : List Entry) →
-    Leaves l.fn.earliest l.earliest (twice [] (flat_map (table_entries (scope_of l.scope)) (tables_of l.tables) ++ rest)) (twice (keys l.names) (flat_map (table_entries (scope_of l.scope)) (tables_of (drop l.table-index l.tables)) ++ rest))
+    Leaves l.fn.earliest l.earliest
+    (twice [] (flat_map (table_entries (scope_of l.scope)) (tables_of l.tables) ++ rest))
+    (twice (keys l.names)
+    (flat_map (table_entries (scope_of l.scope)) (tables_of (drop l.table-index l.tables))
+    ++ rest))

@@ -10,5 +10,8 @@ use Rattle.resolver.proofs.rules.names.check_listed_names.Goals as goal
 
 pub loop-name-preserved : goal.loop-name-preserved
 loop-name-preserved c =
-    told_over (λ (l : List ident.Ident). flat_map (no_attribute (texts (names_in c.args.attributes.now))) (map ident_of l)) _ _ _ _ _ _ _ (λ rest. refl) c.deref-name-items.ensures.value c.loop-name-test.true c.name-item.is c.check_listed_name.ensures
+    told_over (λ (l : List ident.Ident). flat_map
+    (no_attribute (texts (names_in c.args.attributes.now))) (map ident_of l)) _ _ _ _ _ _ _
+    (λ rest. refl) c.deref-name-items.ensures.value c.loop-name-test.true c.name-item.is
+    c.check_listed_name.ensures
     ∙ c.loop-name.invariant

@@ -9,4 +9,7 @@ use Rattle.resolver.proofs.rules.names.check_listed_names.Given as goal
 
 abbrev pub invariant-loop-name : goal.invariant-loop-name
 invariant-loop-name l =
-    Leaves l.fn.earliest l.earliest (flat_map (no_attribute (texts (names_in l.attributes))) (names_of l.list)) (flat_map (no_attribute (texts (names_in l.attributes))) (map ident_of (drop l.name-index l.list.names.items)))
+    Leaves l.fn.earliest l.earliest
+    (flat_map (no_attribute (texts (names_in l.attributes))) (names_of l.list))
+    (flat_map (no_attribute (texts (names_in l.attributes)))
+    (map ident_of (drop l.name-index l.list.names.items)))

@@ -9,5 +9,7 @@ use Rattle.resolver.proofs.rules.names.check_lists.Goals as goal
 
 pub loop-list-preserved : goal.loop-list-preserved
 loop-list-preserved c =
-    told_over (λ (l : List list.IdentList). lists_faults (texts (names_in c.args.attributes.now)) (lists_of l)) _ _ _ _ _ _ _ (λ rest. refl) refl c.loop-list-test.true c.list-item.is c.in_ok-check_list.ensures
+    told_over (λ (l : List list.IdentList). lists_faults (texts (names_in c.args.attributes.now))
+    (lists_of l)) _ _ _ _ _ _ _ (λ rest. refl) refl c.loop-list-test.true c.list-item.is
+    c.in_ok-check_list.ensures
     ∙ c.loop-list.invariant

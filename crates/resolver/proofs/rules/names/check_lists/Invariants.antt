@@ -8,4 +8,6 @@ use Rattle.resolver.proofs.rules.names.check_lists.Given as goal
 
 abbrev pub invariant-loop-list : goal.invariant-loop-list
 invariant-loop-list l =
-    Leaves l.fn.earliest l.earliest (lists_faults (texts (names_in l.attributes)) (lists_of l.lists)) (lists_faults (texts (names_in l.attributes)) (lists_of (drop l.list-index l.lists)))
+    Leaves l.fn.earliest l.earliest
+    (lists_faults (texts (names_in l.attributes)) (lists_of l.lists))
+    (lists_faults (texts (names_in l.attributes)) (lists_of (drop l.list-index l.lists)))

@@ -9,5 +9,6 @@ use Rattle.resolver.proofs.rules.numbers.check_numbers.Goals as goal
 
 pub returns-in-Dim1 : goal.returns-in-Dim1
 returns-in-Dim1 c =
-    subst (λ (ss : List Span). Reports c.args.earliest.now c.check_span.new.earliest (spans_faults (ident_of c.args.owner.now) (most_decimals ss) ss))
+    subst (λ (ss : List Span). Reports c.args.earliest.now c.check_span.new.earliest
+    (spans_faults (ident_of c.args.owner.now) (most_decimals ss) ss))
     (sym (one_span c.args.kind.now c.in-Dim1.span c.in-Dim1.is)) c.check_span.ensures

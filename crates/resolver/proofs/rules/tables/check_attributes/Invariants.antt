@@ -8,6 +8,8 @@ use Rattle.resolver.proofs.rules.tables.check_attributes.Given as goal
 
 abbrev pub invariant-loop-attribute : goal.invariant-loop-attribute
 invariant-loop-attribute l = record {
-  reported : Leaves l.fn.earliest l.earliest (attributes_faults (scope_of l.scope) (attributes_of l.attributes)) (attributes_faults (scope_of l.scope) (attributes_of (drop l.attribute-index l.attributes)));
+  reported : Leaves l.fn.earliest l.earliest
+      (attributes_faults (scope_of l.scope) (attributes_of l.attributes))
+      (attributes_faults (scope_of l.scope) (attributes_of (drop l.attribute-index l.attributes)));
   short : AreSmallAttributes (attributes_of (drop l.attribute-index l.attributes));
 }

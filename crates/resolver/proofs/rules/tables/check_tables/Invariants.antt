@@ -8,4 +8,5 @@ use Rattle.resolver.proofs.rules.tables.check_tables.Given as goal
 
 abbrev pub invariant-loop-table : goal.invariant-loop-table
 invariant-loop-table l =
-    Leaves l.fn.earliest l.earliest (tables_faults (scope_of l.scope) (tables_of l.tables)) (flat_map (table_faults (scope_of l.scope)) (tables_of (drop l.table-index l.tables)))
+    Leaves l.fn.earliest l.earliest (tables_faults (scope_of l.scope) (tables_of l.tables))
+    (flat_map (table_faults (scope_of l.scope)) (tables_of (drop l.table-index l.tables)))

@@ -10,9 +10,13 @@ use Rattle.resolver.proofs.ListLemmas.Viewed.{of_item}
 use Rattle.resolver.proofs.rules.topics.check_each.Goals as goal
 
 pub check_topic-requires-clause-topic : goal.check_topic-requires-clause-topic
-check_topic-requires-clause-topic c = of_item topic_of IsBoundedTopic c.args.topics.now c.loop-topic.topic-index c.topic-item.result c.requires.topics c.loop-topic-test.true c.topic-item.is
+check_topic-requires-clause-topic c =
+    of_item topic_of IsBoundedTopic c.args.topics.now c.loop-topic.topic-index c.topic-item.result
+    c.requires.topics c.loop-topic-test.true c.topic-item.is
 
 pub loop-topic-preserved : goal.loop-topic-preserved
 loop-topic-preserved c =
-    told_over (λ (l : List topic.TopicSyntax). flat_map (topic_faults (domains_in c.args.above.now)) (topics_of l)) _ _ _ _ _ _ _ (λ rest. refl) refl c.loop-topic-test.true c.topic-item.is c.in_ok-check_topic.ensures
+    told_over (λ (l : List topic.TopicSyntax). flat_map (topic_faults (domains_in c.args.above.now))
+    (topics_of l)) _ _ _ _ _ _ _ (λ rest. refl) refl c.loop-topic-test.true c.topic-item.is
+    c.in_ok-check_topic.ensures
     ∙ c.loop-topic.invariant

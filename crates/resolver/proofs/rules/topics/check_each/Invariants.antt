@@ -8,4 +8,6 @@ use Rattle.resolver.proofs.rules.topics.check_each.Given as goal
 
 abbrev pub invariant-loop-topic : goal.invariant-loop-topic
 invariant-loop-topic l =
-    Leaves l.fn.earliest l.earliest (flat_map (topic_faults (domains_in l.above)) (topics_of l.topics)) (flat_map (topic_faults (domains_in l.above)) (topics_of (drop l.topic-index l.topics)))
+    Leaves l.fn.earliest l.earliest
+    (flat_map (topic_faults (domains_in l.above)) (topics_of l.topics))
+    (flat_map (topic_faults (domains_in l.above)) (topics_of (drop l.topic-index l.topics)))

@@ -7,4 +7,5 @@ use Rattle.resolver.proofs.rules.types.+check_parts.Given as goal
 
 abbrev pub invariant-loop-part : goal.invariant-loop-part
 invariant-loop-part l =
-    Leaves l.fn.earliest l.earliest (element_faults (element_of l.element)) (parts_faults (elements_of (drop l.part-index (out-Element l.element).parts.items)))
+    Leaves l.fn.earliest l.earliest (element_faults (element_of l.element))
+    (parts_faults (elements_of (drop l.part-index (out-Element l.element).parts.items)))

@@ -9,6 +9,9 @@ use Rattle.resolver.proofs.rules.types.+rules.Given as goal
 
 abbrev pub invariant-check_line-loop-attribute : goal.invariant-check_line-loop-attribute
 invariant-check_line-loop-attribute l = record {
-  reported : Leaves l.fn.earliest l.earliest (line_faults (scope_of l.scope) (ident_of l.owner) l.fn.shape (line_of l.line)) (attributes_faults (scope_of l.scope) (attributes_of (drop l.attribute-index (out-LineSyntax l.line).attributes.items)));
+  reported : Leaves l.fn.earliest l.earliest
+      (line_faults (scope_of l.scope) (ident_of l.owner) l.fn.shape (line_of l.line))
+      (attributes_faults (scope_of l.scope)
+      (attributes_of (drop l.attribute-index (out-LineSyntax l.line).attributes.items)));
   short : AreSmallAttributes (attributes_of (drop l.attribute-index l.attribute-items));
 }

@@ -8,5 +8,8 @@ use Rattle.resolver.proofs.rules.types.check_line_attributes.Goals as goal
 
 pub loop-attribute-preserved : goal.loop-attribute-preserved
 loop-attribute-preserved c =
-    told_over (λ (l : List attribute.AttributeSyntax). line_attribute_faults (scope_of c.args.scope.now) (attributes_of l)) _ _ _ _ _ _ _ (λ rest. refl) refl c.loop-attribute-test.true c.attribute-item.is c.check_line_attribute.ensures
+    told_over (λ (l : List attribute.AttributeSyntax). line_attribute_faults
+    (scope_of c.args.scope.now) (attributes_of l)) _ _ _ _ _ _ _
+    (λ rest. refl) refl c.loop-attribute-test.true c.attribute-item.is
+    c.check_line_attribute.ensures
     ∙ c.loop-attribute.invariant

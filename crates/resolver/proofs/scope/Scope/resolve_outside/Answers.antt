@@ -10,7 +10,12 @@ use Rattle.resolver.proofs.scope.Scope.resolve_outside.Goals as goal
 pub returns : goal.returns
 returns c =
     c.resolve_type_outside.ensures
-    ∙ followed_is [] c.args.domains.now (λ _. None) (outside (domains_in c.args.domains.now)) c.args.name.now (Some (type_of c.in_ok-target.target.kind.now)) c.requires c.in_ok-target.ensures
+    ∙ followed_is [] c.args.domains.now (λ _. None)
+    (outside (domains_in c.args.domains.now)) c.args.name.now
+    (Some (type_of c.in_ok-target.target.kind.now)) c.requires c.in_ok-target.ensures
 
 pub returns-in_err-target : goal.returns-in_err-target
-returns-in_err-target c = ap (option_map meaning_of) c.from_residual.ensures ∙ followed_is [] c.args.domains.now (λ _. None) (outside (domains_in c.args.domains.now)) c.args.name.now None c.requires c.in_err-target.ensures
+returns-in_err-target c = ap (option_map meaning_of) c.from_residual.ensures
+    ∙ followed_is [] c.args.domains.now (λ _. None)
+    (outside (domains_in c.args.domains.now)) c.args.name.now None c.requires
+    c.in_err-target.ensures

@@ -8,5 +8,6 @@ abbrev pub invariant-loop-target : goal.invariant-loop-target
 invariant-loop-target l = record {
   long : length l.marks.items ≡ length l.steps;
   marked : (i : ℕ) → i < length l.steps
-      → get_or l.marks.items i false ≡ (list_any (λ e. e == i) (take l.target-index l.targets) && is_some (step_in l.steps i));
+      → get_or l.marks.items i false
+      ≡ (list_any (λ e. e == i) (take l.target-index l.targets) && is_some (step_in l.steps i));
 }

@@ -7,5 +7,6 @@ use Rattle.resolver.proofs.scope.declared.push_domains.Goals as goal
 
 pub loop-domain-preserved : goal.loop-domain-preserved
 loop-domain-preserved c =
-    next_viewed domains_of (λ (d : Bor domain.DomainSyntax). domain_of d.now) _ _ _ _ _ _ _ _ (λ rest. refl) refl c.loop-domain-test.true c.domain-item.is c.in_ok-push.ensures.items refl
+    next_viewed domains_of (λ (d : Bor domain.DomainSyntax). domain_of d.now) _ _ _ _ _ _ _ _
+    (λ rest. refl) refl c.loop-domain-test.true c.domain-item.is c.in_ok-push.ensures.items refl
     ∙ c.loop-domain.invariant

@@ -10,5 +10,7 @@ use Rattle.resolver.proofs.scope.domain_scope.domain_names.Goals as goal
 
 pub loop-domain-preserved : goal.loop-domain-preserved
 loop-domain-preserved c =
-    next_viewed (λ (l : List (Bor domain.DomainSyntax)). domain_names (domains_at l)) (λ (n : Bor ident.Ident). ident_of n.now) _ _ _ _ _ _ _ _ (λ rest. refl) refl c.loop-domain-test.true c.domain-item.is c.in_ok-push.ensures.items refl
+    next_viewed (λ (l : List (Bor domain.DomainSyntax)). domain_names (domains_at l))
+    (λ (n : Bor ident.Ident). ident_of n.now) _ _ _ _ _ _ _ _
+    (λ rest. refl) refl c.loop-domain-test.true c.domain-item.is c.in_ok-push.ensures.items refl
     ∙ c.loop-domain.invariant

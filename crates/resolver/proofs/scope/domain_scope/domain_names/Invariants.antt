@@ -5,4 +5,6 @@ use Rattle.resolver.specs.Steps.{domains_at}
 use Rattle.resolver.proofs.scope.domain_scope.domain_names.Given as goal
 
 abbrev pub invariant-loop-domain : goal.invariant-loop-domain
-invariant-loop-domain l = idents l.names.items ++ domain_names (domains_at (drop l.domain-index l.domains)) ≡ domain_names (domains_at l.domains)
+invariant-loop-domain l =
+    idents l.names.items ++ domain_names (domains_at (drop l.domain-index l.domains))
+    ≡ domain_names (domains_at l.domains)

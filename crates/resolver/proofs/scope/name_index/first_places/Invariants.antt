@@ -8,4 +8,6 @@ use Rattle.resolver.specs.Indexed.{idents}
 use Rattle.resolver.proofs.scope.name_index.first_places.Given as goal
 
 abbrev pub invariant-loop-place : goal.invariant-loop-place
-invariant-loop-place l = (name : List ℕ) → get (pointwise nat_eq) l.places name ≡ position_from (same name) l.place (texts (idents (drop l.place l.names)))
+invariant-loop-place l = (name : List ℕ)
+    → get (pointwise nat_eq) l.places name
+    ≡ position_from (same name) l.place (texts (idents (drop l.place l.names)))

@@ -6,7 +6,12 @@ use Rattle.straight_predicates.proofs.Permutations.{sorted_neighbours}
 use Rattle.straight_predicates.proofs.end_list.EndList.sort.Goals as goal
 
 pub returns-clause-permutation : goal.returns-clause-permutation
-returns-clause-permutation c = IsPermutation-map (end_of c.args.self.now.origin) c.args.self.now.packed.items c.sort_unstable.new.self.items c.sort_unstable.ensures.permutation
+returns-clause-permutation c =
+    IsPermutation-map (end_of c.args.self.now.origin) c.args.self.now.packed.items
+    c.sort_unstable.new.self.items c.sort_unstable.ensures.permutation
 
 pub returns-clause-sorted : goal.returns-clause-sorted
-returns-clause-sorted c = ends_in_order c.args.self.now.origin c.sort_unstable.new.self.items (sorted_neighbours (λ m n. is_lt (nat_cmp m n)) c.sort_unstable.new.self.items c.sort_unstable.ensures.sorted)
+returns-clause-sorted c =
+    ends_in_order c.args.self.now.origin c.sort_unstable.new.self.items
+    (sorted_neighbours (λ m n. is_lt (nat_cmp m n)) c.sort_unstable.new.self.items
+    c.sort_unstable.ensures.sorted)

@@ -8,4 +8,5 @@ pub returns : goal.returns
 returns c =
     let stops = c.args.self.now.stops.items in
     let n : c.len.result ≡ length stops = search rules in
-    n ∙ sym (length-map (slots_of stops) (timed_at c.args.self.now.numbers.items) ∙ slots_length 0 stops)
+    n ∙ sym (length-map (slots_of stops) (timed_at c.args.self.now.numbers.items)
+    ∙ slots_length 0 stops)

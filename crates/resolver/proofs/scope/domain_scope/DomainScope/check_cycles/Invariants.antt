@@ -9,5 +9,8 @@ use Rattle.resolver.proofs.scope.domain_scope.DomainScope.check_cycles.Given as 
 
 abbrev pub invariant-loop-place : goal.invariant-loop-place
 invariant-loop-place l =
-    first_from (fault_in l.earliest) (cycle_faults (step_in l.self.steps.items) l.place (domains_at (drop l.place l.self.domains.items)))
-    ≡ first_from (fault_in l.fn.earliest) (cycle_faults (step_in l.self.steps.items) 0 (domains_in l.self))
+    first_from (fault_in l.earliest)
+    (cycle_faults (step_in l.self.steps.items) l.place
+    (domains_at (drop l.place l.self.domains.items)))
+    ≡ first_from (fault_in l.fn.earliest)
+    (cycle_faults (step_in l.self.steps.items) 0 (domains_in l.self))
