@@ -87,7 +87,8 @@ module _ (d r : Plan) (out : ℕ → Bool) (rest : IsRestOf d r out) where
   -- what crosses a curve of the drawing crosses it in the rest
   pub fewer_crosses : (k : ℕ) (p q : Vector) → k < length r.curves
       → CrossesOne d (rest.number k) p q → CrossesOne r k p q
-  fewer_crosses k p q l x = subst (λ t. CrossesKind t r k p q) (ap (λ (c : Curve). c.kind) e) (by_kind (curve d i).kind x)
+  fewer_crosses k p q l x =
+      subst (λ t. CrossesKind t r k p q) (ap (λ (c : Curve). c.kind) e) (by_kind (curve d i).kind x)
     where
       i : ℕ
       i = rest.number k
@@ -98,7 +99,9 @@ module _ (d r : Plan) (out : ℕ → Bool) (rest : IsRestOf d r out) where
       other : (j : ℕ) → j < length r.curves → (j ≡ k → ⊥)
           → ((n : ℕ) → n < length d.curves → (n ≡ i → ⊥) → Hits (curve d n) p q → ⊥)
           → Hits (curve r j) p q → ⊥
-      other j m ne clear hit = clear (rest.number j) (rest.there j m) (λ s. ne (rest.once j k m l s)) (subst (λ (c : Curve). Hits c p q) (sym (rest.is j m)) hit)
+      other j m ne clear hit =
+          clear (rest.number j) (rest.there j m) (λ s. ne (rest.once j k m l s))
+          (subst (λ (c : Curve). Hits c p q) (sym (rest.is j m)) hit)
 
       by_kind : (t : CurveKind) → CrossesKind t d i p q → CrossesKind t r k p q
       by_kind kind.Straight y = record {
@@ -137,43 +140,70 @@ module _ (d r : Plan) (out : ℕ → Bool) (rest : IsRestOf d r out) where
     face_of z Z off = let (n, l, j) = D.places.all z Z off in (n, record { there = l; joined = j })
 
     pub in_one : (p q : Vector) (n : ℕ) → Place p → Place q → In p n → In q n → Joined r p q
-    in_one p q n P Q h k = joined_through r p (D.at n) q P (place n h.there) h.joined (joined_back r q (D.at n) Q (place n h.there) k.joined)
+    in_one p q n P Q h k =
+        joined_through r p (D.at n) q P (place n h.there) h.joined
+        (joined_back r q (D.at n) Q (place n h.there) k.joined)
 
     pub one_number : (p q : Vector) (m n : ℕ) → Place p → Place q → In p m → In q n → Joined r p q
         → m ≡ n
     one_number p q m n P Q h k j =
         D.places.once m n h.there k.there
-        (joined_through r (D.at m) p (D.at n) (place m h.there) P (joined_back r p (D.at m) P (place m h.there) h.joined) (joined_through r p q (D.at n) P Q j k.joined))
+        (joined_through r (D.at m) p (D.at n) (place m h.there) P
+        (joined_back r p (D.at m) P (place m h.there) h.joined)
+        (joined_through r p q (D.at n) P Q j k.joined))
 
     back_at : (z : Vector) (n : ℕ) → Place z → In z n → Joined r (D.at n) z
     back_at z n Z h = joined_back r z (D.at n) Z (place n h.there) h.joined
 
     -- ---- the outer face, open and closed faces
     pub outer_number : (z : Vector) (n : ℕ) → Place z → In z n → IsOuter r z → n ≡ 0
-    outer_number z n Z h o = (D.places.outer n h.there).0 (outer_along r (D.at n) z (place n h.there) Z (back_at z n Z h) o)
+    outer_number z n Z h o =
+        (D.places.outer n h.there).0
+        (outer_along r (D.at n) z (place n h.there) Z (back_at z n Z h) o)
 
     pub number_outer : (z : Vector) (n : ℕ) → Place z → In z n → n ≡ 0 → IsOuter r z
-    number_outer z n Z h e = outer_along r z (D.at n) Z (place n h.there) h.joined ((D.places.outer n h.there).1 e)
+    number_outer z n Z h e =
+        outer_along r z (D.at n) Z (place n h.there) h.joined ((D.places.outer n h.there).1 e)
 
     pub number_closed : (z : Vector) (n : ℕ) → Place z → In z n → is_open f n ≡ false
         → IsClosed d r out z
-    number_closed z n Z h e = closed_along d r out (D.at n) z (place n h.there) Z (D.closed n h.there e) (back_at z n Z h)
+    number_closed z n Z h e =
+        closed_along d r out (D.at n) z (place n h.there) Z (D.closed n h.there e) (back_at z n Z h)
 
     pub number_open : (z : Vector) (n : ℕ) → Place z → In z n → is_open f n ≡ true
         → IsOpen d r out z
     number_open z n Z h e =
         let o = D.broken n h.there e in
-        record { i = o.i; there = o.there; left_out = o.left_out; q = o.q; s = o.s; q_place = o.q_place; s_place = o.s_place; joined = joined_through r z (D.at n) o.q Z (place n h.there) h.joined o.joined; off = o.off; clear = o.clear; hits = o.hits }
+        record {
+          i = o.i;
+          there = o.there;
+          left_out = o.left_out;
+          q = o.q;
+          s = o.s;
+          q_place = o.q_place;
+          s_place = o.s_place;
+          joined = joined_through r z (D.at n) o.q Z (place n h.there) h.joined o.joined;
+          off = o.off;
+          clear = o.clear;
+          hits = o.hits;
+        }
 
     pub closed_number : (z : Vector) (n : ℕ) → Place z → In z n → IsClosed d r out z
         → is_open f n ≡ false
-    closed_number z n Z h c = elim (cases_Bool (is_open f n)) [ inl t ↦ absurd ((closed_is_not_open d r out z).0 c (number_open z n Z h t)) | inr e ↦ e ]
+    closed_number z n Z h c =
+        elim (cases_Bool (is_open f n)) [
+          | inl t ↦ absurd
+              ((closed_is_not_open d r out z).0 c (number_open z n Z h t))
+          | inr e ↦ e
+        ]
 
     -- ---- points
     not_on : (j i : ℕ) → IsLeastOn d out j i → IsOff r (point (object d j)) → ⊥
     not_on j i h off = elim (rest.whole i h.on.curve_there) [
       | inl left ↦ h.kept left
-      | inr kept ↦ off kept.0 kept.1 (subst (λ (c : Curve). IsOn c (point (object d j))) (same_curve i kept.0 kept.1 kept.2) h.on.on)
+      | inr kept ↦ off kept.0 kept.1
+          (subst (λ (c : Curve). IsOn c (point (object d j)))
+          (same_curve i kept.0 kept.1 kept.2) h.on.on)
     ]
 
     -- a point that is off the rest is in a face
@@ -184,12 +214,21 @@ module _ (d r : Plan) (out : ℕ → Bool) (rest : IsRestOf d r out) where
         by : (o : PointPlace) → place_of f j ≡ o → IsPointPlace d r out (face_count f) D.at j o
             → (n : ℕ) × IsIn f j n × In (point (object d j)) n
         by (OnCurve i) e h = absurd (not_on j i h off)
-        by (InFace n) e h = (n, record { there = let c = D.point_count in omega (arith, l, c); in_face = e }, h.in_face)
+        by (InFace n) e h = (
+          n,
+          record {
+            there = let c = D.point_count in omega (arith, l, c);
+            in_face = e;
+          },
+          h.in_face,
+        )
 
     pub face_point : (j n : ℕ) → IsIn f j n → (j < length d.points) × In (point (object d j)) n
     face_point j n h =
-        let l : j < length d.points = let c = D.point_count in let t = h.there in omega (arith, c, t) in
-        let p : IsPointInFace d r (face_count f) D.at j n = subst (λ o. IsPointPlace d r out (face_count f) D.at j o) h.in_face (D.points j l) in
+        let l : j < length d.points = let c = D.point_count in
+        let t = h.there in omega (arith, c, t) in
+        let p : IsPointInFace d r (face_count f) D.at j n = subst
+        (λ o. IsPointPlace d r out (face_count f) D.at j o) h.in_face (D.points j l) in
         (l, p.in_face)
 
     -- ---- sides
@@ -204,7 +243,8 @@ module _ (d r : Plan) (out : ℕ → Bool) (rest : IsRestOf d r out) where
         → HasNumber i c
     curve_number i c l e =
         let m : i < length d.curves = let n = D.curve_count in omega (arith, l, n) in
-        let (kept, (k, t, is, h)) = subst (λ o. AreCurveFaces d r out rest (face_count f) D.at i o) e (D.curves i m) in
+        let (kept, (k, t, is, h)) = subst
+        (λ o. AreCurveFaces d r out rest (face_count f) D.at i o) e (D.curves i m) in
         record { k = k; there = t; is = is; faces = h }
 
     -- The end of a crossing segment on that side is in the face.
@@ -236,15 +276,25 @@ module _ (d r : Plan) (out : ℕ → Bool) (rest : IsRestOf d r out) where
           p = c.faces.p;
           q = c.faces.q;
           crossing = x;
-          place = on_side (is_first_kind (curve r c.k).kind (curve r c.k) s.left) c.faces.p c.faces.q P Q;
-          in_face = side_in s.left h.faces c.k n c.faces.p c.faces.q (c.faces.left c.faces.p c.faces.q x) (c.faces.right c.faces.p c.faces.q x) h.on;
+          place = on_side (is_first_kind (curve r c.k).kind (curve r c.k) s.left) c.faces.p
+              c.faces.q P Q;
+          in_face = side_in s.left h.faces c.k n c.faces.p c.faces.q
+              (c.faces.left c.faces.p c.faces.q x) (c.faces.right c.faces.p c.faces.q x) h.on;
         }
 
     pub is_beside : (n : ℕ) (s : SideAt) (z : Vector) → Place z → In z n → IsSide f n s
         → IsBeside d r out rest s z
     is_beside n s z Z h side =
         let e = side_has_end n s side in
-        record { k = e.k; there = e.there; is = e.is; p = e.p; q = e.q; crossing = e.crossing; joined = in_one z (side_end (curve r e.k) s.left e.p e.q) n Z e.place h e.in_face }
+        record {
+          k = e.k;
+          there = e.there;
+          is = e.is;
+          p = e.p;
+          q = e.q;
+          crossing = e.crossing;
+          joined = in_one z (side_end (curve r e.k) s.left e.p e.q) n Z e.place h e.in_face;
+        }
 
     -- the places beside a side of a face are in it
     pub beside_in : (n : ℕ) (s : SideAt) (z : Vector) → Place z → IsSide f n s
@@ -252,11 +302,14 @@ module _ (d r : Plan) (out : ℕ → Bool) (rest : IsRestOf d r out) where
     beside_in n s z Z side b =
         let c = curve_number s.curve side.faces side.there side.is in
         let e : c.k ≡ b.k = rest.once c.k b.k c.there b.there (c.is ∙ sym b.is) in
-        let h : HasCurveFaces d r out rest (face_count f) D.at b.k side.faces = subst (λ k. HasCurveFaces d r out rest (face_count f) D.at k side.faces) e c.faces in
+        let h : HasCurveFaces d r out rest (face_count f) D.at b.k side.faces = subst
+        (λ k. HasCurveFaces d r out rest (face_count f) D.at k side.faces) e c.faces in
         let (P, Q, p_off, q_off) = ends_off (curve r b.k).kind r b.k b.p b.q b.crossing in
         let end = side_end (curve r b.k) s.left b.p b.q in
-        let E : Place end = on_side (is_first_kind (curve r b.k).kind (curve r b.k) s.left) b.p b.q P Q in
-        let i : In end n = side_in s.left side.faces b.k n b.p b.q (h.left b.p b.q b.crossing) (h.right b.p b.q b.crossing) side.on in
+        let E : Place end = on_side (is_first_kind (curve r b.k).kind (curve r b.k) s.left) b.p b.q
+        P Q in
+        let i : In end n = side_in s.left side.faces b.k n b.p b.q (h.left b.p b.q b.crossing)
+        (h.right b.p b.q b.crossing) side.on in
         record { there = i.there; joined = joined_through r z end (D.at n) Z E b.joined i.joined }
 
     -- two least sides of faces that hold one place are equal
@@ -279,5 +332,9 @@ module _ (d r : Plan) (out : ℕ → Bool) (rest : IsRestOf d r out) where
         c = (D.sides n l ne).faces
 
         by : (c.left ≡ n) ⊎ (c.right ≡ n) → (s : SideAt) × IsLeastSide f n s
-        by (inl e) = least_side f n (record { curve = i; left = true }) (record { there = (D.sides n l ne).there; faces = c; is = (D.sides n l ne).is; on = e })
-        by (inr e) = least_side f n (record { curve = i; left = false }) (record { there = (D.sides n l ne).there; faces = c; is = (D.sides n l ne).is; on = e })
+        by (inl e) =
+            least_side f n (record { curve = i; left = true })
+            (record { there = (D.sides n l ne).there; faces = c; is = (D.sides n l ne).is; on = e })
+        by (inr e) =
+            least_side f n (record { curve = i; left = false })
+            (record { there = (D.sides n l ne).there; faces = c; is = (D.sides n l ne).is; on = e })

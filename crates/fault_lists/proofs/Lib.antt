@@ -5,6 +5,7 @@ pub mod Least
 pub mod FacesOfRest
 pub mod Told
 pub mod NumbersTold
+pub mod SideNumbers
 pub mod Ways
 pub mod SlotLists
 pub mod Traces

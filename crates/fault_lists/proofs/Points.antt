@@ -32,7 +32,8 @@ same_pair p q a b = ap (λ (i : ℕ). pair i p.second) a ∙ ap (λ (j : ℕ). p
 first_is_least : (f : DrawingFaces) (p q : PointPair) → ArePair f p → ArePair f q
     → p.second ≡ q.second → p.first < q.first → ⊥
 first_is_least f p q h k e l =
-    let m : h.n ≡ k.n = one_face f q.second h.n k.n (subst (λ j. IsIn f j h.n) e h.second) k.second in
+    let m : h.n ≡ k.n = one_face f q.second h.n k.n
+    (subst (λ j. IsIn f j h.n) e h.second) k.second in
     k.least p.first l (subst (λ n. IsIn f p.first n) m h.first)
 
 -- a point has one pair
@@ -40,5 +41,8 @@ pub one_pair : (f : DrawingFaces) (p q : PointPair) → ArePair f p → ArePair 
     → p.second ≡ q.second → p ≡ q
 one_pair f p q h k e = elim (cases_lt p.first q.first) [
   | inl l ↦ absurd (first_is_least f p q h k e l)
-  | inr l ↦ elim (cases_lt q.first p.first) [ inl m ↦ absurd (first_is_least f q p k h (sym e) m) | inr m ↦ same_pair p q (omega (arith, l, m)) e ]
+  | inr l ↦ elim (cases_lt q.first p.first) [
+    | inl m ↦ absurd (first_is_least f q p k h (sym e) m)
+    | inr m ↦ same_pair p q (omega (arith, l, m)) e
+  ]
 ]

@@ -16,7 +16,8 @@ use Rattle.fault_lists.specs.Rings.{AreRegions, AreRings}
 use Rattle.fault_lists.specs.Sides.{side_end}
 use Rattle.fault_lists.proofs.FacesOfRest as faces
 
-module _ (d r : Plan) (out : ℕ → Bool) (rest : IsRestOf d r out) (f : DrawingFaces) (D : AreDrawingFaces d r out rest f) where
+module _ (d r : Plan) (out : ℕ → Bool) (rest : IsRestOf d r out) (f : DrawingFaces)
+    (D : AreDrawingFaces d r out rest f) where
   -- what a place is beside of is a side of some face
   some_face : (o : SideAt) (z : Vector) → (out o.curve ≡ true → ⊥) → IsBeside d r out rest o z
       → (n : ℕ) × IsSide f n o
@@ -26,21 +27,36 @@ module _ (d r : Plan) (out : ℕ → Bool) (rest : IsRestOf d r out) (f : Drawin
       there = subst (λ i. i < length d.curves) b.is (rest.there b.k b.there)
 
       by : (c : Option CurveFaces) → faces_of f o.curve ≡ c → (n : ℕ) × IsSide f n o
-      by None e = absurd (kept (subst (λ c. AreCurveFaces d r out rest (face_count f) D.at o.curve c) e (D.curves o.curve there)))
-      by (Some c) e = (face_beside o.left c, record { there = let n = D.curve_count in omega (arith, there, n); faces = c; is = e; on = refl })
+      by None e = absurd
+          (kept (subst (λ c. AreCurveFaces d r out rest (face_count f) D.at o.curve c) e
+          (D.curves o.curve there)))
+      by (Some c) e = (
+        face_beside o.left c,
+        record {
+          there = let n = D.curve_count in omega (arith, there, n);
+          faces = c;
+          is = e;
+          on = refl;
+        },
+      )
 
   same_face : (n : ℕ) (s o : SideAt) → IsSide f n s → IsSide f n o ↔ HasBoth d r out rest s o
   same_face n s o side = (forth, back)
     where
       is_kept : IsSide f n o → out o.curve ≡ true → ⊥
-      is_kept h = (subst (λ c. AreCurveFaces d r out rest (face_count f) D.at o.curve c) h.is (D.curves o.curve (let c = D.curve_count in let t = h.there in omega (arith, c, t)))).0
+      is_kept h = (subst (λ c. AreCurveFaces d r out rest (face_count f) D.at o.curve c) h.is
+          (D.curves o.curve (let c = D.curve_count in let t = h.there in omega (arith, c, t)))).0
 
       both : IsSide f n o
           → (z : Vector) × Place z × IsBeside d r out rest s z × IsBeside d r out rest o z
       both h =
           let e = faces.side_has_end d r out rest f D n s side in
-          let z = side_end (curve r e.k) s.left e.p e.q in
-          (z, e.place, faces.is_beside d r out rest f D n s z e.place e.in_face side, faces.is_beside d r out rest f D n o z e.place e.in_face h)
+          let z = side_end (curve r e.k) s.left e.p e.q in (
+            z,
+            e.place,
+            faces.is_beside d r out rest f D n s z e.place e.in_face side,
+            faces.is_beside d r out rest f D n o z e.place e.in_face h,
+          )
 
       forth : IsSide f n o → HasBoth d r out rest s o
       forth h = (is_kept h, both h)
@@ -50,7 +66,8 @@ module _ (d r : Plan) (out : ℕ → Bool) (rest : IsRestOf d r out) (f : Drawin
           let (m, h) = some_face o z kept c in
           let i = faces.beside_in d r out rest f D n s z Z side b in
           let j = faces.beside_in d r out rest f D m o z Z h c in
-          let e : m ≡ n = faces.one_number d r out rest f D z z m n Z Z j i (faces.in_one d r out rest f D z z m Z Z j j) in
+          let e : m ≡ n = faces.one_number d r out rest f D z z m n Z Z j i
+          (faces.in_one d r out rest f D z z m Z Z j j) in
           subst (λ k. IsSide f k o) e h
 
   pub rings_tell : (sides : List SideAt) (regions : List Region) → AreRegions d f sides regions
@@ -61,6 +78,14 @@ module _ (d r : Plan) (out : ℕ → Bool) (rest : IsRestOf d r out) (f : Drawin
       | inl none ↦ inl none
       | inr told ↦ (
           let (n, side, rings) = told in
-          inr (record { each = rings.each; has = λ o. ((λ b. (same_face n x.side o side).0 ((rings.has o).0 b)), (λ b. (rings.has o).1 ((same_face n x.side o side).1 b))); once = rings.once; rise = rings.rise }))
+          inr (record {
+            each = rings.each;
+            has = λ o. (
+              (λ b. (same_face n x.side o side).0 ((rings.has o).0 b)),
+              (λ b. (rings.has o).1 ((same_face n x.side o side).1 b)),
+            );
+            once = rings.once;
+            rise = rings.rise;
+          }))
     ];
   }

@@ -31,7 +31,12 @@ module _ (d : Plan) (f : Faults) (all : AreFaults d f) where
   -- an outer point is told, or its face is
   outer_told : (b : Bool) → f.faces.outer_open ≡ b → (j : ℕ) → LiesOutside d j
       → IsToldOr d f all (point (object d j)) (Contains f.faces.outside.items j)
-  outer_told true e j h = inr (inl (fewer_outer d all.r all.out all.rest (point (object d j)) (place_point (object d j)) h.outer, e))
+  outer_told true e j h =
+      inr (inl (
+        fewer_outer d all.r all.out all.rest (point (object d j))
+            (place_point (object d j)) h.outer,
+        e,
+      ))
   outer_told false e j h = inl (all.over.outside j h e)
 
   pub outside_told : (j : ℕ) → LiesOutside d j
@@ -39,10 +44,13 @@ module _ (d : Plan) (f : Faults) (all : AreFaults d f) where
   outside_told j h = outer_told f.faces.outer_open refl j h
 
   abbrev AreTold : ℕ → ℕ → Type 0
-  AreTold i j = IsToldOr d f all (point (object d i)) (Contains f.faces.outside.items i ⊎ AreToldTwo f.faces i j)
+  AreTold i j =
+      IsToldOr d f all (point (object d i))
+      (Contains f.faces.outside.items i ⊎ AreToldTwo f.faces i j)
 
   pub two_told : (i j : ℕ) → AreTwo d i j
-      → IsToldOr d f all (point (object d i)) (Contains f.faces.outside.items i ⊎ AreToldTwo f.faces i j)
+      → IsToldOr d f all (point (object d i))
+      (Contains f.faces.outside.items i ⊎ AreToldTwo f.faces i j)
   two_told i j h = by (all.over.closed_or_told z Z off)
     where
       z : Vector
@@ -59,7 +67,12 @@ module _ (d : Plan) (f : Faults) (all : AreFaults d f) where
       outer_two (inr t) = inr t
 
       inside : IsClosed d all.r all.out z → IsOuter all.r z ⊎ (IsOuter all.r z → ⊥) → AreTold i j
-      inside c (inl o) = outer_two (outside_told i (record { there = let a = h.order in let b = h.there in omega (arith, a, b); outer = (stays_outer d all.r all.out all.rest z Z c).1 o }))
+      inside c (inl o) =
+          outer_two (outside_told i (record {
+            there = let a = h.order in let b = h.there in
+                omega (arith, a, b);
+            outer = (stays_outer d all.r all.out all.rest z Z c).1 o;
+          }))
       inside c (inr n) = inl (inr (all.over.shared i j h c n))
 
       by : IsClosed d all.r all.out z ⊎ IsToldOpen d all.r all.out all.rest f.faces z → AreTold i j
@@ -67,19 +80,27 @@ module _ (d : Plan) (f : Faults) (all : AreFaults d f) where
       by (inr t) = inr t
 
   pub empty_told : (z : Vector) → Place z → IsOff d z → IsLost d z
-      → IsToldOr d f all z ((s : SideAt) × Contains f.faces.empty.items s × IsBeside d all.r all.out all.rest s z)
-  empty_told z Z off lost = by (all.over.closed_or_told z Z (fewer_off d all.r all.out all.rest z off))
+      → IsToldOr d f all z ((s : SideAt) × Contains f.faces.empty.items s
+      × IsBeside d all.r all.out all.rest s z)
+  empty_told z Z off lost =
+      by (all.over.closed_or_told z Z (fewer_off d all.r all.out all.rest z off))
     where
       by : IsClosed d all.r all.out z ⊎ IsToldOpen d all.r all.out all.rest f.faces z
-          → IsToldOr d f all z ((s : SideAt) × Contains f.faces.empty.items s × IsBeside d all.r all.out all.rest s z)
+          → IsToldOr d f all z ((s : SideAt) × Contains f.faces.empty.items s
+          × IsBeside d all.r all.out all.rest s z)
       by (inl c) = inl (all.over.empty z Z off lost c)
       by (inr t) = inr t
 
   abbrev CutTold : ℕ → Vector → Vector → Type 0
-  CutTold i p q = IsToldOr d f all p (IsToldOr d f all q (Contains f.faces.cuts.items i ⊎ (IsMet f.meetings.items i ⊎ (f.all_out ≡ true))))
+  CutTold i p q =
+      IsToldOr d f all p
+      (IsToldOr d f all q (Contains f.faces.cuts.items i
+      ⊎ (IsMet f.meetings.items i ⊎ (f.all_out ≡ true))))
 
   pub cut_told : (i : ℕ) (c : IsCut d i) → i < length d.curves
-      → IsToldOr d f all c.p (IsToldOr d f all c.q (Contains f.faces.cuts.items i ⊎ (IsMet f.meetings.items i ⊎ (f.all_out ≡ true))))
+      → IsToldOr d f all c.p
+      (IsToldOr d f all c.q (Contains f.faces.cuts.items i
+      ⊎ (IsMet f.meetings.items i ⊎ (f.all_out ≡ true))))
   cut_told i c l = by (all.out i) refl
     where
       e : Place c.p × Place c.q × IsOff d c.p × IsOff d c.q
@@ -94,12 +115,16 @@ module _ (d : Plan) (f : Faults) (all : AreFaults d f) where
       first : (all.out i ≡ true → ⊥)
           → IsClosed d all.r all.out c.p ⊎ IsToldOpen d all.r all.out all.rest f.faces c.p
           → CutTold i c.p c.q
-      first kept (inl cp) = second kept cp (all.over.closed_or_told c.q e.1 (fewer_off d all.r all.out all.rest c.q e.3))
+      first kept (inl cp) =
+          second kept cp
+          (all.over.closed_or_told c.q e.1 (fewer_off d all.r all.out all.rest c.q e.3))
       first kept (inr t) = inr t
 
       by : (b : Bool) → all.out i ≡ b → CutTold i c.p c.q
       by true t = inl (inl (inr ((all.out_is i l).0 t)))
-      by false t = first (λ s. clash (sym t ∙ s)) (all.over.closed_or_told c.p e.0 (fewer_off d all.r all.out all.rest c.p e.2))
+      by false t =
+          first (λ s. clash (sym t ∙ s))
+          (all.over.closed_or_told c.p e.0 (fewer_off d all.r all.out all.rest c.p e.2))
         where
           clash : false ≡ true → ⊥
           clash x = cc

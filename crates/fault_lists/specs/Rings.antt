@@ -1,5 +1,6 @@
 -- The rings of faces.
-use Rattle.std.specs.Prelude.{◌≡◌, ◌↔◌, ◌⊎◌, ℕ, ◌≤◌, Bool, true, false, List, [], ◌∷◌, ◌++◌, map}
+use Rattle.std.specs.Prelude.{◌≡◌, ◌↔◌, ◌⊎◌, ℕ, ◌<◌, ◌≤◌, Bool, true, false, Some, List, [], ◌∷◌}
+use Rattle.std.specs.Prelude.{◌++◌, length, map, slice_get, slice_index_or}
 use Rattle.std.specs.List.Sorted.{IsStrictlyIncreasing}
 use Rattle.plane.specs.Lists.{Has, Once}
 use Rattle.plane.specs.Rule.Plans.{Plan, curve}
@@ -62,14 +63,40 @@ pub record AreRings (d : Plan) (Is : SideAt → Type 0) (rings : List (List Side
   pub once : Once (all_sides rings)
   pub rise : IsStrictlyIncreasing (map (λ ring. side_number (first_side ring)) rings)
 
+-- ---- which sides follow which
+-- The side t is said to follow the side s.
+abbrev pub IsSaidNext : DrawingFaces → SideAt → SideAt → Type 0
+IsSaidNext f s t = slice_get f.next.items (side_number s) ≡ Some (side_number t)
+
+-- The sides that are said to follow one another go round the faces: each side of a face is followed
+-- by one of the same face that begins where it ends, and no side follows two.
+pub record GoRound (d : Plan) (f : DrawingFaces) : Type 0 where
+  pub next : (n : ℕ) (s : SideAt) → IsSide f n s
+      → (t : SideAt) × IsSaidNext f s t × IsSide f n t × (end_of d s ≡ start_of d t)
+  pub once : (m n : ℕ) (s t u : SideAt) → IsSide f m s → IsSide f n t
+      → IsSaidNext f s u → IsSaidNext f t u → s ≡ t
+
 -- ---- regions
+-- the side of that number in a list
+abbrev pub side_at : List SideAt → ℕ → SideAt
+side_at sides j = slice_index_or sides j (record { curve = 0; left = true })
+
+-- Each is a side of a face, and no two are of one face.
+pub record AreOfFaces (f : DrawingFaces) (sides : List SideAt) : Type 0 where
+  pub each : (s : SideAt) → Has s sides → (n : ℕ) × IsSide f n s
+  pub once : (i j n : ℕ) → i < length sides → j < length sides → IsSide f n (side_at sides i)
+      → IsSide f n (side_at sides j) → i ≡ j
+
 -- The rings are those of a face that has the side.
 abbrev pub AreRingsOf : Plan → DrawingFaces → SideAt → List (List SideAt) → Type 0
 AreRingsOf d f side rings = (n : ℕ) × IsSide f n side × AreRings d (IsSide f n) rings
 
--- The faces of these sides, each with its rings, or with no ring.
+-- The faces of these sides, each with its rings, or with no ring. With its rings where the sides
+-- that are said to follow one another go round the faces, and these are of different faces.
 pub record AreRegions (d : Plan) (f : DrawingFaces) (sides : List SideAt)
     (regions : List Region) : Type 0 where
   pub sides_are : map (λ (r : Region). r.side) regions ≡ sides
   pub rings : (r : Region) → Has r regions
       → (r.rings.items ≡ []) ⊎ AreRingsOf d f r.side r.rings.items
+  pub told : GoRound d f → AreOfFaces f sides → (r : Region) → Has r regions
+      → AreRingsOf d f r.side r.rings.items

@@ -1,6 +1,6 @@
 -- How far the search for rings has come.
-use Rattle.std.specs.Prelude.{◌≡◌, ◌↔◌, ◌⊎◌, ℕ, ◌*◌, ◌<◌, Bool, true, false, Option, Some, None, ⊤}
-use Rattle.std.specs.Prelude.{List, [], ◌++◌, ◌∷◌, length, map, slice_index_or, slice_set}
+use Rattle.std.specs.Prelude.{◌≡◌, ◌↔◌, ◌⊎◌, ℕ, ◌*◌, ◌<◌, ◌≤◌, Bool, true, Option, Some, None}
+use Rattle.std.specs.Prelude.{List, [], length, map, slice_get, slice_index_or, slice_set}
 use Rattle.std.specs.List.Sorted.{IsStrictlyIncreasing}
 use Rattle.plane.specs.Lists.{Has, Once}
 use Rattle.plane.specs.Rule.Plans.{Plan}
@@ -9,8 +9,8 @@ use Rattle.fault_lists.specs.declared.kinds.Region.{Region}
 use Rattle.fault_lists.specs.declared.kinds.SideAt.{SideAt}
 use Rattle.fault_lists.specs.DrawingFaces.{face_count}
 use Rattle.fault_lists.specs.FaceLists.{IsSide, side_number}
-use Rattle.fault_lists.specs.Rings.{AreRings, all_sides, end_of, first_side, IsRing}
-use Rattle.fault_lists.specs.Rings.{Leads, start_of}
+use Rattle.fault_lists.specs.Rings.{AreRings, all_sides, end_of, first_side, GoRound, IsRing}
+use Rattle.fault_lists.specs.Rings.{IsSaidNext, Leads, side_at, start_of}
 use Rattle.fault_lists.specs.Telling.{is_marked}
 
 -- ---- faces and their places in a list
@@ -18,9 +18,6 @@ use Rattle.fault_lists.specs.Telling.{is_marked}
 abbrev pub IsFaceOf : DrawingFaces → SideAt → Option ℕ → Type 0
 IsFaceOf f s None = (n : ℕ) → IsSide f n s → ⊥
 IsFaceOf f s (Some n) = (n < face_count f) × IsSide f n s
-
-abbrev pub side_at : List SideAt → ℕ → SideAt
-side_at sides j = slice_index_or sides j (record { curve = 0; left = true })
 
 abbrev pub slot_of : List ℕ → ℕ → ℕ
 slot_of slots n = slice_index_or slots n 0
@@ -32,11 +29,11 @@ pub record HasSlot (f : DrawingFaces) (s : SideAt) (slots : List ℕ) (j : ℕ) 
   pub side : IsSide f n s
   pub slot : slot_of slots n ≡ j
 
--- The faces of the first k sides have their numbers as slots, and all others a number that no side
--- has.
+-- The faces of the first k sides have their numbers as slots, and all others the number of sides.
 pub record AreSlots (f : DrawingFaces) (sides : List SideAt) (k : ℕ)
     (slots : List ℕ) : Type 0 where
   pub size : length slots ≡ face_count f
+  pub most : (n : ℕ) → n < face_count f → slot_of slots n ≤ length sides
   pub each : (j : ℕ) → j < k → HasSlot f (side_at sides j) slots j
   pub only : (n : ℕ) → n < face_count f → slot_of slots n < length sides
       → (slot_of slots n < k) × IsSide f n (side_at sides (slot_of slots n))
@@ -49,6 +46,11 @@ pub record IsSlotTaken (f : DrawingFaces) (s : SideAt) (place none : ℕ)
   pub side : IsSide f n s
   pub free : slot_of old n ≡ none
   pub taken : new ≡ slice_set old n place
+
+-- The side is of no face, or its face has a slot.
+abbrev pub HasNoFreeSlot : DrawingFaces → SideAt → ℕ → List ℕ → Type 0
+HasNoFreeSlot f s none slots =
+    (n : ℕ) → IsSide f n s → (n < face_count f) × (slot_of slots n ≡ none → ⊥)
 
 -- ---- one ring
 abbrev pub is_passed : List Bool → SideAt → Bool
@@ -73,17 +75,37 @@ pub record IsWay (d : Plan) (f : DrawingFaces) (n : ℕ) (from : SideAt) (old ne
   pub once : Once passed
   pub marks : ArePassed f old new passed
 
--- Such a way that leads back, or nothing is said.
+-- The side is said to follow a marked side of a face.
+pub record FollowsMarked (f : DrawingFaces) (marks : List Bool) (t : SideAt) : Type 0 where
+  pub n : ℕ
+  pub s : SideAt
+  pub side : IsSide f n s
+  pub marked : is_passed marks s ≡ true
+  pub next : IsSaidNext f s t
+
+-- Each marked side of a face is said to follow a marked one.
+abbrev pub AreFollowed : DrawingFaces → List Bool → Type 0
+AreFollowed f marks =
+    (n : ℕ) (t : SideAt) → IsSide f n t → is_passed marks t ≡ true → FollowsMarked f marks t
+
+-- Such a way that leads back, with each marked side said to follow a marked one; or the sides do
+-- not go round the faces.
 abbrev pub IsRound : Plan → DrawingFaces → ℕ → SideAt → List Bool → List Bool
     → Option (List SideAt) → Type 0
-IsRound d f n from old new None = ⊤
+IsRound d f n from old new None = GoRound d f → ⊥
 IsRound d f n from old new (Some ring) =
-    IsWay d f n from old new ring from × Has from ring
+    IsWay d f n from old new ring from × Has from ring × AreFollowed f new
 
--- The side is one of the face, and begins where the other one ends; or nothing is said.
+-- The side is said to follow the other one, or none is.
+abbrev pub TellsNext : DrawingFaces → SideAt → Option SideAt → Type 0
+TellsNext f s None = slice_get f.next.items (side_number s) ≡ None
+TellsNext f s (Some t) = IsSaidNext f s t
+
+-- The side is said to follow the other one, is one of the face, and begins where the other one
+-- ends; or the sides do not go round the faces.
 abbrev pub Follows : Plan → DrawingFaces → ℕ → SideAt → Option SideAt → Type 0
-Follows d f n s None = ⊤
-Follows d f n s (Some t) = IsSide f n t × (end_of d s ≡ start_of d t)
+Follows d f n s None = GoRound d f → ⊥
+Follows d f n s (Some t) = IsSaidNext f s t × IsSide f n t × (end_of d s ≡ start_of d t)
 
 -- ---- all rings
 abbrev pub rings_at : List (List (List SideAt)) → ℕ → List (List SideAt)
@@ -114,6 +136,7 @@ pub record AreRingsTo (d : Plan) (f : DrawingFaces) (n k : ℕ) (marks : List Bo
 pub record AreTracedTo (d : Plan) (f : DrawingFaces) (slots : List ℕ) (k : ℕ)
     (marks : List Bool) (rs : List (List (List SideAt))) : Type 0 where
   pub size : length marks ≡ 2 * length f.curves.items
+  pub followed : AreFollowed f marks
   pub rings : (n : ℕ) → n < face_count f → slot_of slots n < length rs
       → AreRingsTo d f n k marks (rings_at rs (slot_of slots n))
   pub passed : (n : ℕ) (s : SideAt) → n < face_count f → slot_of slots n < length rs → IsSide f n s

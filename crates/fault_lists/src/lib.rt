@@ -12,7 +12,8 @@
 //!   faces: each list is a walk over the points or over the curves.
 //! - **Rings.** `regions` gives faces with their rings (`specs/Rings`), by the side that is said to
 //!   follow each side round its face. It tests each step, so that what it tells is right whatever
-//!   is said; where a step is wrong it tells no ring.
+//!   is said; where a step is wrong it tells no ring. Where the sides go round the faces
+//!   (`GoRound`) it tells all rings.
 //! - **Degenerate cases.** No curve, no point, all curves left out, points on curves, and curves
 //!   that end within a face are all taken.
 //! - **Not here:** how faces are numbered, which side follows which, and which curves meet badly.

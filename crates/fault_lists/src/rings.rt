@@ -2,14 +2,16 @@
 //
 // Each ring is walked by the sides that are said to follow one another (`DrawingFaces::next`).
 // Each step is tested: the next side is one of the same face, it begins where the last one ends,
-// and no ring has it yet. Where a test fails no ring is told.
+// and no ring has it yet. Where a test fails no ring is told. None fails where these sides go round
+// the faces (`GoRound`).
 ghost use Rattle.std.specs.Prelude.{◌≡◌, ◌+◌, ◌*◌, ◌<◌, ◌++◌, ◌∷◌, [], true, false, IfOk, OnOk};
 ghost use Rattle.std.specs.Prelude.{length};
 ghost use Rattle.fault_lists.specs.DrawingFaces.{IsNumbered};
 ghost use Rattle.fault_lists.specs.FaceLists.{IsSide, side_number};
-ghost use Rattle.fault_lists.specs.Rings.{AreRegions, end_of, start_of};
-ghost use Rattle.fault_lists.specs.Tracing.{AreBlank, AreSlots, AreTracedAll, AreTracedTo, Follows};
-ghost use Rattle.fault_lists.specs.Tracing.{IsMarked, IsRound, is_passed, rings_of, sides_of};
+ghost use Rattle.fault_lists.specs.Rings.{AreRegions, end_of, GoRound, start_of};
+ghost use Rattle.fault_lists.specs.Tracing.{AreBlank, AreFollowed, AreSlots, AreTracedAll};
+ghost use Rattle.fault_lists.specs.Tracing.{AreTracedTo, Follows, IsMarked, IsRound, is_passed};
+ghost use Rattle.fault_lists.specs.Tracing.{rings_of, sides_of, TellsNext};
 ghost use Rattle.plane.specs.Rule.Plans.{plan};
 
 use crate::faces::DrawingFaces;
@@ -19,9 +21,10 @@ use plane::{Drawing, Point};
 use ports::Memory;
 use std::alloc::Global;
 
-/// The faces of these sides, each with its rings, or each with no ring where a step of the way
-/// round a face is not as it should be. The only error is out of memory. It takes time linear in
-/// the sides, the faces and the curves, and for a while 8 bytes a face and 2 a curve.
+/// The faces of these sides, each with its rings, or each with no ring. With its rings where the
+/// sides that are said to follow one another go round the faces, and the given ones are of
+/// different faces. The only error is out of memory. It takes time linear in the sides, the faces
+/// and the curves, and for a while 8 bytes a face and 2 a curve.
 pub fn regions(
     alloc: Global,
     drawing: &Drawing,
@@ -79,6 +82,7 @@ fn trace_all(
     ensures sides { OnOk result (sides_of regions.new ≡ sides_of regions.old) }
     ensures traced { IfOk result (λ done. done ≡ true → AreTracedAll (plan drawing.now) faces.now
         slots.now (rings_of regions.new)) }
+    ensures wrong { IfOk result (λ done. done ≡ false → GoRound (plan drawing.now) faces.now → ⊥) }
 {
     let mut marks = vec![in alloc; false; 2 * drawing.curves.len()]?;
     for number in 0..2 * drawing.curves.len() {
@@ -110,6 +114,7 @@ fn trace_from(
     ensures sides { OnOk result (sides_of regions.new ≡ sides_of regions.old) }
     ensures traced { IfOk result (λ done. done ≡ true → AreTracedTo (plan drawing.now) faces.now
         slots.now (side_number side + 1) marks.new (rings_of regions.new)) }
+    ensures wrong { IfOk result (λ done. done ≡ false → GoRound (plan drawing.now) faces.now → ⊥) }
 {
     let face = match face_of(faces, side) {
         Some(face) => face,
@@ -150,11 +155,12 @@ fn ring_from(
     requires size { length marks.old ≡ 2 * length faces.now.curves.items }
     requires side { IsSide faces.now face from }
     requires free { is_passed marks.old from ≡ false }
+    requires followed { AreFollowed faces.now marks.old }
     ensures { IfOk result (IsRound (plan drawing.now) faces.now face from marks.old marks.new) }
 {
     let mut sides = Vec::new(alloc);
     let mut side = from;
-    for _ in 0..marks.len() {
+    loop {
         mark(marks, side);
         sides.push(side)?;
         side = match next_of(drawing, faces, face, side) {
@@ -168,7 +174,6 @@ fn ring_from(
             return Ok(None);
         }
     }
-    Ok(None)
 }
 
 fn mark(marks: &mut [bool], side: SideAt)
@@ -185,24 +190,25 @@ fn next_of(drawing: &Drawing, faces: &DrawingFaces, face: u32, side: SideAt) -> 
     requires side { IsSide faces.now face side }
     ensures { Follows (plan drawing.now) faces.now face side result }
 {
-    let next = said_next(faces, side);
-    match face_of(faces, next) {
-        Some(of_next) if of_next == face => {
-            if end_of(drawing, side) == start_of(drawing, next) {
-                Some(next)
-            } else {
-                None
-            }
-        }
-        _ => None,
+    let next = said_next(faces, side)?;
+    let of_next = face_of(faces, next)?;
+    if of_next != face {
+        return None;
+    }
+    if end_of(drawing, side) == start_of(drawing, next) {
+        Some(next)
+    } else {
+        None
     }
 }
 
-// The side that is said to follow, or the side itself where none is.
-fn said_next(faces: &DrawingFaces, side: SideAt) -> SideAt {
+// The side that is said to follow, if any is.
+fn said_next(faces: &DrawingFaces, side: SideAt) -> Option<SideAt>
+    ensures { TellsNext faces.now side result }
+{
     match faces.next.get(side_number(side)) {
-        Some(number) => side_of(*number as usize),
-        None => side,
+        Some(number) => Some(side_of(*number as usize)),
+        None => None,
     }
 }
 

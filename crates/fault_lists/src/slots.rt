@@ -1,9 +1,10 @@
 // Faces by sides, and their places in a list of sides.
-ghost use Rattle.std.specs.Prelude.{◌≡◌, ◌^◌, ◌<◌, Some, true, IfOk, length, slice_set};
+ghost use Rattle.std.specs.Prelude.{◌≡◌, ◌^◌, ◌<◌, Some, None, true, false, IfOk, length};
 ghost use Rattle.std.specs.Option.{IfSome};
 ghost use Rattle.fault_lists.specs.DrawingFaces.{IsNumbered, face_count};
 ghost use Rattle.fault_lists.specs.FaceLists.{side_number};
-ghost use Rattle.fault_lists.specs.Tracing.{AreSlots, IsFaceOf, IsSlotTaken};
+ghost use Rattle.fault_lists.specs.Rings.{AreOfFaces};
+ghost use Rattle.fault_lists.specs.Tracing.{AreSlots, HasNoFreeSlot, IsFaceOf, IsSlotTaken};
 
 use crate::faces::DrawingFaces;
 use crate::kinds::SideAt;
@@ -51,8 +52,9 @@ pub(crate) fn slots_of(
     sides: &[SideAt],
 ) -> Result<Option<Vec<usize>>, Memory>
     requires { IsNumbered faces.now }
-    ensures { IfOk result (λ o. IfSome o (λ slots. AreSlots faces.now sides.now
+    ensures slots { IfOk result (λ o. IfSome o (λ slots. AreSlots faces.now sides.now
         (length sides.now) slots.items)) }
+    ensures none { IfOk result (λ o. o ≡ None → AreOfFaces faces.now sides.now → ⊥) }
 {
     let mut slots = vec![in alloc; sides.len(); faces.open.len()]?;
     for place in 0..sides.len() {
@@ -73,7 +75,8 @@ fn take_slot(
 ) -> bool
     requires numbered { IsNumbered faces.now }
     requires size { length slots.old ≡ face_count faces.now }
-    ensures { result ≡ true → IsSlotTaken faces.now side place none slots.old slots.new }
+    ensures taken { result ≡ true → IsSlotTaken faces.now side place none slots.old slots.new }
+    ensures refused { result ≡ false → HasNoFreeSlot faces.now side none slots.old }
 {
     match face_of(faces, side) {
         Some(face) if slots[face as usize] == none => {

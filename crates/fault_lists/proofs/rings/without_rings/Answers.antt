@@ -13,6 +13,11 @@ loop-side-preserved c =
     let s : SideAt = get_or c.args.sides.now k no_side in
     let r : Region = c.without_ring.result in
     let items : List Region = c.loop-side.regions.items ++ r ∷ [] in
-    subst (λ (rs : List Region). AreBlank (take (k + 1) c.args.sides.now) rs) (sym c.in_ok-push.ensures.items)
-    (subst (λ (ss : List SideAt). AreBlank ss items) (sym (take_more c.args.sides.now k no_side c.loop-side-test.true))
-    (blank_push (take k c.args.sides.now) c.loop-side.regions.items s r c.loop-side.invariant (c.without_ring.ensures.side ∙ get_or_default c.args.sides.now k _ no_side c.loop-side-test.true) c.without_ring.ensures.none))
+    subst (λ (rs : List Region). AreBlank (take (k + 1) c.args.sides.now) rs)
+    (sym c.in_ok-push.ensures.items)
+    (subst (λ (ss : List SideAt). AreBlank ss items)
+    (sym (take_more c.args.sides.now k no_side c.loop-side-test.true))
+    (blank_push (take k c.args.sides.now) c.loop-side.regions.items s r c.loop-side.invariant
+    (c.without_ring.ensures.side
+    ∙ get_or_default c.args.sides.now k _ no_side c.loop-side-test.true)
+    c.without_ring.ensures.none))

@@ -10,6 +10,11 @@ pub returns : goal.returns
 returns c =
     let f = c.args.faces.now in
     let marks = c.deref_mut.result.now in
-    let marked : AreMarks (face_count f) (IsEmptyFace f) marks = subst (λ (ms : List Bool). AreMarks (face_count f) (IsEmptyFace f) ms) (sym c.deref_mut.ensures.value) c.in_ok-marks.ensures in
-    IfOk-weaker c.least_sides.result (λ sides. HasExactly (IsLeastSideOf f (λ n. is_marked marks n ≡ true)) side_number sides.items) (λ sides. HasExactly (IsLeastSideOf f (IsEmptyFace f)) side_number sides.items)
-    (λ sides h. sides_of_marked f (IsEmptyFace f) marks sides.items marked c.requires.numbered h) c.least_sides.ensures
+    let marked : AreMarks (face_count f) (IsEmptyFace f) marks = subst
+    (λ (ms : List Bool). AreMarks (face_count f) (IsEmptyFace f) ms)
+    (sym c.deref_mut.ensures.value) c.in_ok-marks.ensures in
+    IfOk-weaker c.least_sides.result
+    (λ sides. HasExactly (IsLeastSideOf f (λ n. is_marked marks n ≡ true)) side_number
+    sides.items) (λ sides. HasExactly (IsLeastSideOf f (IsEmptyFace f)) side_number sides.items)
+    (λ sides h. sides_of_marked f (IsEmptyFace f) marks sides.items marked c.requires.numbered h)
+    c.least_sides.ensures

@@ -7,13 +7,22 @@ use Rattle.fault_lists.proofs.telling.points_outside.Goals.{else-is_outside}
 use Rattle.fault_lists.proofs.telling.points_outside.Goals as goal
 
 pub loop-number-init : goal.loop-number-init
-loop-number-init c = none_yet (IsOutside c.args.faces.now) (λ j. j) c.new-points.result.items c.new-points.ensures.items
+loop-number-init c =
+    none_yet (IsOutside c.args.faces.now)
+    (λ j. j) c.new-points.result.items c.new-points.ensures.items
 
 pub loop-number-preserved : goal.loop-number-preserved
 loop-number-preserved c = elim c.if-is_outside.branch [
-  | then-is_outside+in_ok-push w ↦ number_told (IsOutside c.args.faces.now) c.loop-number.number c.loop-number.points.items _ c.loop-number.invariant (search rules) (c.is_outside.ensures.0 w.if-is_outside.true)
-  | else-is_outside w ↦ number_passed (IsOutside c.args.faces.now) c.loop-number.number c.loop-number.points.items _ c.loop-number.invariant (search rules) (λ is. false≢true (sym w.if-is_outside.false ∙ c.is_outside.ensures.1 is))
+  | then-is_outside+in_ok-push w ↦ number_told
+      (IsOutside c.args.faces.now) c.loop-number.number c.loop-number.points.items _
+      c.loop-number.invariant (search rules) (c.is_outside.ensures.0 w.if-is_outside.true)
+  | else-is_outside w ↦ number_passed
+      (IsOutside c.args.faces.now) c.loop-number.number c.loop-number.points.items _
+      c.loop-number.invariant (search rules)
+      (λ is. false≢true (sym w.if-is_outside.false ∙ c.is_outside.ensures.1 is))
 ]
 
 pub returns : goal.returns
-returns c = all_below (IsOutside c.args.faces.now) (λ j. j) c.loop-number.number c.loop-number.points.items c.loop-number.invariant (λ y is. let l = is.in_outer.there in omega (arith, l, c.loop-number-test.false))
+returns c = all_below (IsOutside c.args.faces.now)
+    (λ j. j) c.loop-number.number c.loop-number.points.items c.loop-number.invariant
+    (λ y is. let l = is.in_outer.there in omega (arith, l, c.loop-number-test.false))
