@@ -60,12 +60,14 @@ agree_same : (o p : Outcome) → o ≡ p → Agree o p
 agree_same o p e = subst (Agree o) e (agrees_itself o)
 
 -- ---- what is filed for a target
-same_text : (f : Filed) (l : Layout) (ds : List Plan) (cs es : List Plain) (ps qs : List polygons.Plain)
+same_text : (f : Filed) (l : Layout) (ds : List Plan) (cs es : List Plain)
+    (ps qs : List polygons.Plain)
     → cs ≡ es → ArePolygonsFor f l ds ps → ArePolygonsFor f l ds qs
     → filed_text f cs ps ≡ filed_text f es qs
 same_text filed.Certificates l ds cs es ps qs e h k = ap spelling e
 same_text (filed.Trial n) l ds cs es ps qs e h k = ap spelling e
-same_text filed.Polygons l ds cs es ps qs e h k = ap polygons.polygons_text (one_polygons l l.areas ds ps qs h k)
+same_text filed.Polygons l ds cs es ps qs e h k =
+    ap polygons.polygons_text (one_polygons l l.areas ds ps qs h k)
 
 -- ---- a file has one text, and this is within its limit or not
 one_text : (files : Files) (name : List ℕ) (limit : ℕ) (a b : List ℕ)
@@ -91,7 +93,8 @@ abbrev pub Same : Gathered → Gathered → Type 0
 Same g h = IsUnread g ⊎ (IsUnread h ⊎ (g ≡ h))
 
 module _ (files : Files) (far near : List ℕ → Type 0) where
-  module _ (f : File) (name : List ℕ) (g h : Gathered) (P Q : List ℕ → Type 0) (one : (text : List ℕ) → P text → Q text → Same g h) where
+  module _ (f : File) (name : List ℕ) (g h : Gathered) (P Q : List ℕ → Type 0)
+      (one : (text : List ℕ) → P text → Q text → Same g h) where
     text_after : (text : List ℕ) → IsWhole (Some files) name (limit_of f) text → P text
         → Reads (Some files) near (from_file f name) h Q → Same g h
     text_after text w p k = elim k as (λ z. Same g h) [
@@ -133,7 +136,8 @@ module _ (files : Files) (far near : List ℕ → Type 0) where
       → Same g h
   same_all l before [] g h r k = inr (inr (r ∙ sym k))
   same_all l before (s ∷ ss) g h r k =
-      same_read s g h (λ text. ReadsAll (Some files) far l (before ++ (text ∷ [])) ss g) (λ text. ReadsAll (Some files) near l (before ++ (text ∷ [])) ss h)
+      same_read s g h (λ text. ReadsAll (Some files) far l (before ++ (text ∷ [])) ss g)
+      (λ text. ReadsAll (Some files) near l (before ++ (text ∷ [])) ss h)
       (λ text p q. same_all l (before ++ (text ∷ [])) ss g h p q) r k
 
   module _ (t : Task) (text : List ℕ) (g h : Gathered) where
@@ -149,7 +153,9 @@ module _ (files : Files) (far near : List ℕ → Type 0) where
         → Same g h
     laid_after l i r k = elim k as (λ z. Same g h) [
       | inl n ↦ absurd (not_refused text l n.0 i n.1)
-      | inr n ↦ same_all n.0 [] (further_files t) g h (subst (λ (x : Layout). ReadsAll (Some files) far x [] (further_files t) g) (one_layout text l n.0 i n.1) r) n.2
+      | inr n ↦ same_all n.0 [] (further_files t) g h
+          (subst (λ (x : Layout). ReadsAll (Some files) far x [] (further_files t) g)
+          (one_layout text l n.0 i n.1) r) n.2
     ]
 
     same_compiled : Compiles (Some files) far t text g → Compiles (Some files) near t text h
@@ -162,7 +168,8 @@ module _ (files : Files) (far near : List ℕ → Type 0) where
   pub same_gathered : (c : Command) (g h : Gathered) → InputsOf (Some files) far c g
       → InputsOf (Some files) near c h → Same g h
   same_gathered c g h r k =
-      same_read (model_of c) g h (λ text. Compiles (Some files) far (task_of c) text g) (λ text. Compiles (Some files) near (task_of c) text h)
+      same_read (model_of c) g h (λ text. Compiles (Some files) far (task_of c) text g)
+      (λ text. Compiles (Some files) near (task_of c) text h)
       (λ text p q. same_compiled (task_of c) text g h p q) r k
 
 -- ---- what passes a test and what else is read
@@ -171,17 +178,22 @@ abbrev PassesIn : (Task → Layout → List (List ℕ) → Type 0) → Task → 
 PassesIn P t (gathering.texts l ts) = P t l ts
 PassesIn P t _ = ⊥
 
-module _ (P : Task → Layout → List (List ℕ) → Type 0) (files : Files) (far near : List ℕ → Type 0) (words : List (List ℕ)) (p : HoldsOfTexts (Some files) far words P) where
+module _ (P : Task → Layout → List (List ℕ) → Type 0) (files : Files) (far near : List ℕ → Type 0)
+    (words : List (List ℕ)) (p : HoldsOfTexts (Some files) far words P) where
   reads_too : (h : Gathered) (c : Command) → IsCommand words c → InputsOf (Some files) near c h
       → IsUnread h ⊎ PassesIn P (task_of c) h
   reads_too h c i k =
       let e = one_command words p.0 c p.3 i in
       let g = gathering.texts p.1 p.2 in
-      elim (same_gathered files far near c g h (subst (λ (x : Command). InputsOf (Some files) far x g) e p.4) k) as (λ z. IsUnread h ⊎ PassesIn P (task_of c) h) [
+      elim (same_gathered files far near c g h
+      (subst (λ (x : Command). InputsOf (Some files) far x g) e p.4) k) as
+      (λ z. IsUnread h ⊎ PassesIn P (task_of c) h) [
         | inl u ↦ absurd u
         | inr n ↦ elim n as (λ z. IsUnread h ⊎ PassesIn P (task_of c) h) [
           | inl u ↦ inl u
-          | inr r ↦ inr (subst (PassesIn P (task_of c)) r (subst (λ (x : Command). PassesIn P (task_of x) g) e p.5))
+          | inr r ↦ inr
+              (subst (PassesIn P (task_of c)) r
+              (subst (λ (x : Command). PassesIn P (task_of x) g) e p.5))
         ]
       ]
 
@@ -189,16 +201,20 @@ module _ (P : Task → Layout → List (List ℕ) → Type 0) (files : Files) (f
   pub both_pass : (Q : Task → Layout → List (List ℕ) → Type 0)
       → HoldsOfTexts (Some files) near words Q
       → (t : Task) × (l : Layout) × (ts : List (List ℕ)) × P t l ts × Q t l ts
-  both_pass Q q = elim (reads_too (gathering.texts q.1 q.2) q.0 q.3 q.4) as (λ z. (t : Task) × (l : Layout) × (ts : List (List ℕ)) × P t l ts × Q t l ts) [
-    | inl u ↦ absurd u
-    | inr r ↦ (task_of q.0, q.1, q.2, r, q.5)
-  ]
+  both_pass Q q =
+      elim (reads_too (gathering.texts q.1 q.2) q.0 q.3 q.4) as
+      (λ z. (t : Task) × (l : Layout) × (ts : List (List ℕ)) × P t l ts × Q t l ts) [
+        | inl u ↦ absurd u
+        | inr r ↦ (task_of q.0, q.1, q.2, r, q.5)
+      ]
 
   pub never_refused : (r : Refusal) → GathersFor (Some files) near words (gathering.refused r) → ⊥
-  never_refused r k = elim (reads_too (gathering.refused r) k.0 k.1 k.2) as (λ z. ⊥) [ inl u ↦ u | inr n ↦ n ]
+  never_refused r k =
+      elim (reads_too (gathering.refused r) k.0 k.1 k.2) as (λ z. ⊥) [ inl u ↦ u | inr n ↦ n ]
 
   pub never_too_long : (f : File) → GathersFor (Some files) near words (gathering.too_long f) → ⊥
-  never_too_long f k = elim (reads_too (gathering.too_long f) k.0 k.1 k.2) as (λ z. ⊥) [ inl u ↦ u | inr n ↦ n ]
+  never_too_long f k =
+      elim (reads_too (gathering.too_long f) k.0 k.1 k.2) as (λ z. ⊥) [ inl u ↦ u | inr n ↦ n ]
 
 -- ---- outcomes of what is read agree
 differ : true ≡ false → ⊥
@@ -216,7 +232,8 @@ unread_status t (gathering.texts l ts) o u e = absurd u
 
 -- two outcomes of one text agree where those of its areas do
 module _ (l : Layout) (text : List ℕ) (Areas : List (List Row) → Outcome → Type 0)
-    (areas : (rows : List (List Row)) (o p : Outcome) → Areas rows o → Areas rows p → Agree o p) where
+    (areas : (rows : List (List Row)) (o p : Outcome) → Areas rows o → Areas rows p
+    → Agree o p) where
   one_rows : (t u : List (List Row)) → IsTextOf l text t → IsTextOf l text u → t ≡ u
   one_rows t u h k = one_transfer (form_of l) (lines_of l text).lines t u h.1 k.1
 
@@ -229,20 +246,33 @@ module _ (l : Layout) (text : List ℕ) (Areas : List (List Row) → Outcome →
       let q = one_fault (form_of l) (lines_of l text) n m c d h k in
       agree_same o p (e ∙ ap (λ (x : ℕ). malformed x c) q.0 ∙ ap (malformed m) q.1 ∙ sym f)
   agree_judged o p (at_fault n c h e) (faulty rows t m f) = absurd (never_at_fault rows n c h t)
-  agree_judged o p (at_fault n c h e) (oversized rows t k b f) = absurd (never_at_fault rows n c h t)
+  agree_judged o p (at_fault n c h e) (oversized rows t k b f) =
+      absurd (never_at_fault rows n c h t)
   agree_judged o p (at_fault n c h e) (sound k) = absurd (never_at_fault k.0 n c h k.1)
   agree_judged o p (faulty rows t n e) (at_fault m d k f) = absurd (never_at_fault rows m d k t)
-  agree_judged o p (faulty rows t n e) (faulty more u m f) = agree_both o p _ e (f ∙ ap (λ (r : List (List Row)). rejected (findings l r)) (one_rows more rows u t))
-  agree_judged o p (faulty rows t n e) (oversized more u k b f) = absurd (n (subst (IsClean l) (one_rows more rows u t) k))
-  agree_judged o p (faulty rows t n e) (sound k) = absurd (n (subst (IsClean l) (one_rows k.0 rows k.1 t) k.2))
-  agree_judged o p (oversized rows t k b e) (at_fault m d h f) = absurd (never_at_fault rows m d h t)
-  agree_judged o p (oversized rows t k b e) (faulty more u m f) = absurd (m (subst (IsClean l) (one_rows rows more t u) k))
+  agree_judged o p (faulty rows t n e) (faulty more u m f) =
+      agree_both o p _ e (f
+      ∙ ap (λ (r : List (List Row)). rejected (findings l r)) (one_rows more rows u t))
+  agree_judged o p (faulty rows t n e) (oversized more u k b f) =
+      absurd (n (subst (IsClean l) (one_rows more rows u t) k))
+  agree_judged o p (faulty rows t n e) (sound k) =
+      absurd (n (subst (IsClean l) (one_rows k.0 rows k.1 t) k.2))
+  agree_judged o p (oversized rows t k b e) (at_fault m d h f) =
+      absurd (never_at_fault rows m d h t)
+  agree_judged o p (oversized rows t k b e) (faulty more u m f) =
+      absurd (m (subst (IsClean l) (one_rows rows more t u) k))
   agree_judged o p (oversized rows t k b e) (oversized more u m d f) = agree_both o p _ e f
-  agree_judged o p (oversized rows t k b e) (sound h) = absurd (differ (sym b ∙ ap (λ (r : List (List Row)). has_too_large r l.areas) (one_rows rows h.0 t h.1) ∙ h.3))
+  agree_judged o p (oversized rows t k b e) (sound h) =
+      absurd (differ (sym b
+      ∙ ap (λ (r : List (List Row)). has_too_large r l.areas) (one_rows rows h.0 t h.1) ∙ h.3))
   agree_judged o p (sound h) (at_fault m d k f) = absurd (never_at_fault h.0 m d k h.1)
-  agree_judged o p (sound h) (faulty more u m f) = absurd (m (subst (IsClean l) (one_rows h.0 more h.1 u) h.2))
-  agree_judged o p (sound h) (oversized more u k b f) = absurd (differ (sym b ∙ ap (λ (r : List (List Row)). has_too_large r l.areas) (one_rows more h.0 u h.1) ∙ h.3))
-  agree_judged o p (sound h) (sound k) = areas k.0 o p (subst (λ (r : List (List Row)). Areas r o) (one_rows h.0 k.0 h.1 k.1) h.4) k.4
+  agree_judged o p (sound h) (faulty more u m f) =
+      absurd (m (subst (IsClean l) (one_rows h.0 more h.1 u) h.2))
+  agree_judged o p (sound h) (oversized more u k b f) =
+      absurd (differ (sym b
+      ∙ ap (λ (r : List (List Row)). has_too_large r l.areas) (one_rows more h.0 u h.1) ∙ h.3))
+  agree_judged o p (sound h) (sound k) =
+      areas k.0 o p (subst (λ (r : List (List Row)). Areas r o) (one_rows h.0 k.0 h.1 k.1) h.4) k.4
 
 -- a transfer that is written in its canonical text
 module _ (name : List ℕ) (l : Layout) (text : List ℕ) where
@@ -265,34 +295,50 @@ module _ (name : List ℕ) (l : Layout) (text : List ℕ) where
   agree_rewritten o p (without_text rows t k e) (written more u m f) = absurd (m k)
   agree_rewritten o p (written rows t k e) (misread n c h f) = absurd (no_misread rows n c h t)
   agree_rewritten o p (written rows t k e) (without_text more u m f) = absurd (k m)
-  agree_rewritten o p (written rows t k e) (written more u m f) = agree_both o p _ e (f ∙ ap (λ (r : List (List Row)). canonical name (objects r) (canon_of l r)) (same_rows more rows u t))
+  agree_rewritten o p (written rows t k e) (written more u m f) =
+      agree_both o p _ e (f
+      ∙ ap (λ (r : List (List Row)). canonical name (objects r) (canon_of l r))
+      (same_rows more rows u t))
 
 module _ (laws : AreaLaws) where
   agree_areas : (target : Target) (l : Layout) (rows : List (List Row)) (o p : Outcome)
       → AreJudged target l rows o → AreJudged target l rows p → Agree o p
   agree_areas target l rows o p j k =
       let same = same_drawings l rows l.areas j.drawings k.drawings j.drawn k.drawn in
-      let here = subst (λ (ds : List Plan). AreAnswers l l.areas ds j.answers j.certificates) same j.answered in
-      let texts : (areas_outcome l (objects rows) target j.surface_answers j.answers j.certificates j.polygons).status ≡ Accepted → (areas_outcome l (objects rows) target k.surface_answers k.answers k.certificates k.polygons).status ≡ Accepted
-      → filed_text target.filed j.certificates j.polygons ≡ filed_text target.filed k.certificates k.polygons
+      let here = subst (λ (ds : List Plan). AreAnswers l l.areas ds j.answers j.certificates) same
+      j.answered in
+      let texts : (areas_outcome l (objects rows) target j.surface_answers j.answers j.certificates
+      j.polygons).status ≡ Accepted
+      → (areas_outcome l (objects rows) target k.surface_answers k.answers k.certificates
+      k.polygons).status ≡ Accepted
+      → filed_text target.filed j.certificates j.polygons
+      ≡ filed_text target.filed k.certificates k.polygons
       = λ f g.
       same_text target.filed l k.drawings j.certificates k.certificates j.polygons k.polygons
-      (same_certificates laws l l.areas k.drawings j.answers k.answers j.certificates k.certificates here k.answered)
-      (subst (λ (ds : List Plan). ArePolygonsFor target.filed l ds j.polygons) same (j.bounded (ap (λ (x : Outcome). x.status) j.is ∙ f)))
+      (same_certificates laws l l.areas k.drawings j.answers k.answers j.certificates k.certificates
+      here k.answered)
+      (subst (λ (ds : List Plan). ArePolygonsFor target.filed l ds j.polygons) same
+      (j.bounded (ap (λ (x : Outcome). x.status) j.is ∙ f)))
       (k.bounded (ap (λ (x : Outcome). x.status) k.is ∙ g)) in
       subst (λ (x : Outcome). Agree x p) (sym j.is)
-      (subst (Agree (areas_outcome l (objects rows) target j.surface_answers j.answers j.certificates j.polygons)) (sym k.is)
-      (areas_agree laws l (objects rows) target rows j.surface_answers k.surface_answers j.surfaces_answered k.surfaces_answered k.drawings j.answers k.answers j.certificates k.certificates j.polygons k.polygons
+      (subst (Agree
+      (areas_outcome l (objects rows) target j.surface_answers j.answers j.certificates
+      j.polygons)) (sym k.is)
+      (areas_agree laws l (objects rows) target rows j.surface_answers k.surface_answers
+      j.surfaces_answered k.surfaces_answered k.drawings j.answers k.answers j.certificates
+      k.certificates j.polygons k.polygons
       texts here k.answered))
 
   agree_verified : (l : Layout) (filed : List ℕ) (rows : List (List Row)) (o p : Outcome)
       → AreVerified l filed rows o → AreVerified l filed rows p → Agree o p
   agree_verified l filed rows o p j k =
       agree_same o p
-      (j.is ∙ ap (λ (ds : List Plan). verified l (objects rows) ds j.verification) (same_drawings l rows l.areas j.drawings k.drawings j.drawn k.drawn)
+      (j.is ∙ ap (λ (ds : List Plan). verified l (objects rows) ds j.verification)
+      (same_drawings l rows l.areas j.drawings k.drawings j.drawn k.drawn)
       ∙ ap (verified l (objects rows) k.drawings)
       (laws.verifications l k.drawings filed j.verification k.verification
-      (subst (λ (ds : List Plan). IsVerification l ds filed j.verification) (same_drawings l rows l.areas j.drawings k.drawings j.drawn k.drawn) j.judged) k.judged)
+      (subst (λ (ds : List Plan). IsVerification l ds filed j.verification)
+      (same_drawings l rows l.areas j.drawings k.drawings j.drawn k.drawn) j.judged) k.judged)
       ∙ sym k.is)
 
   agree_links : (l : Layout) (links : List ℕ) (rows : List (List Row)) (o p : Outcome)
@@ -328,9 +374,12 @@ module _ (laws : AreaLaws) where
   agree_amount t (gathering.too_long f) o p h k = agree_both o p _ h k
   agree_amount t (gathering.refused r) o p h k = agree_both o p _ h k
   agree_amount lists (gathering.texts l ts) o p h k = agree_both o p _ h k
-  agree_amount (judges s target) (gathering.texts l (text ∷ [])) o p h k = agree_text target l text o p h k
-  agree_amount (verifies s r) (gathering.texts l (text ∷ filed ∷ [])) o p h k = agree_filed l text filed o p h k
-  agree_amount (rewrites s name) (gathering.texts l (text ∷ [])) o p h k = agree_rewritten name l text o p h k
+  agree_amount (judges s target) (gathering.texts l (text ∷ [])) o p h k =
+      agree_text target l text o p h k
+  agree_amount (verifies s r) (gathering.texts l (text ∷ filed ∷ [])) o p h k =
+      agree_filed l text filed o p h k
+  agree_amount (rewrites s name) (gathering.texts l (text ∷ [])) o p h k =
+      agree_rewritten name l text o p h k
   agree_amount (tests_points s r) (gathering.texts l (text ∷ links ∷ [])) o p h k =
       agree_judged l text (AreLinked l links) (agree_links l links) o p h k
   agree_amount t (gathering.texts l ts) o p h k = absurd h
@@ -345,25 +394,37 @@ module _ (laws : AreaLaws) where
     ]
   ]
 
-  pub outcomes_agree : (files : Files) (far near : List ℕ → Type 0) (words : List (List ℕ)) (o p : Outcome)
-      → CallOutcome (Some files) far words o → CallOutcome (Some files) near words p → AgreeUnlessUnread o p
-  outcomes_agree files far near words o p (without_command u a) (without_command v b) = inr (inr (agree_same o p (a ∙ sym b)))
-  outcomes_agree files far near words o p (without_command u a) (with_command d h j y b) = absurd (u d j)
-  outcomes_agree files far near words o p (with_command c g i x a) (without_command v b) = absurd (v c i)
+  pub outcomes_agree : (files : Files) (far near : List ℕ → Type 0) (words : List (List ℕ))
+      (o p : Outcome)
+      → CallOutcome (Some files) far words o → CallOutcome (Some files) near words p
+      → AgreeUnlessUnread o p
+  outcomes_agree files far near words o p (without_command u a) (without_command v b) =
+      inr (inr (agree_same o p (a ∙ sym b)))
+  outcomes_agree files far near words o p (without_command u a) (with_command d h j y b) =
+      absurd (u d j)
+  outcomes_agree files far near words o p (with_command c g i x a) (without_command v b) =
+      absurd (v c i)
   outcomes_agree files far near words o p (with_command c g i x a) (with_command d h j y b) =
       let e = one_command words c d i j in
       files_agree (task_of d) g h o p
-      (same_gathered files far near d g h (subst (λ (z : Command). InputsOf (Some files) far z g) e x) y)
+      (same_gathered files far near d g h
+      (subst (λ (z : Command). InputsOf (Some files) far z g) e x) y)
       (subst (λ (z : Command). HasOutcome (task_of z) g o) e a) b
 
--- an answer that is that of an outcome unless a write failed is that of each outcome, as far as they agree
-pub exactly : (held : Option Files) (far near : List ℕ → Type 0) (words : List (List ℕ)) (p : Outcome) (s : Status) (before after : Option (List ℕ))
-    → ((files : Files) (x y : Outcome) → CallOutcome (Some files) far words x → CallOutcome (Some files) near words y → AgreeUnlessUnread x y) → CallOutcome held near words p
+-- an answer that is that of an outcome unless a write failed is that of each outcome, as far as
+-- they agree
+pub exactly : (held : Option Files) (far near : List ℕ → Type 0) (words : List (List ℕ))
+    (p : Outcome) (s : Status) (before after : Option (List ℕ))
+    → ((files : Files) (x y : Outcome) → CallOutcome (Some files) far words x
+    → CallOutcome (Some files) near words y → AgreeUnlessUnread x y)
+    → CallOutcome held near words p
     → (s ≢ WriteFault → s ≡ p.status) → (s ≢ WriteFault → Adds before (report_of p) after)
-    → (files : Files) → held ≡ Some files → (o : Outcome) → CallOutcome (Some files) far words o → IsAnswer o s before after
+    → (files : Files) → held ≡ Some files → (o : Outcome) → CallOutcome (Some files) far words o
+    → IsAnswer o s before after
 exactly held far near words p s before after agree k e r files t o h read =
     by_write (Answers o s before after ⊎ IsStopped s) s (λ w. inr (inr (inl w)))
-    (λ n. elim (agree files o p h (subst (λ (x : Option Files). CallOutcome x near words p) t k)) as (λ z. Answers o s before after ⊎ IsStopped s) [
+    (λ n. elim (agree files o p h (subst (λ (x : Option Files). CallOutcome x near words p) t k)) as
+    (λ z. Answers o s before after ⊎ IsStopped s) [
       | inl u ↦ absurd (read u)
       | inr m ↦ elim m as (λ z. Answers o s before after ⊎ IsStopped s) [
         | inl u ↦ inr (inl (e n ∙ u))

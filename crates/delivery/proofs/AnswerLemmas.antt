@@ -132,30 +132,43 @@ module _ (laws : CountLaws) (l : Layout) (a : AreaOf) (d : Plan) (c : Certificat
 
 -- ---- one area after the other
 -- what is answered to some areas may be followed by what is answered to the rest
-abbrev pub GoesOn : Layout → List AreaOf → List Plan → List AreaOf → List Plan → List AreaAnswer → List Plain → Type 0
-GoesOn l all ds rest es xs cs = (ys : List AreaAnswer) (bs : List Plain) → AreAnswers l rest es ys bs → AreAnswers l all ds (xs ++ ys) (cs ++ bs)
+abbrev pub GoesOn : Layout → List AreaOf → List Plan → List AreaOf → List Plan → List AreaAnswer
+    → List Plain → Type 0
+GoesOn l all ds rest es xs cs = (ys : List AreaAnswer) (bs : List Plain)
+    → AreAnswers l rest es ys bs → AreAnswers l all ds (xs ++ ys) (cs ++ bs)
 
 pub begin : (l : Layout) (all : List AreaOf) (ds : List Plan) → GoesOn l all ds all ds [] []
 begin l all ds ys bs h = h
 
-pub go_on : (l : Layout) (all rest : List AreaOf) (ds es : List Plan) (a : AreaOf) (d : Plan) (as_ : List AreaOf) (fs : List Plan) (xs : List AreaAnswer) (cs : List Plain) (x : AreaAnswer) (here : List Plain) (more : List AreaAnswer) (kept : List Plain)
-    → rest ≡ a ∷ as_ → es ≡ d ∷ fs → more ≡ xs ++ x ∷ [] → kept ≡ cs ++ here → IsAnswer l a d x here → GoesOn l all ds rest es xs cs → GoesOn l all ds as_ fs more kept
+pub go_on : (l : Layout) (all rest : List AreaOf) (ds es : List Plan) (a : AreaOf) (d : Plan)
+    (as_ : List AreaOf) (fs : List Plan) (xs : List AreaAnswer) (cs : List Plain) (x : AreaAnswer)
+    (here : List Plain) (more : List AreaAnswer) (kept : List Plain)
+    → rest ≡ a ∷ as_ → es ≡ d ∷ fs → more ≡ xs ++ x ∷ [] → kept ≡ cs ++ here → IsAnswer l a d x here
+    → GoesOn l all ds rest es xs cs → GoesOn l all ds as_ fs more kept
 go_on l all rest ds es a d as_ fs xs cs x here more kept q r u w n g ys bs h =
     let all_rest : AreAnswers l rest es (x ∷ ys) (here ++ bs) =
-    subst (λ (bs_ : List AreaOf). AreAnswers l bs_ es (x ∷ ys) (here ++ bs)) (sym q) (subst (λ (zs : List Plan). AreAnswers l (a ∷ as_) zs (x ∷ ys) (here ++ bs)) (sym r) (here, bs, n, h, refl)) in
-    let joined : xs ++ x ∷ ys ≡ more ++ ys = sym (append_assoc xs (x ∷ []) ys) ∙ ap (λ (zs : List AreaAnswer). zs ++ ys) (sym u) in
-    let filed : cs ++ (here ++ bs) ≡ kept ++ bs = sym (append_assoc cs here bs) ∙ ap (λ (zs : List Plain). zs ++ bs) (sym w) in
+    subst (λ (bs_ : List AreaOf). AreAnswers l bs_ es (x ∷ ys) (here ++ bs)) (sym q)
+    (subst (λ (zs : List Plan). AreAnswers l (a ∷ as_) zs (x ∷ ys) (here ++ bs)) (sym r)
+    (here, bs, n, h, refl)) in
+    let joined : xs ++ x ∷ ys ≡ more ++ ys = sym (append_assoc xs (x ∷ []) ys)
+    ∙ ap (λ (zs : List AreaAnswer). zs ++ ys) (sym u) in
+    let filed : cs ++ (here ++ bs) ≡ kept ++ bs = sym (append_assoc cs here bs)
+    ∙ ap (λ (zs : List Plain). zs ++ bs) (sym w) in
     subst (λ (zs : List AreaAnswer). AreAnswers l all ds zs (kept ++ bs)) joined
     (subst (AreAnswers l all ds (xs ++ x ∷ ys)) filed (g (x ∷ ys) (here ++ bs) all_rest))
 
-pub all_answered : (l : Layout) (all rest : List AreaOf) (ds es : List Plan) (xs : List AreaAnswer) (cs : List Plain)
+pub all_answered : (l : Layout) (all rest : List AreaOf) (ds es : List Plan) (xs : List AreaAnswer)
+    (cs : List Plain)
     → rest ≡ [] → es ≡ [] → GoesOn l all ds rest es xs cs → AreAnswers l all ds xs cs
 all_answered l all rest ds es xs cs q r g =
-    let last : AreAnswers l rest es [] [] = subst (λ (bs_ : List AreaOf). AreAnswers l bs_ es [] []) (sym q) (subst (λ (zs : List Plan). AreAnswers l [] zs [] []) (sym r) refl) in
-    subst (λ (zs : List AreaAnswer). AreAnswers l all ds zs cs) (append-nil xs) (subst (AreAnswers l all ds (xs ++ [])) (append-nil cs) (g [] [] last))
+    let last : AreAnswers l rest es [] [] = subst (λ (bs_ : List AreaOf). AreAnswers l bs_ es [] [])
+    (sym q) (subst (λ (zs : List Plan). AreAnswers l [] zs [] []) (sym r) refl) in
+    subst (λ (zs : List AreaAnswer). AreAnswers l all ds zs cs) (append-nil xs)
+    (subst (AreAnswers l all ds (xs ++ [])) (append-nil cs) (g [] [] last))
 
 -- ---- two lists of one length that are gone through together
-pub shorter_both : {A B : Type 0} (as_ : List A) (a : A) (rest : List A) (bs : List B) (b : B) (more : List B)
+pub shorter_both : {A B : Type 0} (as_ : List A) (a : A) (rest : List A) (bs : List B) (b : B)
+    (more : List B)
     → as_ ≡ a ∷ rest → bs ≡ b ∷ more → length bs ≡ length as_ → length more ≡ length rest
 shorter_both as_ a rest bs b more e f h =
     let n : length as_ ≡ suc (length rest) = ap length e in
@@ -173,11 +186,15 @@ both_ended (a ∷ as_) (b ∷ bs) h (inr e) = absurd (cc)
 -- ---- names of areas, one after the other
 pub named_first : (l : Layout) (all : List CodeArea) (a : CodeArea) (rest : List CodeArea)
     → all ≡ a ∷ rest → All (HasTitle l) (areas_view all) → HasTitle l (area_view a)
-named_first l all a rest e h = All-head (HasTitle l) (area_view a) (areas_view rest) (subst (λ (as_ : List CodeArea). All (HasTitle l) (areas_view as_)) e h)
+named_first l all a rest e h =
+    All-head (HasTitle l) (area_view a) (areas_view rest)
+    (subst (λ (as_ : List CodeArea). All (HasTitle l) (areas_view as_)) e h)
 
 pub named_rest : (l : Layout) (all : List CodeArea) (a : CodeArea) (rest : List CodeArea)
     → all ≡ a ∷ rest → All (HasTitle l) (areas_view all) → All (HasTitle l) (areas_view rest)
-named_rest l all a rest e h = All-tail (HasTitle l) (area_view a) (areas_view rest) (subst (λ (as_ : List CodeArea). All (HasTitle l) (areas_view as_)) e h)
+named_rest l all a rest e h =
+    All-tail (HasTitle l) (area_view a) (areas_view rest)
+    (subst (λ (as_ : List CodeArea). All (HasTitle l) (areas_view as_)) e h)
 
 -- ---- certificates that can be written, one after the other
 all_append : {X : Type 0} (P : X → Type 0) (xs ys : List X) → AllByRecursion P xs
@@ -194,7 +211,8 @@ one_at_most None = omega arith
 one_at_most (Some c) = omega arith
 
 -- there are no more certificates than areas that were answered
-pub count_more : (n : ℕ) (all : List CodeArea) (a : CodeArea) (rest : List CodeArea) (cs more : List Plain) (c : Option Certificate)
+pub count_more : (n : ℕ) (all : List CodeArea) (a : CodeArea) (rest : List CodeArea)
+    (cs more : List Plain) (c : Option Certificate)
     → all ≡ a ∷ rest → more ≡ cs ++ certificates_in c
     → length cs + length all ≤ n → length more + length rest ≤ n
 count_more n all a rest cs more c e m h =
@@ -205,11 +223,15 @@ count_more n all a rest cs more c e m h =
 -- ---- drawings with few curves and points, one after the other
 pub few_first : (all : List Drawing) (d : Drawing) (rest : List Drawing) → all ≡ d ∷ rest
     → All IsSmallPlan (plans all) → IsSmallPlan (plan d)
-few_first all d rest e h = All-head IsSmallPlan (plan d) (plans rest) (subst (λ (ds : List Drawing). All IsSmallPlan (plans ds)) e h)
+few_first all d rest e h =
+    All-head IsSmallPlan (plan d) (plans rest)
+    (subst (λ (ds : List Drawing). All IsSmallPlan (plans ds)) e h)
 
 pub few_rest : (all : List Drawing) (d : Drawing) (rest : List Drawing) → all ≡ d ∷ rest
     → All IsSmallPlan (plans all) → All IsSmallPlan (plans rest)
-few_rest all d rest e h = All-tail IsSmallPlan (plan d) (plans rest) (subst (λ (ds : List Drawing). All IsSmallPlan (plans ds)) e h)
+few_rest all d rest e h =
+    All-tail IsSmallPlan (plan d) (plans rest)
+    (subst (λ (ds : List Drawing). All IsSmallPlan (plans ds)) e h)
 
 -- ---- drawings with the overlaps of their areas, one after the other
 abbrev pub HaveTolerances : Layout → List CodeArea → List Drawing → Type 0

@@ -80,7 +80,8 @@ earlier i k lt n = omega (arith, lt, n)
 module _ (number : ℕ) (rules : List Rule) (k : ℕ) (asked : List Rule)
     (h : AreAskedTo number rules k asked) (r : Rule) (at : slice_get rules k ≡ Some r) where
   by_place : (i : ℕ) (P : Type 0) → i < k + 1 → (i < k → P) → (i ≡ k → P) → P
-  by_place i P lt f g = elim (decide_eq i k) as (λ z. P) [ inl e ↦ g e | inr n ↦ f (earlier i k lt n) ]
+  by_place i P lt f g =
+      elim (decide_eq i k) as (λ z. P) [ inl e ↦ g e | inr n ↦ f (earlier i k lt n) ]
     where
       decide_eq : (a b : ℕ) → (a ≡ b) ⊎ (a ≡ b → ⊥)
       decide_eq a b = by (a == b) refl
@@ -164,7 +165,8 @@ area_more l rows rules xs x h one k y e =
     by [] n g one (suc k) y e = absurd (cc)
     by (z ∷ ys) n g one zero y e = g zero y e
     by (z ∷ ys) n g one (suc k) y e =
-        subst (λ (m : ℕ). IsAsked l rows rules m y) (let q : (n + 1) + k ≡ n + suc k = omega arith in q)
+        subst (λ (m : ℕ). IsAsked l rows rules m y)
+        (let q : (n + 1) + k ≡ n + suc k = omega arith in q)
         (by ys (n + 1)
         (λ j w f. subst (λ (m : ℕ). IsAsked l rows rules m w)
         (let q : n + suc j ≡ (n + 1) + j = omega arith in q) (g (suc j) w f))

@@ -53,7 +53,8 @@ pub record IsPublished (o : Outcome) (old mid new : Stores) (status : Status) : 
 
 -- the laws of outcomes
 pub record CallLaws : Type 0 where
-  pub cause : (held : Option Files) (before after : List ℕ → ℕ) (words : List (List ℕ)) (o : Outcome)
+  pub cause : (held : Option Files) (before after : List ℕ → ℕ) (words : List (List ℕ))
+      (o : Outcome)
       → CallOutcome held (ReadRose before after) words o
       → HasCause held (ReadRose before after) words o.status
   pub agree : (files : Files) (before after from upto : List ℕ → ℕ) (words : List (List ℕ))

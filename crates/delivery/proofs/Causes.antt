@@ -47,7 +47,8 @@ use Rattle.delivery.proofs.AreaLemmas.{by_answers, outcome_by, faulty_area, left
 use Rattle.delivery.proofs.AreaLemmas.{parted_areas}
 
 -- ---- the causes
-module _ (laws : AreaLaws) (held : Option Files) (counted : List ℕ → Type 0) (words : List (List ℕ)) where
+module _ (laws : AreaLaws) (held : Option Files) (counted : List ℕ → Type 0)
+    (words : List (List ℕ)) where
   -- what is said of an outcome is said of one that is equal
   moved : (o p : Outcome) → o ≡ p → HasCause held counted words p.status
       → HasCause held counted words o.status
@@ -59,15 +60,21 @@ module _ (laws : AreaLaws) (held : Option Files) (counted : List ℕ → Type 0)
       (rejects : HasFault l text → Rejects (task_of c) l ts)
       (exceeds : HasLargeArea l text → IsOversized (task_of c) l ts)
       (Areas : List (List Row) → Outcome → Type 0)
-      (areas : (o : Outcome) → HasSoundRows l text (λ rows. Areas rows o) → HasCause held counted words o.status) where
+      (areas : (o : Outcome) → HasSoundRows l text (λ rows. Areas rows o)
+      → HasCause held counted words o.status) where
     judged_means : (o : Outcome) → IsJudgedBy l text Areas o → HasCause held counted words o.status
-    judged_means o (at_fault n code h e) = moved o (malformed n code) e (c, l, ts, i, g_, rejects (inl (n, code, h)))
-    judged_means o (faulty rows t n e) = moved o (rejected (findings l rows)) e (c, l, ts, i, g_, rejects (inr (rows, t, n)))
-    judged_means o (oversized rows t k b e) = moved o area_too_large e (inr (c, l, ts, i, g_, exceeds (rows, t, k, b)))
+    judged_means o (at_fault n code h e) =
+        moved o (malformed n code) e (c, l, ts, i, g_, rejects (inl (n, code, h)))
+    judged_means o (faulty rows t n e) =
+        moved o (rejected (findings l rows)) e (c, l, ts, i, g_, rejects (inr (rows, t, n)))
+    judged_means o (oversized rows t k b e) =
+        moved o area_too_large e (inr (c, l, ts, i, g_, exceeds (rows, t, k, b)))
     judged_means o (sound h) = areas o h
 
   -- a transfer whose areas are searched
-  module _ (c : Command) (s : Source) (target : Target) (e : task_of c ≡ judges s target) (i : IsCommand words c) (l : Layout) (text : List ℕ) (g_ : InputsOf held counted c (gathering.texts l (text ∷ []))) where
+  module _ (c : Command) (s : Source) (target : Target) (e : task_of c ≡ judges s target)
+      (i : IsCommand words c) (l : Layout) (text : List ℕ)
+      (g_ : InputsOf held counted c (gathering.texts l (text ∷ []))) where
     -- what a test says of the task, said of the command
     by_task : (test : Task → Layout → List (List ℕ) → Type 0) → test (judges s target) l (text ∷ [])
         → test (task_of c) l (text ∷ [])
@@ -158,10 +165,14 @@ module _ (laws : AreaLaws) (held : Option Files) (counted : List ℕ → Type 0)
         )
 
     checked_means : (o : Outcome) → IsChecked target l text o → HasCause held counted words o.status
-    checked_means = judged_means c i l text (text ∷ []) g_ (λ h. by_task Rejects (inl h)) (by_task IsOversized) (AreJudged target l) areas_mean
+    checked_means =
+        judged_means c i l text (text ∷ []) g_ (λ h. by_task Rejects (inl h)) (by_task IsOversized)
+        (AreJudged target l) areas_mean
 
   -- a transfer with filed certificates
-  module _ (c : Command) (s r : Source) (e : task_of c ≡ verifies s r) (i : IsCommand words c) (l : Layout) (text filed : List ℕ) (g_ : InputsOf held counted c (gathering.texts l (text ∷ filed ∷ []))) where
+  module _ (c : Command) (s r : Source) (e : task_of c ≡ verifies s r) (i : IsCommand words c)
+      (l : Layout) (text filed : List ℕ)
+      (g_ : InputsOf held counted c (gathering.texts l (text ∷ filed ∷ []))) where
     with_filed : (test : Task → Layout → List (List ℕ) → Type 0)
         → test (verifies s r) l (text ∷ filed ∷ []) → test (task_of c) l (text ∷ filed ∷ [])
     with_filed test h = subst (λ (t : Task). test t l (text ∷ filed ∷ [])) (sym e) h
@@ -169,15 +180,42 @@ module _ (laws : AreaLaws) (held : Option Files) (counted : List ℕ → Type 0)
     -- the status of what certificates prove
     filed_mean : (o : Outcome) → HasSoundRows l text (λ rows. AreVerified l filed rows o)
         → HasCause held counted words o.status
-    filed_mean o (rows, t, k, b, j) = moved o (verified l (objects rows) j.drawings j.verification) j.is (by j.verification j.judged)
+    filed_mean o (rows, t, k, b, j) =
+        moved o (verified l (objects rows) j.drawings j.verification) j.is
+        (by j.verification j.judged)
       where
         by : (v : Verification) → IsVerification l j.drawings filed v
             → HasCause held counted words (verified l (objects rows) j.drawings v).status
-        by (verifications.proved levels) h = (c, l, text ∷ filed ∷ [], i, g_, with_filed Accepts (rows, t, k, b, ((j.drawings, j.drawn, levels, h), laws.verified l rows j.drawings filed levels j.drawn h)))
-        by (verifications.not_proved a rule place) h = (c, l, text ∷ filed ∷ [], i, g_, with_filed Unproves (rows, t, k, b, (j.drawings, j.drawn, a, rule, place, h)))
+        by (verifications.proved levels) h = (
+          c,
+          l,
+          text ∷ filed ∷ [],
+          i,
+          g_,
+          with_filed Accepts (
+            rows,
+            t,
+            k,
+            b,
+            (
+              (j.drawings, j.drawn, levels, h),
+              laws.verified l rows j.drawings filed levels j.drawn h,
+            ),
+          ),
+        )
+        by (verifications.not_proved a rule place) h = (
+          c,
+          l,
+          text ∷ filed ∷ [],
+          i,
+          g_,
+          with_filed Unproves (rows, t, k, b, (j.drawings, j.drawn, a, rule, place, h)),
+        )
 
     verify_means : (o : Outcome) → IsVerified l text filed o → HasCause held counted words o.status
-    verify_means = judged_means c i l text (text ∷ filed ∷ []) g_ (with_filed Rejects) (with_filed IsOversized) (AreVerified l filed) filed_mean
+    verify_means =
+        judged_means c i l text (text ∷ filed ∷ []) g_ (with_filed Rejects) (with_filed IsOversized)
+        (AreVerified l filed) filed_mean
 
   -- a transfer with links
   module _ (c : Command) (s r : Source) (e : task_of c ≡ tests_points s r) (i : IsCommand words c)
@@ -302,11 +340,33 @@ module _ (laws : AreaLaws) (held : Option Files) (counted : List ℕ → Type 0)
       → InputsOf held counted c (gathering.texts l (text ∷ [])) → (o : Outcome)
       → IsRewritten name l text o → HasCause held counted words o.status
   rewrite_means c s name e i l text g o (misread n code h q) =
-      moved o (malformed n code) q (c, l, text ∷ [], i, g, subst (λ (t : Task). Rejects t l (text ∷ [])) (sym e) (inl (n, code, h)))
+      moved o (malformed n code) q (
+        c,
+        l,
+        text ∷ [],
+        i,
+        g,
+        subst (λ (t : Task). Rejects t l (text ∷ [])) (sym e) (inl (n, code, h)),
+      )
   rewrite_means c s name e i l text g o (without_text rows t k q) =
-      moved o canon_refused q (c, l, text ∷ [], i, g, subst (λ (t : Task). Rejects t l (text ∷ [])) (sym e) (inr (rows, t, k)))
+      moved o canon_refused q (
+        c,
+        l,
+        text ∷ [],
+        i,
+        g,
+        subst (λ (t : Task). Rejects t l (text ∷ [])) (sym e) (inr (rows, t, k)),
+      )
   rewrite_means c s name e i l text g o (written rows t k q) =
-      moved o (canonical name (objects rows) (canon_of l rows)) q (c, l, text ∷ [], i, g, subst (λ (t : Task). Accepts t l (text ∷ [])) (sym e) (rows, t, k))
+      moved o (canonical name (objects rows) (canon_of l rows)) q (
+        c,
+        l,
+        text ∷ [],
+        i,
+        g,
+        subst (λ (t : Task). Accepts t l (text ∷ [])) (sym e)
+            (rows, t, k),
+      )
 
   -- a command by its task
   task_means : (c : Command) (t : Task) (g : Gathered) → task_of c ≡ t → IsCommand words c
@@ -315,10 +375,14 @@ module _ (laws : AreaLaws) (held : Option Files) (counted : List ℕ → Type 0)
   task_means c t (gathering.unread f) e i h o k = moved o (unread f) k (f, (c, i, h))
   task_means c t (gathering.too_long f) e i h o k = moved o (too_long f) k (inl (f, (c, i, h)))
   task_means c t (gathering.refused r) e i h o k = moved o (refused r) k (r, (c, i, h))
-  task_means c lists (gathering.texts l ts) e i h o k = moved o (compiled l) k (c, l, ts, i, h, subst (λ (t : Task). Accepts t l ts) (sym e) tt)
-  task_means c (judges s target) (gathering.texts l (text ∷ [])) e i h o k = checked_means c s target e i l text h o k
-  task_means c (verifies s r) (gathering.texts l (text ∷ filed ∷ [])) e i h o k = verify_means c s r e i l text filed h o k
-  task_means c (rewrites s name) (gathering.texts l (text ∷ [])) e i h o k = rewrite_means c s name e i l text h o k
+  task_means c lists (gathering.texts l ts) e i h o k =
+      moved o (compiled l) k (c, l, ts, i, h, subst (λ (t : Task). Accepts t l ts) (sym e) tt)
+  task_means c (judges s target) (gathering.texts l (text ∷ [])) e i h o k =
+      checked_means c s target e i l text h o k
+  task_means c (verifies s r) (gathering.texts l (text ∷ filed ∷ [])) e i h o k =
+      verify_means c s r e i l text filed h o k
+  task_means c (rewrites s name) (gathering.texts l (text ∷ [])) e i h o k =
+      rewrite_means c s name e i l text h o k
   task_means c (tests_points s r) (gathering.texts l (text ∷ links ∷ [])) e i h o k =
       linked_means c s r e i l text links h o k
   task_means c t (gathering.texts l ts) e i h o k = absurd k
@@ -359,7 +423,8 @@ areas_fixed target l rows o j =
 
 verified_fixed : (l : Layout) (rows : List (List Row)) (filed : List ℕ) (o : Outcome)
     → AreVerified l filed rows o → IsFixed o.status
-verified_fixed l rows filed o j = fixed_as o (verified l (objects rows) j.drawings j.verification) j.is (by j.verification)
+verified_fixed l rows filed o j =
+    fixed_as o (verified l (objects rows) j.drawings j.verification) j.is (by j.verification)
   where
     by : (v : Verification) → IsFixed (verified l (objects rows) j.drawings v).status
     by (verifications.proved levels) = tt
@@ -399,15 +464,18 @@ rewrite_fixed : (name : List ℕ) (l : Layout) (text : List ℕ) (o : Outcome)
     → IsRewritten name l text o → IsFixed o.status
 rewrite_fixed name l text o (misread n code h e) = fixed_as o (malformed n code) e tt
 rewrite_fixed name l text o (without_text rows t k e) = fixed_as o canon_refused e tt
-rewrite_fixed name l text o (written rows t k e) = fixed_as o (canonical name (objects rows) (canon_of l rows)) e tt
+rewrite_fixed name l text o (written rows t k e) =
+    fixed_as o (canonical name (objects rows) (canon_of l rows)) e tt
 
 task_fixed : (t : Task) (g : Gathered) (o : Outcome) → HasOutcome t g o → IsFixed o.status
 task_fixed t (gathering.unread f) o e = fixed_as o (unread f) e tt
 task_fixed t (gathering.too_long f) o e = fixed_as o (too_long f) e tt
 task_fixed t (gathering.refused r) o e = fixed_as o (refused r) e tt
 task_fixed lists (gathering.texts l ts) o e = fixed_as o (compiled l) e tt
-task_fixed (judges s target) (gathering.texts l (text ∷ [])) o k = judged_fixed l text (AreJudged target l) (λ rows p j. areas_fixed target l rows p j) o k
-task_fixed (verifies s r) (gathering.texts l (text ∷ filed ∷ [])) o k = judged_fixed l text (AreVerified l filed) (λ rows p j. verified_fixed l rows filed p j) o k
+task_fixed (judges s target) (gathering.texts l (text ∷ [])) o k =
+    judged_fixed l text (AreJudged target l) (λ rows p j. areas_fixed target l rows p j) o k
+task_fixed (verifies s r) (gathering.texts l (text ∷ filed ∷ [])) o k =
+    judged_fixed l text (AreVerified l filed) (λ rows p j. verified_fixed l rows filed p j) o k
 task_fixed (rewrites s name) (gathering.texts l (text ∷ [])) o k = rewrite_fixed name l text o k
 task_fixed (tests_points s r) (gathering.texts l (text ∷ links ∷ [])) o k =
     judged_fixed l text (AreLinked l links) (λ rows p j. links_fixed l links rows p j) o k
@@ -418,11 +486,13 @@ fixed : (held : Option Files) (counted : List ℕ → Type 0) (words : List (Lis
 fixed held counted words o (without_command u e) = fixed_as o usage e tt
 fixed held counted words o (with_command c g i h a) = task_fixed (task_of c) g o a
 
-pub not_write_fault : (held : Option Files) (counted : List ℕ → Type 0) (words : List (List ℕ)) (o : Outcome)
+pub not_write_fault : (held : Option Files) (counted : List ℕ → Type 0) (words : List (List ℕ))
+    (o : Outcome)
     → CallOutcome held counted words o → o.status ≢ WriteFault
 not_write_fault held counted words o h e = subst IsFixed e (fixed held counted words o h)
 
-pub not_memory : (held : Option Files) (counted : List ℕ → Type 0) (words : List (List ℕ)) (o : Outcome)
+pub not_memory : (held : Option Files) (counted : List ℕ → Type 0) (words : List (List ℕ))
+    (o : Outcome)
     → CallOutcome held counted words o → o.status ≢ Memory
 not_memory held counted words o h e = subst IsFixed e (fixed held counted words o h)
 
@@ -440,16 +510,20 @@ by_write A OverLimit f n = n (λ e. cc)
 by_write A Memory f n = n (λ e. cc)
 by_write A NotProved f n = n (λ e. cc)
 
-pub caused : (held : Option Files) (counted : List ℕ → Type 0) (words : List (List ℕ)) (o : Outcome) (s : Status)
+pub caused : (held : Option Files) (counted : List ℕ → Type 0) (words : List (List ℕ)) (o : Outcome)
+    (s : Status)
     → (CallOutcome held counted words o → HasCause held counted words o.status)
-    → CallOutcome held counted words o → (s ≢ WriteFault → s ≡ o.status) → HasCause held counted words s
+    → CallOutcome held counted words o → (s ≢ WriteFault → s ≡ o.status)
+    → HasCause held counted words s
 caused held counted words o s law h e =
     by_write (HasCause held counted words s) s
     (λ w. subst (HasCause held counted words) (sym w) tt)
     (λ n. subst (HasCause held counted words) (sym (e n)) (law h))
 
 -- such an answer is not out of memory
-pub never_memory : (held : Option Files) (counted : List ℕ → Type 0) (words : List (List ℕ)) (o : Outcome) (s : Status)
+pub never_memory : (held : Option Files) (counted : List ℕ → Type 0) (words : List (List ℕ))
+    (o : Outcome) (s : Status)
     → CallOutcome held counted words o → (s ≢ WriteFault → s ≡ o.status) → s ≢ Memory
 never_memory held counted words o s h e m =
-    by_write ⊥ s (λ w. let k : WriteFault ≡ Memory = sym w ∙ m in cc) (λ n. not_memory held counted words o h (sym (e n) ∙ m))
+    by_write ⊥ s (λ w. let k : WriteFault ≡ Memory = sym w ∙ m in
+    cc) (λ n. not_memory held counted words o h (sym (e n) ∙ m))

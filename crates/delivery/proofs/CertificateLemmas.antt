@@ -18,7 +18,12 @@ notes_paired (a ∷ b ∷ notes) h = ap (λ (ns : List HalfNote). a ∷ b ∷ ns
 
 pub claims_paired : (c : Certificate) → ArePaired c.notes.items → claims c ≡ claims_of (view c)
 claims_paired c h =
-    ap (λ (ns : List HalfNote). (let claims : Claims = record { level = c.level; positions = c.positions.items; notes = ns; places = c.places.items } in claims))
+    ap (λ (ns : List HalfNote). (let claims : Claims = record {
+      level = c.level;
+      positions = c.positions.items;
+      notes = ns;
+      places = c.places.items;
+    } in claims))
     (sym (notes_paired c.notes.items h))
 
 -- so many notes have partners where their number is even

@@ -43,12 +43,26 @@ use Rattle.commands.proofs.OneCommand.{one_command}
 one_certificate : (l : Layout) (a : AreaOf) (d : Plan) (x : AreaAnswer) (here : List Plain)
     → IsAnswer l a d x here → answer_is_fault x ≡ false → answer_is_undecided x ≡ false
     → (c : Plain) × (here ≡ c ∷ []) × IsCertificateOf l a d c
-one_certificate l a d x here (faulty n h e z) f g = differ (answer_is_fault x) (ap answer_is_fault e ∙ fault_is_fault d n) f
-one_certificate l a d x here (undecided i j h e z) f g = differ (answer_is_undecided x) (ap answer_is_undecided e) g
-one_certificate l a d x here (proved c n h e z) f g =
-    (c, z, record { named = n; proves = record { of = h.g; origin = h.origin; is_ground = h.right.is_ground; proves = h.proves } })
+one_certificate l a d x here (faulty n h e z) f g =
+    differ (answer_is_fault x) (ap answer_is_fault e ∙ fault_is_fault d n) f
+one_certificate l a d x here (undecided i j h e z) f g =
+    differ (answer_is_undecided x) (ap answer_is_undecided e) g
+one_certificate l a d x here (proved c n h e z) f g = (
+  c,
+  z,
+  record {
+    named = n;
+    proves = record {
+      of = h.g;
+      origin = h.origin;
+      is_ground = h.right.is_ground;
+      proves = h.proves;
+    };
+  },
+)
 
-certificates : (l : Layout) (as_ : List AreaOf) (ds : List Plan) (xs : List AreaAnswer) (cs : List Plain)
+certificates : (l : Layout) (as_ : List AreaOf) (ds : List Plan) (xs : List AreaAnswer)
+    (cs : List Plain)
     → AreAnswers l as_ ds xs cs → some_fault xs ≡ false → some_undecided xs ≡ false
     → AreCertificatesOf l as_ ds cs
 certificates l [] [] [] cs h f g = subst (AreCertificatesOf l [] []) (sym h) tt
@@ -61,7 +75,8 @@ certificates l (a ∷ as_) (d ∷ ds) (x ∷ xs) cs h f g =
     let m = neither (answer_is_undecided x) (some_undecided xs) g in
     let one = one_certificate l a d x h.0 h.2 n.0 m.0 in
     let whole : cs ≡ one.0 ∷ h.1 = h.4 ∙ ap (λ (here : List Plain). here ++ h.1) one.1 in
-    subst (AreCertificatesOf l (a ∷ as_) (d ∷ ds)) (sym whole) (one.2, certificates l as_ ds xs h.1 h.3 n.1 m.1)
+    subst (AreCertificatesOf l (a ∷ as_) (d ∷ ds)) (sym whole)
+    (one.2, certificates l as_ ds xs h.1 h.3 n.1 m.1)
 
 -- ---- what an accepted outcome is that writes to that file
 record HasFiled (t : Task) (name : List ℕ) (g : Gathered) (o : Outcome) : Type 0 where
@@ -73,16 +88,30 @@ record HasFiled (t : Task) (name : List ℕ) (g : Gathered) (o : Outcome) : Type
   filed : o.filing ≡ Some (record { name = name; text = left })
 
 -- what is left of certificates and of polygons
-left_by : (f : Filed) (l : Layout) (text : List ℕ) (cs : List Plain) (ps : List polygons.Plain) (a : AreCertified l text cs)
+left_by : (f : Filed) (l : Layout) (text : List ℕ) (cs : List Plain) (ps : List polygons.Plain)
+    (a : AreCertified l text cs)
     → ArePolygonsFor f l a.drawings ps → LeavesFiled f l text (filed_text f cs ps)
 left_by filed.Certificates l text cs ps a p = (cs, a, refl)
 left_by (filed.Trial n) l text cs ps a p = (cs, a, refl)
-left_by filed.Polygons l text cs ps a p = (ps, record { rows = a.rows; drawings = a.drawings; rows_of = a.rows_of; clean = a.clean; few = a.few; drawn = a.drawn; written = p }, refl)
+left_by filed.Polygons l text cs ps a p = (
+  ps,
+  record {
+    rows = a.rows;
+    drawings = a.drawings;
+    rows_of = a.rows_of;
+    clean = a.clean;
+    few = a.few;
+    drawn = a.drawn;
+    written = p;
+  },
+  refl,
+)
 
 status_of : (o p : Outcome) → o ≡ p → o.status ≡ Accepted → p.status ≡ Accepted
 status_of o p e h = sym (ap (λ (x : Outcome). x.status) e) ∙ h
 
-module _ (source : Source) (target : Target) (l : Layout) (text : List ℕ) (o : Outcome) (s : o.status ≡ Accepted) where
+module _ (source : Source) (target : Target) (l : Layout) (text : List ℕ) (o : Outcome)
+    (s : o.status ≡ Accepted) where
   filed_areas : HasSoundRows l text (λ rows. AreJudged target l rows o)
       → HasFiled (judges source target) target.name (gathering.texts l (text ∷ [])) o
   filed_areas (rows, t, k, b, j) =
@@ -113,7 +142,17 @@ module _ (source : Source) (target : Target) (l : Layout) (text : List ℕ) (o :
         text = text;
         left = filed_text target.filed j.certificates j.polygons;
         read = refl;
-        leaves = left_by target.filed l text j.certificates j.polygons (record { rows = rows; drawings = j.drawings; rows_of = t; clean = k; few = b; drawn = j.drawn; proved = certificates l l.areas j.drawings j.answers j.certificates j.answered (neither (some_fault j.answers) (surface_fault l j.surface_answers) e).0 h; spelt = j.spelt }) (j.bounded s);
+        leaves = left_by target.filed l text j.certificates j.polygons (record {
+          rows = rows;
+          drawings = j.drawings;
+          rows_of = t;
+          clean = k;
+          few = b;
+          drawn = j.drawn;
+          proved = certificates l l.areas j.drawings j.answers j.certificates j.answered
+              (neither (some_fault j.answers) (surface_fault l j.surface_answers) e).0 h;
+          spelt = j.spelt;
+        }) (j.bounded s);
         filed = ap (λ (x : Outcome). x.filing) (by_bits false false e h);
       }
 
@@ -124,19 +163,23 @@ module _ (source : Source) (target : Target) (l : Layout) (text : List ℕ) (o :
   filed_check (judging.oversized rows t k b e) = absurd (let q = status_of o _ e s in cc)
   filed_check (judging.sound h) = filed_areas h
 
-filed_as : (source : Source) (target : Target) (name : List ℕ) (l : Layout) (text : List ℕ) (o : Outcome)
+filed_as : (source : Source) (target : Target) (name : List ℕ) (l : Layout) (text : List ℕ)
+    (o : Outcome)
     → Some target.name ≡ Some name → IsChecked target l text o → o.status ≡ Accepted
     → HasFiled (judges source target) name (gathering.texts l (text ∷ [])) o
 filed_as source target name l text o w k s =
     let e : target.name ≡ name = cc in
-    subst (λ (x : List ℕ). HasFiled (judges source target) x (gathering.texts l (text ∷ [])) o) e (filed_check source target l text o s k)
+    subst (λ (x : List ℕ). HasFiled (judges source target) x (gathering.texts l (text ∷ [])) o) e
+    (filed_check source target l text o s k)
 
 -- and one whose canonical text is written
 canon_filed : (source : Source) (file name : List ℕ) (l : Layout) (text : List ℕ) (o : Outcome)
     → Some file ≡ Some name → IsRewritten file l text o → o.status ≡ Accepted
     → HasFiled (rewrites source file) name (gathering.texts l (text ∷ [])) o
-canon_filed source file name l text o w (rewriting.misread n code h e) s = absurd (let q = status_of o _ e s in cc)
-canon_filed source file name l text o w (rewriting.without_text rows t k e) s = absurd (let q = status_of o _ e s in cc)
+canon_filed source file name l text o w (rewriting.misread n code h e) s =
+    absurd (let q = status_of o _ e s in cc)
+canon_filed source file name l text o w (rewriting.without_text rows t k e) s =
+    absurd (let q = status_of o _ e s in cc)
 canon_filed source file name l text o w (rewriting.written rows t k e) s =
     let same : file ≡ name = cc in
     record {
@@ -145,7 +188,8 @@ canon_filed source file name l text o w (rewriting.written rows t k e) s =
       left = canon_of l rows;
       read = refl;
       leaves = (rows, t, refl);
-      filed = ap (λ (x : Outcome). x.filing) e ∙ ap (λ (n : List ℕ). Some (record { name = n; text = canon_of l rows })) same;
+      filed = ap (λ (x : Outcome). x.filing) e
+          ∙ ap (λ (n : List ℕ). Some (record { name = n; text = canon_of l rows })) same;
     }
 
 filed_by : (t : Task) (name : List ℕ) (g : Gathered) (o : Outcome) → writes_to t ≡ Some name
@@ -153,24 +197,29 @@ filed_by : (t : Task) (name : List ℕ) (g : Gathered) (o : Outcome) → writes_
 filed_by t name (gathering.unread f) o w e s = absurd (let q = status_of o _ e s in cc)
 filed_by t name (gathering.too_long f) o w e s = absurd (let q = status_of o _ e s in cc)
 filed_by t name (gathering.refused r) o w e s = absurd (let q = status_of o _ e s in cc)
-filed_by (judges r target) name (gathering.texts l (text ∷ [])) o w k s = filed_as r target name l text o w k s
-filed_by (rewrites r file) name (gathering.texts l (text ∷ [])) o w k s = canon_filed r file name l text o w k s
+filed_by (judges r target) name (gathering.texts l (text ∷ [])) o w k s =
+    filed_as r target name l text o w k s
+filed_by (rewrites r file) name (gathering.texts l (text ∷ [])) o w k s =
+    canon_filed r file name l text o w k s
 filed_by lists name (gathering.texts l ts) o w k s = absurd (cc)
 filed_by (verifies r f) name (gathering.texts l ts) o w k s = absurd (cc)
 filed_by (tests_points r f) name (gathering.texts l ts) o w k s = absurd (cc)
 filed_by t name (gathering.texts l ts) o w k s = absurd k
 
-pub certifies : (held : Option Files) (counted : List ℕ → Type 0) (words : List (List ℕ)) (o : Outcome) (new : Option Files)
+pub certifies : (held : Option Files) (counted : List ℕ → Type 0) (words : List (List ℕ))
+    (o : Outcome) (new : Option Files)
     → CallOutcome held counted words o → o.status ≡ Accepted → IsFiled o.filing held new
     → Certifies held counted words new
 certifies held counted words o new (without_command u e) s f c name i w = absurd (u c i)
 certifies held counted words o new (with_command d g j h a) s f c name i w =
     let q = one_command words d c j i in
-    let n = filed_by (task_of c) name g o w (subst (λ (x : Command). HasOutcome (task_of x) g o) q a) s in (
+    let n = filed_by (task_of c) name g o w
+    (subst (λ (x : Command). HasOutcome (task_of x) g o) q a) s in (
       n.layout,
       n.text,
       n.left,
-      subst (InputsOf held counted c) n.read (subst (λ (x : Command). InputsOf held counted x g) q h),
+      subst (InputsOf held counted c) n.read
+          (subst (λ (x : Command). InputsOf held counted x g) q h),
       n.leaves,
       subst (λ (x : Option Filing). IsFiled x held new) n.filed f,
     )
@@ -199,7 +248,10 @@ verified_again laws l text cs o a h =
         drawings = a.drawings;
         verification = v;
         drawn = a.drawn;
-        judged = verifying.all_proved cs (record { spelt = a.spelt; spells = own_text cs }) a.proved refl;
+        judged = verifying.all_proved cs (record {
+          spelt = a.spelt;
+          spells = own_text cs;
+        }) a.proved refl;
         is = refl;
       },
     ) in

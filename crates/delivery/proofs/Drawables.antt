@@ -53,7 +53,8 @@ pub rows_at : (codes : Codes) (ts : List Table) (transfer : List (List Row)) (n 
     → RowsHavePlaces codes t (slice_index_or transfer n [])
 rows_at codes [] transfer n t h e = absurd (cc)
 rows_at codes (u ∷ ts) [] n t h e = tt
-rows_at codes (u ∷ ts) (rows ∷ transfer) zero t h e = subst (λ (v : Table). RowsHavePlaces codes v rows) (same u t e) h.0
+rows_at codes (u ∷ ts) (rows ∷ transfer) zero t h e =
+    subst (λ (v : Table). RowsHavePlaces codes v rows) (same u t e) h.0
   where
     same : (u t : Table) → Some u ≡ Some t → u ≡ t
     same u t e = cc
@@ -69,19 +70,23 @@ point_there : (codes : Codes) (cs : List Column) (k : ℕ) (c : Column) (words :
     → HavePoints codes cs words → slice_get cs k ≡ Some c
     → HasPoint codes c.optional c.form (take (width c.form) (drop (widths (take k cs)) words))
 point_there codes [] k c words h e = absurd (cc)
-point_there codes (b ∷ cs) zero c words h e = subst (λ (x : Column). HasPoint codes x.optional x.form (take (width x.form) words)) (same b c e) h.0
+point_there codes (b ∷ cs) zero c words h e =
+    subst (λ (x : Column). HasPoint codes x.optional x.form (take (width x.form) words))
+    (same b c e) h.0
   where
     same : (b c : Column) → Some b ≡ Some c → b ≡ c
     same b c e = cc
 point_there codes (b ∷ cs) (suc k) c words h e =
-    subst (λ (ws : List (List ℕ)). HasPoint codes c.optional c.form (take (width c.form) ws)) (sym (drop_both (width b.form) (widths (take k cs)) words))
+    subst (λ (ws : List (List ℕ)). HasPoint codes c.optional c.form (take (width c.form) ws))
+    (sym (drop_both (width b.form) (widths (take k cs)) words))
     (point_there codes cs k c (drop (width b.form) words) h.1 e)
 
 pub in_window : (v : Window) (w : Window2) (p : Place) → IsWindowOf v w → clean.IsInside v p
     → IsInside w.low w.high (point_at p)
 in_window v w p e h =
     subst (λ (q : Point). IsInside q w.high (point_at p)) (sym e.low)
-    (subst (λ (q : Point). IsInside (record { x = v.x.low; y = v.y.low }) q (point_at p)) (sym e.high)
+    (subst (λ (q : Point). IsInside (record { x = v.x.low; y = v.y.low }) q (point_at p))
+    (sym e.high)
     (record { left = h.west; right = h.east; bottom = h.south; top = h.north }))
 
 -- what is said of no place, and of those of a value, is said of those that are read
@@ -98,12 +103,16 @@ module _ (codes : Codes) (v : Window) (w : Window2) (line : ℕ) (e : IsWindowOf
   none_in = All-nil (λ (p : Placed). IsInside w.low w.high p.at)
 
   one_in : (p : Place) → clean.IsInside v p → are_in w line (p ∷ [])
-  one_in p h = All-cons (λ (q : Placed). IsInside w.low w.high q.at) (placed line p) [] (in_window v w p e h) none_in
+  one_in p h =
+      All-cons (λ (q : Placed). IsInside w.low w.high q.at) (placed line p) []
+      (in_window v w p e h) none_in
 
   undefined_none : (optional : Bool) (x : List ℕ) (words : List (List ℕ))
       → (optional && list_all (is_undefined codes) (x ∷ words)) ≡ true
       → list_any (is_undefined codes) (x ∷ words) ≡ true
-  undefined_none optional x words h = by optional (is_undefined codes x) (list_all (is_undefined codes) words) (list_any (is_undefined codes) words) h
+  undefined_none optional x words h =
+      by optional (is_undefined codes x) (list_all (is_undefined codes) words)
+      (list_any (is_undefined codes) words) h
     where
       by : (a b c d : Bool) → (a && (b && c)) ≡ true → (b || d) ≡ true
       by true true c d h = refl
@@ -117,51 +126,78 @@ module _ (codes : Codes) (v : Window) (w : Window2) (line : ℕ) (e : IsWindowOf
 
   inside : (optional : Bool) (words : List (List ℕ)) → HasPoint codes optional (AreaPoint v) words
       → are_in w line (place_read (column_reading (AreaPoint v) codes words))
-  inside optional [] h = read_as (are_in w line) (field_fault (AreaPoint v) codes []) (value_of (AreaPoint v) []) none_in none_in
-  inside optional (x ∷ []) h = read_as (are_in w line) (field_fault (AreaPoint v) codes (x ∷ [])) (value_of (AreaPoint v) (x ∷ [])) none_in none_in
-  inside optional (x ∷ y ∷ ws) (inl u) = of_undefined (list_any (is_undefined codes) (x ∷ y ∷ ws)) (value_fault (AreaPoint v) (x ∷ y ∷ ws)) (value_of (AreaPoint v) (x ∷ y ∷ ws)) (undefined_none optional x (y ∷ ws) u)
-  inside optional (x ∷ y ∷ ws) (inr i) = read_as (are_in w line) (field_fault (AreaPoint v) codes (x ∷ y ∷ ws)) (value_of (AreaPoint v) (x ∷ y ∷ ws)) none_in (one_in (place_named v (x ∷ y ∷ ws)) i)
+  inside optional [] h =
+      read_as (are_in w line) (field_fault (AreaPoint v) codes [])
+      (value_of (AreaPoint v) []) none_in none_in
+  inside optional (x ∷ []) h =
+      read_as (are_in w line) (field_fault (AreaPoint v) codes (x ∷ []))
+      (value_of (AreaPoint v) (x ∷ [])) none_in none_in
+  inside optional (x ∷ y ∷ ws) (inl u) =
+      of_undefined (list_any (is_undefined codes) (x ∷ y ∷ ws))
+      (value_fault (AreaPoint v) (x ∷ y ∷ ws)) (value_of (AreaPoint v) (x ∷ y ∷ ws))
+      (undefined_none optional x (y ∷ ws) u)
+  inside optional (x ∷ y ∷ ws) (inr i) =
+      read_as (are_in w line) (field_fault (AreaPoint v) codes (x ∷ y ∷ ws))
+      (value_of (AreaPoint v) (x ∷ y ∷ ws)) none_in (one_in (place_named v (x ∷ y ∷ ws)) i)
 
 pub point_in : (codes : Codes) (t : Table) (k : ℕ) (c : Column) (v : Window) (w : Window2)
     → slice_get t.columns k ≡ Some c → c.form ≡ AreaPoint v → IsWindowOf v w → (r : Row)
     → HasPlaces codes t r → ArePointsIn w (points_at codes (first_word t.columns k) c r)
 point_in codes t k c v w e f i r h =
-    moved (subst (λ (form : Form). HasPoint codes c.optional form (take (width c.form) (drop (widths (take k t.columns)) (drop 1 r.fields)))) f (point_there codes t.columns k c (drop 1 r.fields) h.points e))
+    moved (subst
+    (λ (form : Form). HasPoint codes c.optional form
+    (take (width c.form) (drop (widths (take k t.columns)) (drop 1 r.fields)))) f
+    (point_there codes t.columns k c (drop 1 r.fields) h.points e))
   where
     words : List (List ℕ)
     words = take (width c.form) (drop (widths (take k t.columns)) (drop 1 r.fields))
 
     same_words : words ≡ words_at (first_word t.columns k) c r
-    same_words = ap (λ (ws : List (List ℕ)). take (width c.form) ws) (sym (drop_both 1 (widths (take k t.columns)) r.fields))
+    same_words =
+        ap (λ (ws : List (List ℕ)). take (width c.form) ws)
+        (sym (drop_both 1 (widths (take k t.columns)) r.fields))
 
     moved : HasPoint codes c.optional (AreaPoint v) words
-        → are_in w r.line (place_read (column_reading c.form codes (words_at (first_word t.columns k) c r)))
+        → are_in w r.line
+        (place_read (column_reading c.form codes (words_at (first_word t.columns k) c r)))
     moved p =
-        subst (λ (ws : List (List ℕ)). are_in w r.line (place_read (column_reading c.form codes ws))) same_words
-        (subst (λ (form : Form). are_in w r.line (place_read (column_reading form codes words))) (sym f) (inside codes v w r.line i c.optional words p))
+        subst (λ (ws : List (List ℕ)). are_in w r.line
+        (place_read (column_reading c.form codes ws))) same_words
+        (subst (λ (form : Form). are_in w r.line (place_read (column_reading form codes words)))
+        (sym f) (inside codes v w r.line i c.optional words p))
 
 -- ---- an area of a valid layout
 module _ (l : Layout) (a : AreaOf) (v : IsValid l) (h : IsArea l.tables a) where
   helper_table : IsTable (length l.topics) l.tables h.helper
-  helper_table = all_at (IsTable (length l.topics) l.tables) l.tables a.lines h.helper v.tables h.lines
+  helper_table =
+      all_at (IsTable (length l.topics) l.tables) l.tables a.lines h.helper v.tables h.lines
 
   pub area_table : IsAreaTable l.tables h.helper a.main a.column
   area_table = subst (IsRole l.tables h.helper) h.role helper_table.role
 
   abbrev pub forms : HasForms l a
-  forms = record { line = area_table.line; lines = ap lines_in h.lines ∙ area_table.lines; narrow = area_table.narrow }
+  forms = record {
+    line = area_table.line;
+    lines = ap lines_in h.lines ∙ area_table.lines;
+    narrow = area_table.narrow;
+  }
 
 -- ---- rows without findings
 pub clean_rows : (l : Layout) (rows : List (List Row)) → IsClean l rows
     → HavePlaces l.codes l.tables rows
-clean_rows l rows c = have_places l rows (empty_both (value_findings l rows) (key_findings l rows) (unsorted is_before (value_findings l rows ++ key_findings l rows) c)).0
+clean_rows l rows c =
+    have_places l rows
+    (empty_both (value_findings l rows) (key_findings l rows)
+    (unsorted is_before (value_findings l rows ++ key_findings l rows) c)).0
 
 -- ---- an area by its number
 area_there : (as_ : List area.AreaOf) (k : ℕ) (x : area.AreaOf) → k < length as_
     → x ≡ get_or as_ k x → slice_get (areas_view as_) k ≡ Some (area_view x)
-area_there as_ k x l e = slice_get-map area_view as_ k ∙ ap (option_map area_view) (slice_get_read as_ (length as_) k x refl l e)
+area_there as_ k x l e = slice_get-map area_view as_ k
+    ∙ ap (option_map area_view) (slice_get_read as_ (length as_) k x refl l e)
 
-module _ (l : Layout) (as_ : List area.AreaOf) (k : ℕ) (x : area.AreaOf) (w : k < length as_) (e : x ≡ get_or as_ k x) (q : l.areas ≡ areas_view as_) where
+module _ (l : Layout) (as_ : List area.AreaOf) (k : ℕ) (x : area.AreaOf) (w : k < length as_)
+    (e : x ≡ get_or as_ k x) (q : l.areas ≡ areas_view as_) where
   pub there : slice_get l.areas k ≡ Some (area_view x)
   there = ap (λ (xs : List AreaOf). slice_get xs k) q ∙ area_there as_ k x w e
 

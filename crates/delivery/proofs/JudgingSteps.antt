@@ -19,11 +19,15 @@ use Rattle.delivery.specs.KeptViews.{found_of, found_in}
 
 -- ---- numbers of objects
 pub objects_step : (transfer : List (List Row)) (i : ℕ)
-    → objects (drop i transfer) ≡ length (slice_index_or transfer i []) + objects (drop (i + 1) transfer)
-objects_step transfer i = by transfer i ∙ ap (λ (m : ℕ). length (slice_index_or transfer i []) + objects (drop m transfer)) (let s : suc i ≡ i + 1 = omega arith in s)
+    → objects (drop i transfer) ≡ length (slice_index_or transfer i [])
+    + objects (drop (i + 1) transfer)
+objects_step transfer i = by transfer i
+    ∙ ap (λ (m : ℕ). length (slice_index_or transfer i []) + objects (drop m transfer))
+    (let s : suc i ≡ i + 1 = omega arith in s)
   where
     by : (transfer : List (List Row)) (i : ℕ)
-        → objects (drop i transfer) ≡ length (slice_index_or transfer i []) + objects (drop (suc i) transfer)
+        → objects (drop i transfer) ≡ length (slice_index_or transfer i [])
+        + objects (drop (suc i) transfer)
     by [] zero = refl
     by [] (suc i) = refl
     by (rows ∷ transfer) zero = refl
@@ -44,18 +48,29 @@ no_more_rows (rows ∷ transfer) (suc n) le = no_more_rows transfer n (omega (ar
 
 pub all_counted : (l : Layout) (rows : List (ℕ × Row)) (n : ℕ) → length l.tables ≤ n
     → objects (drop n (transfer_so_far l rows)) ≡ 0
-all_counted l rows n le = let e = tables_from 0 l.tables rows in no_more_rows (transfer_so_far l rows) n (omega (arith, le, e))
+all_counted l rows n le =
+    let e = tables_from 0 l.tables rows in
+    no_more_rows (transfer_so_far l rows) n (omega (arith, le, e))
 
 -- ---- areas
-pub large_step : (ks : List Kept) (rows : List (List Row)) (i : ℕ) (as_ : List CodeArea) (a : CodeArea)
+pub large_step : (ks : List Kept) (rows : List (List Row)) (i : ℕ) (as_ : List CodeArea)
+    (a : CodeArea)
     → i < length as_ → a ≡ get_or as_ i a
-    → has_kept_large ks rows (drop i (areas_view as_)) ≡ (is_kept_large ks rows (area_view a) || has_kept_large ks rows (drop (i + 1) (areas_view as_)))
-large_step ks rows i as_ a lt e = by i as_ a lt e ∙ ap (λ (m : ℕ). is_kept_large ks rows (area_view a) || has_kept_large ks rows (drop m (areas_view as_))) (let s : suc i ≡ i + 1 = omega arith in s)
+    → has_kept_large ks rows (drop i (areas_view as_))
+    ≡ (is_kept_large ks rows (area_view a) || has_kept_large ks rows
+    (drop (i + 1) (areas_view as_)))
+large_step ks rows i as_ a lt e = by i as_ a lt e
+    ∙ ap (λ (m : ℕ). is_kept_large ks rows (area_view a) || has_kept_large ks rows
+    (drop m (areas_view as_))) (let s : suc i ≡ i + 1 = omega arith in s)
   where
     by : (i : ℕ) (as_ : List CodeArea) (a : CodeArea) → i < length as_ → a ≡ get_or as_ i a
-        → has_kept_large ks rows (drop i (areas_view as_)) ≡ (is_kept_large ks rows (area_view a) || has_kept_large ks rows (drop (suc i) (areas_view as_)))
+        → has_kept_large ks rows (drop i (areas_view as_))
+        ≡ (is_kept_large ks rows (area_view a) || has_kept_large ks rows
+        (drop (suc i) (areas_view as_)))
     by i [] a lt e = absurd (omega (arith, lt))
-    by zero (b ∷ as_) a lt e = ap (λ (x : CodeArea). is_kept_large ks rows (area_view x) || has_kept_large ks rows (areas_view as_)) (sym e)
+    by zero (b ∷ as_) a lt e =
+        ap (λ (x : CodeArea). is_kept_large ks rows (area_view x) || has_kept_large ks rows
+        (areas_view as_)) (sym e)
     by (suc i) (b ∷ as_) a lt e = by i as_ a (omega (arith, lt)) e
 
 pub large_found : (b : Bool) (o c : Bool) → b ≡ true → c ≡ (b || o) → c ≡ true

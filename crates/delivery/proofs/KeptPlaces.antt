@@ -63,8 +63,10 @@ pub cut_flat : {X : Type 0} (f : X → List Seen) (xs : List X)
     → cut (map (λ x. length (f x)) xs) (flat_map f xs) ≡ map f xs
 cut_flat f [] = refl
 cut_flat f (x ∷ xs) =
-    ap (λ (vs : List Seen). vs ∷ cut (map (λ y. length (f y)) xs) (drop (length (f x)) (f x ++ flat_map f xs))) (take_front (f x) (flat_map f xs))
-    ∙ ap (λ (vs : List Seen). f x ∷ cut (map (λ y. length (f y)) xs) vs) (drop_front (f x) (flat_map f xs))
+    ap (λ (vs : List Seen). vs ∷ cut (map (λ y. length (f y)) xs)
+    (drop (length (f x)) (f x ++ flat_map f xs))) (take_front (f x) (flat_map f xs))
+    ∙ ap (λ (vs : List Seen). f x ∷ cut (map (λ y. length (f y)) xs) vs)
+    (drop_front (f x) (flat_map f xs))
     ∙ ap (λ (l : List (List Seen)). f x ∷ l) (cut_flat f xs)
   where
     take_front : (xs ys : List Seen) → take (length xs) (xs ++ ys) ≡ xs
@@ -78,7 +80,8 @@ cut_flat f (x ∷ xs) =
 pub total_flat : {X : Type 0} (f : X → List Seen) (xs : List X)
     → total (map (λ x. length (f x)) xs) ≡ length (flat_map f xs)
 total_flat f [] = refl
-total_flat f (x ∷ xs) = ap (λ (n : ℕ). length (f x) + n) (total_flat f xs) ∙ sym (length-append (f x) (flat_map f xs))
+total_flat f (x ∷ xs) = ap (λ (n : ℕ). length (f x) + n) (total_flat f xs)
+    ∙ sym (length-append (f x) (flat_map f xs))
 
 pub flat_of_map : {X : Type 0} (g : List Seen → List Curve) (f : X → List Seen) (xs : List X)
     → flat_map g (map f xs) ≡ flat_map (λ x. g (f x)) xs
@@ -88,16 +91,20 @@ flat_of_map g f (x ∷ xs) = ap (λ (l : List Curve). g (f x) ++ l) (flat_of_map
 pub flat_same : {X Y : Type 0} (f g : X → List Y) (P : X → Type 0) (xs : List X)
     → ((x : X) → P x → f x ≡ g x) → All P xs → flat_map f xs ≡ flat_map g xs
 flat_same f g P [] h a = refl
-flat_same f g P (x ∷ xs) h a = ap (λ l. l ++ flat_map f xs) (h x (All-head P x xs a)) ∙ ap (λ l. g x ++ l) (flat_same f g P xs h (All-tail P x xs a))
+flat_same f g P (x ∷ xs) h a = ap (λ l. l ++ flat_map f xs) (h x (All-head P x xs a))
+    ∙ ap (λ l. g x ++ l) (flat_same f g P xs h (All-tail P x xs a))
 
 all_append : {X : Type 0} (P : X → Type 0) (xs ys : List X) → All P xs → All P ys → All P (xs ++ ys)
 all_append P [] ys a b = b
-all_append P (x ∷ xs) ys a b = All-cons P x (xs ++ ys) (All-head P x xs a) (all_append P xs ys (All-tail P x xs a) b)
+all_append P (x ∷ xs) ys a b =
+    All-cons P x (xs ++ ys) (All-head P x xs a) (all_append P xs ys (All-tail P x xs a) b)
 
 all_flat : {X Y : Type 0} (P : Y → Type 0) (Q : X → Type 0) (f : X → List Y) (xs : List X)
     → ((x : X) → Q x → All P (f x)) → All Q xs → All P (flat_map f xs)
 all_flat P Q f [] h a = All-nil P
-all_flat P Q f (x ∷ xs) h a = all_append P (f x) (flat_map f xs) (h x (All-head Q x xs a)) (all_flat P Q f xs h (All-tail Q x xs a))
+all_flat P Q f (x ∷ xs) h a =
+    all_append P (f x) (flat_map f xs) (h x (All-head Q x xs a))
+    (all_flat P Q f xs h (All-tail Q x xs a))
 
 -- ---- rows without findings
 pub no_findings : (codes : Codes) (t : Table) (rows : List Row) → table_findings codes t rows ≡ []
@@ -113,17 +120,21 @@ pub none_at : (codes : Codes) (ts : List Table) (transfer : List (List Row)) (n 
 none_at codes [] transfer n t e g = absurd (cc)
 none_at codes (u ∷ ts) [] n t e g = refl
 none_at codes (u ∷ ts) (rows ∷ transfer) zero t e g =
-    subst (λ (v : Table). table_findings codes v rows ≡ []) (same u t g) (empty_both (table_findings codes u rows) (tables_findings codes ts transfer) e).0
+    subst (λ (v : Table). table_findings codes v rows ≡ []) (same u t g)
+    (empty_both (table_findings codes u rows) (tables_findings codes ts transfer) e).0
   where
     same : (u t : Table) → Some u ≡ Some t → u ≡ t
     same u t e = cc
-none_at codes (u ∷ ts) (rows ∷ transfer) (suc n) t e g = none_at codes ts transfer n t (empty_both (table_findings codes u rows) (tables_findings codes ts transfer) e).1 g
+none_at codes (u ∷ ts) (rows ∷ transfer) (suc n) t e g =
+    none_at codes ts transfer n t
+    (empty_both (table_findings codes u rows) (tables_findings codes ts transfer) e).1 g
 
 pub clean_findings : (l : Layout) (rows : List (List Row)) → IsClean l rows
     → tables_findings l.codes l.tables rows ≡ []
 clean_findings l rows c =
     unsorted is_before (tables_findings l.codes l.tables rows)
-    (empty_both (value_findings l rows) (key_findings l rows) (unsorted is_before (value_findings l rows ++ key_findings l rows) c)).0
+    (empty_both (value_findings l rows) (key_findings l rows)
+    (unsorted is_before (value_findings l rows ++ key_findings l rows) c)).0
 
 -- a row of a table that is right: it has no findings, and its places
 pub record IsRight (codes : Codes) (t : Table) (r : Row) : Type 0 where
@@ -136,15 +147,20 @@ pub all_right : (codes : Codes) (t : Table) (rows : List Row)
 all_right codes t [] b c = All-nil (IsRight codes t)
 all_right codes t (r ∷ rows) b c =
     All-cons (IsRight codes t) r rows
-    (record { clean = All-head (λ r. row_findings codes t r ≡ []) r rows b; places = All-head (HasPlaces codes t) r rows c })
-    (all_right codes t rows (All-tail (λ r. row_findings codes t r ≡ []) r rows b) (All-tail (HasPlaces codes t) r rows c))
+    (record {
+      clean = All-head (λ r. row_findings codes t r ≡ []) r rows b;
+      places = All-head (HasPlaces codes t) r rows c;
+    })
+    (all_right codes t rows (All-tail (λ r. row_findings codes t r ≡ []) r rows b)
+    (All-tail (HasPlaces codes t) r rows c))
 
 pub counted_at : (ts : List Table) (transfer : List (List Row)) (n : ℕ) (t : Table)
     → EachRow IsCounted (map wanted_of ts) transfer → slice_get ts n ≡ Some t
     → All (IsCounted (length t.lines)) (slice_index_or transfer n [])
 counted_at [] transfer n t h g = absurd (cc)
 counted_at (u ∷ ts) [] n t h g = absurd h
-counted_at (u ∷ ts) (rows ∷ transfer) zero t h g = subst (λ (v : Table). All (IsCounted (length v.lines)) rows) (same u t g) h.0
+counted_at (u ∷ ts) (rows ∷ transfer) zero t h g =
+    subst (λ (v : Table). All (IsCounted (length v.lines)) rows) (same u t g) h.0
   where
     same : (u t : Table) → Some u ≡ Some t → u ≡ t
     same u t e = cc
@@ -156,7 +172,8 @@ clean_by : (l : LineForm) (column : ℕ) (vs : List Vertex)
 clean_by l column [] e = refl
 clean_by l column (v ∷ vs) e =
     let b = empty_both (vertex_finding l column v) (flat_map (vertex_finding l column) vs) e in
-    ap (λ (c : Bool). c && are_clean l vs) (one (vertex_code l v) v.line column b.0) ∙ clean_by l column vs b.1
+    ap (λ (c : Bool). c && are_clean l vs) (one (vertex_code l v) v.line column b.0)
+    ∙ clean_by l column vs b.1
   where
     one : (o : Option Code) (line column : ℕ) → finding_at line column o ≡ [] → is_none o ≡ true
     one None line column e = refl
@@ -164,7 +181,9 @@ clean_by l column (v ∷ vs) e =
 
 clean_stroke : (role : Role) (l : LineForm) (column : ℕ) (vs : List Vertex)
     → stroke_findings role l column vs ≡ [] → are_clean l vs ≡ true
-clean_stroke role l column vs e = by (short_finding role column (all_seen l vs) ++ arc_findings column (all_seen l vs)) (are_clean l vs) refl e
+clean_stroke role l column vs e =
+    by (short_finding role column (all_seen l vs) ++ arc_findings column (all_seen l vs))
+    (are_clean l vs) refl e
   where
     by : (xs : List Finding) (b : Bool) → are_clean l vs ≡ b
         → (if b then xs else flat_map (vertex_finding l column) vs) ≡ [] → are_clean l vs ≡ true
@@ -181,7 +200,8 @@ sound_all : (l : LineForm) (vs : List Vertex) → are_clean l vs ≡ true
 sound_all l [] e = refl
 sound_all l (v ∷ vs) e =
     let b = both (is_clean l v) (are_clean l vs) e in
-    ap (λ (c : Bool). (if c then seen l v ∷ [] else []) ++ sound_vertices l vs) b.0 ∙ ap (λ (xs : List Seen). seen l v ∷ xs) (sound_all l vs b.1)
+    ap (λ (c : Bool). (if c then seen l v ∷ [] else []) ++ sound_vertices l vs) b.0
+    ∙ ap (λ (xs : List Seen). seen l v ∷ xs) (sound_all l vs b.1)
   where
     both : (a b : Bool) → (a && b) ≡ true → (a ≡ true) × (b ≡ true)
     both true b e = (refl, e)
@@ -194,23 +214,34 @@ module _ (codes : Codes) (t : Table) (l : LineForm) (one : t.lines ≡ l ∷ [])
       → lines_vertices (l ∷ []) ss ≡ all_seen l (slice_index_or ss 0 [])
   line_by role line column [] e = refl
   line_by role line column (s ∷ ss) e =
-      let k = clean_line role line column l s (empty_both (line_findings role line column l s) [] e).0 in
+      let k = clean_line role line column l s
+      (empty_both (line_findings role line column l s) [] e).0 in
       append-nil (sound_vertices l s) ∙ sound_all l s k
 
   line_of_row : (r : Row) → IsRight codes t r
       → row_vertices t r ≡ all_seen l (slice_index_or r.strokes 0 [])
   line_of_row r h =
-      let counted : (if is_counted t r then columns_findings codes r.line 1 t.columns (drop 1 r.fields) ++ lines_findings t.role r.line (1 + length t.columns) t.lines r.strokes else finding_at r.line 0 (Some Count))
-      ≡ columns_findings codes r.line 1 t.columns (drop 1 r.fields) ++ lines_findings t.role r.line (1 + length t.columns) t.lines r.strokes =
-      ap (λ (b : Bool). if b then columns_findings codes r.line 1 t.columns (drop 1 r.fields) ++ lines_findings t.role r.line (1 + length t.columns) t.lines r.strokes else finding_at r.line 0 (Some Count)) h.places.counted in
-      let e = (empty_both (columns_findings codes r.line 1 t.columns (drop 1 r.fields)) (lines_findings t.role r.line (1 + length t.columns) t.lines r.strokes) (sym counted ∙ h.clean)).1 in
+      let counted : (if is_counted t r then columns_findings codes r.line 1 t.columns
+      (drop 1 r.fields) ++ lines_findings t.role r.line
+      (1 + length t.columns) t.lines r.strokes else finding_at r.line 0 (Some Count))
+      ≡ columns_findings codes r.line 1 t.columns (drop 1 r.fields)
+      ++ lines_findings t.role r.line (1 + length t.columns) t.lines r.strokes =
+      ap (λ (b : Bool). if b then columns_findings codes r.line 1 t.columns (drop 1 r.fields)
+      ++ lines_findings t.role r.line (1 + length t.columns) t.lines r.strokes else finding_at
+      r.line 0 (Some Count)) h.places.counted in
+      let e = (empty_both (columns_findings codes r.line 1 t.columns (drop 1 r.fields))
+      (lines_findings t.role r.line (1 + length t.columns) t.lines r.strokes) (sym counted
+      ∙ h.clean)).1 in
       ap (λ (b : Bool). if b then lines_vertices t.lines r.strokes else []) h.places.counted
       ∙ ap (λ (ls : List LineForm). lines_vertices ls r.strokes) one
-      ∙ line_by t.role r.line (1 + length t.columns) r.strokes (subst (λ (ls : List LineForm). lines_findings t.role r.line (1 + length t.columns) ls r.strokes ≡ []) one e)
+      ∙ line_by t.role r.line (1 + length t.columns) r.strokes
+      (subst (λ (ls : List LineForm). lines_findings t.role r.line
+      (1 + length t.columns) ls r.strokes ≡ []) one e)
 
   length_of_row : (r : Row) → IsRight codes t r
       → length (row_vertices t r) ≡ length (slice_index_or r.strokes 0 [])
-  length_of_row r h = ap (λ (vs : List Seen). length vs) (line_of_row r h) ∙ length-map (slice_index_or r.strokes 0 []) (seen l)
+  length_of_row r h = ap (λ (vs : List Seen). length vs) (line_of_row r h)
+      ∙ length-map (slice_index_or r.strokes 0 []) (seen l)
 
   pub curves_of_row : (r : Row) → IsRight codes t r
       → seen_curves (row_vertices t r) ≡ row_curves l r
@@ -222,10 +253,12 @@ module _ (codes : Codes) (t : Table) (l : LineForm) (one : t.lines ≡ l ∷ [])
 
   pub inside_of_row : (w : Window2) → IsWindowOf l.window w → (r : Row) → IsRight codes t r
       → AreIn w (row_vertices t r)
-  inside_of_row w i r h = subst (AreIn w) (sym (line_of_row r h)) (by (slice_index_or r.strokes 0 []) (sound r h))
+  inside_of_row w i r h =
+      subst (AreIn w) (sym (line_of_row r h)) (by (slice_index_or r.strokes 0 []) (sound r h))
     where
       sound : (r : Row) → IsRight codes t r → AreSoundVertices l (slice_index_or r.strokes 0 [])
-      sound r h = first r.strokes (subst (λ (ls : List LineForm). clean.AreLines ls r.strokes) one h.places.lines)
+      sound r h = first r.strokes
+          (subst (λ (ls : List LineForm). clean.AreLines ls r.strokes) one h.places.lines)
         where
           first : (ss : List (List Vertex)) → clean.AreLines (l ∷ []) ss
               → AreSoundVertices l (slice_index_or ss 0 [])
@@ -234,18 +267,24 @@ module _ (codes : Codes) (t : Table) (l : LineForm) (one : t.lines ≡ l ∷ [])
 
       by : (vs : List Vertex) → AreSoundVertices l vs → AreIn w (all_seen l vs)
       by [] k = All-nil (λ (v : Seen). IsIn w v.at)
-      by (v ∷ vs) k = All-cons (λ (v : Seen). IsIn w v.at) (seen l v) (all_seen l vs) (in_window l.window w (seen l v).at i k.0.inside) (by vs k.1)
+      by (v ∷ vs) k =
+          All-cons (λ (v : Seen). IsIn w v.at) (seen l v) (all_seen l vs)
+          (in_window l.window w (seen l v).at i k.0.inside) (by vs k.1)
 
   pub curves_kept : (rows : List Row) → All (IsRight codes t) rows
-      → kept_curves (map (vertex_count t) rows) (flat_map (row_vertices t) rows) ≡ flat_map (row_curves l) rows
+      → kept_curves (map (vertex_count t) rows) (flat_map (row_vertices t) rows)
+      ≡ flat_map (row_curves l) rows
   curves_kept rows h =
       ap (flat_map seen_curves) (cut_flat (row_vertices t) rows)
       ∙ flat_of_map seen_curves (row_vertices t) rows
-      ∙ flat_same (λ r. seen_curves (row_vertices t r)) (row_curves l) (IsRight codes t) rows curves_of_row h
+      ∙ flat_same (λ r. seen_curves (row_vertices t r)) (row_curves l)
+      (IsRight codes t) rows curves_of_row h
 
   pub inside_kept : (w : Window2) → IsWindowOf l.window w → (rows : List Row)
       → All (IsRight codes t) rows → AreIn w (flat_map (row_vertices t) rows)
-  inside_kept w i rows h = all_flat (λ (v : Seen). IsIn w v.at) (IsRight codes t) (row_vertices t) rows (inside_of_row w i) h
+  inside_kept w i rows h =
+      all_flat (λ (v : Seen). IsIn w v.at) (IsRight codes t) (row_vertices t) rows
+      (inside_of_row w i) h
 
   -- a line is no longer than all lines of its row, and as long where the row has one
   first_few : (ss : List (List Vertex)) → length (slice_index_or ss 0 []) ≤ vertices_in ss
@@ -273,23 +312,30 @@ module _ (codes : Codes) (t : Table) (l : LineForm) (one : t.lines ≡ l ∷ [])
       → length (flat_map (row_vertices t) rows) ≡ limits.vertex_count rows
   counted_kept [] c h = refl
   counted_kept (r ∷ rows) c h =
-      let n = All-head (IsCounted (length t.lines)) r rows c ∙ ap (λ (ls : List LineForm). length ls) one in
+      let n = All-head (IsCounted (length t.lines)) r rows c
+      ∙ ap (λ (ls : List LineForm). length ls) one in
       length-append (row_vertices t r) (flat_map (row_vertices t) rows)
-      ∙ ap (λ (n : ℕ). n + length (flat_map (row_vertices t) rows)) (length_of_row r (All-head (IsRight codes t) r rows h) ∙ first_counted r.strokes n)
-      ∙ ap (λ (n : ℕ). vertices_in r.strokes + n) (counted_kept rows (All-tail (IsCounted (length t.lines)) r rows c) (All-tail (IsRight codes t) r rows h))
+      ∙ ap (λ (n : ℕ). n + length (flat_map (row_vertices t) rows))
+      (length_of_row r (All-head (IsRight codes t) r rows h) ∙ first_counted r.strokes n)
+      ∙ ap (λ (n : ℕ). vertices_in r.strokes + n)
+      (counted_kept rows (All-tail (IsCounted (length t.lines)) r rows c)
+      (All-tail (IsRight codes t) r rows h))
 
 -- ---- the points of objects
 cell_at : (codes : Codes) (cs : List Column) (k : ℕ) (c : Column) (words : List (List ℕ))
     → slice_get cs k ≡ Some c
-    → slice_get (cells_of codes cs words) k ≡ Some (cell_of codes c (take (width c.form) (drop (widths (take k cs)) words)))
+    → slice_get (cells_of codes cs words) k
+    ≡ Some (cell_of codes c (take (width c.form) (drop (widths (take k cs)) words)))
 cell_at codes [] k c words e = absurd (cc)
-cell_at codes (b ∷ cs) zero c words e = ap (λ (x : Column). Some (cell_of codes x (take (width x.form) words))) (same b c e)
+cell_at codes (b ∷ cs) zero c words e =
+    ap (λ (x : Column). Some (cell_of codes x (take (width x.form) words))) (same b c e)
   where
     same : (b c : Column) → Some b ≡ Some c → b ≡ c
     same b c e = cc
 cell_at codes (b ∷ cs) (suc k) c words e =
     cell_at codes cs k c (drop (width b.form) words) e
-    ∙ ap (λ (ws : List (List ℕ)). Some (cell_of codes c (take (width c.form) ws))) (sym (drop_both (width b.form) (widths (take k cs)) words))
+    ∙ ap (λ (ws : List (List ℕ)). Some (cell_of codes c (take (width c.form) ws)))
+    (sym (drop_both (width b.form) (widths (take k cs)) words))
 
 cell_is : (line : ℕ) (r : Result Value ValueFault)
     → cell_points line (Some (cell_by r)) ≡ map (placed line) (place_read r)
@@ -313,37 +359,53 @@ module _ (codes : Codes) (v : Window) (line : ℕ) where
 
   undefined_place : (words : List (List ℕ)) → list_all (is_undefined codes) words ≡ true
       → [] ≡ map (placed line) (place_read (column_reading (AreaPoint v) codes words))
-  undefined_place [] h = nowhere (field_fault (AreaPoint v) codes []) (value_of (AreaPoint v) []) refl
-  undefined_place (x ∷ []) h = nowhere (field_fault (AreaPoint v) codes (x ∷ [])) (value_of (AreaPoint v) (x ∷ [])) refl
+  undefined_place [] h =
+      nowhere (field_fault (AreaPoint v) codes []) (value_of (AreaPoint v) []) refl
+  undefined_place (x ∷ []) h =
+      nowhere (field_fault (AreaPoint v) codes (x ∷ [])) (value_of (AreaPoint v) (x ∷ [])) refl
   undefined_place (x ∷ y ∷ ws) h =
-      of_undefined (list_any (is_undefined codes) (x ∷ y ∷ ws)) (value_fault (AreaPoint v) (x ∷ y ∷ ws)) (value_of (AreaPoint v) (x ∷ y ∷ ws))
-      (first (is_undefined codes x) (list_all (is_undefined codes) (y ∷ ws)) (list_any (is_undefined codes) (y ∷ ws)) h)
+      of_undefined (list_any (is_undefined codes) (x ∷ y ∷ ws))
+      (value_fault (AreaPoint v) (x ∷ y ∷ ws)) (value_of (AreaPoint v) (x ∷ y ∷ ws))
+      (first (is_undefined codes x) (list_all (is_undefined codes) (y ∷ ws))
+      (list_any (is_undefined codes) (y ∷ ws)) h)
     where
       first : (a b c : Bool) → (a && b) ≡ true → (a || c) ≡ true
       first true b c h = refl
       first false b c h = absurd (cc)
 
   place_of_cell : (optional : Bool) (words : List (List ℕ))
-      → cell_points line (Some (if optional && list_all (is_undefined codes) words then Undefined else cell_by (column_reading (AreaPoint v) codes words))) ≡ map (placed line) (place_read (column_reading (AreaPoint v) codes words))
+      → cell_points line
+      (Some (if optional && list_all (is_undefined codes) words then Undefined else cell_by
+      (column_reading (AreaPoint v) codes words)))
+      ≡ map (placed line) (place_read (column_reading (AreaPoint v) codes words))
   place_of_cell false words = cell_is line (column_reading (AreaPoint v) codes words)
   place_of_cell true words = by (list_all (is_undefined codes) words) refl
     where
       by : (b : Bool) → list_all (is_undefined codes) words ≡ b
-          → cell_points line (Some (if b then Undefined else cell_by (column_reading (AreaPoint v) codes words))) ≡ map (placed line) (place_read (column_reading (AreaPoint v) codes words))
+          → cell_points line
+          (Some (if b then Undefined else cell_by (column_reading (AreaPoint v) codes words)))
+          ≡ map (placed line) (place_read (column_reading (AreaPoint v) codes words))
       by true h = undefined_place words h
       by false h = cell_is line (column_reading (AreaPoint v) codes words)
 
-module _ (codes : Codes) (t : Table) (k : ℕ) (c : Column) (v : Window) (at : slice_get t.columns k ≡ Some c) (form : c.form ≡ AreaPoint v) where
+module _ (codes : Codes) (t : Table) (k : ℕ) (c : Column) (v : Window)
+    (at : slice_get t.columns k ≡ Some c) (form : c.form ≡ AreaPoint v) where
   points_of_row : (r : Row) → HasPlaces codes t r
       → row_points codes t k r ≡ points_at codes (first_word t.columns k) c r
   points_of_row r h =
       let words = take (width c.form) (drop (widths (take k t.columns)) (drop 1 r.fields)) in
-      ap (λ (b : Bool). cell_points r.line (slice_get (if b then cells_of codes t.columns (drop 1 r.fields) else []) k)) h.counted
+      ap (λ (b : Bool). cell_points r.line
+      (slice_get (if b then cells_of codes t.columns (drop 1 r.fields) else []) k)) h.counted
       ∙ ap (cell_points r.line) (cell_at codes t.columns k c (drop 1 r.fields) at)
-      ∙ ap (λ (f : Form). cell_points r.line (Some (if c.optional && list_all (is_undefined codes) words then Undefined else cell_by (column_reading f codes words)))) form
+      ∙ ap (λ (f : Form). cell_points r.line
+      (Some (if c.optional && list_all (is_undefined codes) words then Undefined else cell_by
+      (column_reading f codes words)))) form
       ∙ place_of_cell codes v r.line c.optional words
-      ∙ ap (λ (f : Form). map (placed r.line) (place_read (column_reading f codes words))) (sym form)
-      ∙ ap (λ (ws : List (List ℕ)). map (placed r.line) (place_read (column_reading c.form codes (take (width c.form) ws)))) (sym (drop_both 1 (widths (take k t.columns)) r.fields))
+      ∙ ap (λ (f : Form). map (placed r.line) (place_read (column_reading f codes words)))
+      (sym form)
+      ∙ ap (λ (ws : List (List ℕ)). map (placed r.line)
+      (place_read (column_reading c.form codes (take (width c.form) ws))))
+      (sym (drop_both 1 (widths (take k t.columns)) r.fields))
 
   pub points_kept : (rows : List Row) → All (HasPlaces codes t) rows
       → points_in_column k (kept codes t rows).points
@@ -359,7 +421,8 @@ pub kept_there : (codes : Codes) (ts : List Table) (transfer : List (List Row)) 
     → slice_get (all_kept codes ts transfer) n ≡ Some (kept codes t (slice_index_or transfer n []))
 kept_there codes [] transfer n t h e = absurd (cc)
 kept_there codes (u ∷ ts) [] n t h e = absurd h
-kept_there codes (u ∷ ts) (rows ∷ transfer) zero t h e = ap (λ (v : Table). Some (kept codes v rows)) (same u t e)
+kept_there codes (u ∷ ts) (rows ∷ transfer) zero t h e =
+    ap (λ (v : Table). Some (kept codes v rows)) (same u t e)
   where
     same : (u t : Table) → Some u ≡ Some t → u ≡ t
     same u t e = cc
@@ -373,7 +436,8 @@ abbrev if_lines : Bool → Lines → Option Lines
 if_lines b lines = if b then Some lines else None
 
 -- rows without findings, and an area of the layout
-module _ (l : Layout) (rows : List (List Row)) (v : IsValid l) (c : IsClean l rows) (a : AreaOf) (h : IsArea l.tables a) where
+module _ (l : Layout) (rows : List (List Row)) (v : IsValid l) (c : IsClean l rows) (a : AreaOf)
+    (h : IsArea l.tables a) where
   abbrev places : HavePlaces l.codes l.tables rows
   places = clean_rows l rows c
 
@@ -381,7 +445,9 @@ module _ (l : Layout) (rows : List (List Row)) (v : IsValid l) (c : IsClean l ro
       → All (IsRight l.codes t) (slice_index_or rows k [])
   right_at k t e =
       let rs = slice_index_or rows k [] in
-      all_right l.codes t rs (no_findings l.codes t rs (none_at l.codes l.tables rows k t (clean_findings l rows c) e)) (all_rows l.codes t rs (rows_at l.codes l.tables rows k t places e))
+      all_right l.codes t rs
+      (no_findings l.codes t rs (none_at l.codes l.tables rows k t (clean_findings l rows c) e))
+      (all_rows l.codes t rs (rows_at l.codes l.tables rows k t places e))
 
   of_area : are_lines h.helper.role ≡ true
   of_area = ap are_lines h.role
@@ -425,23 +491,34 @@ module _ (l : Layout) (rows : List (List Row)) (v : IsValid l) (c : IsClean l ro
   owner = kept l.codes area.owner objects
 
   owner_places : All (HasPlaces l.codes area.owner) objects
-  owner_places = all_rows l.codes area.owner objects (rows_at l.codes l.tables rows a.main area.owner places area.main)
+  owner_places =
+      all_rows l.codes area.owner objects
+      (rows_at l.codes l.tables rows a.main area.owner places area.main)
 
   -- the points that are kept in the area's column
   abbrev pub placed_points : List Placed
   placed_points = points_in_column a.column owner.points
 
-  placed_are : placed_points ≡ flat_map (points_at l.codes (first_word area.owner.columns a.column) area.point) objects
-  placed_are = points_kept l.codes area.owner a.column area.point area.line.window area.column area.form objects owner_places
+  placed_are : placed_points ≡ flat_map
+      (points_at l.codes (first_word area.owner.columns a.column) area.point) objects
+  placed_are =
+      points_kept l.codes area.owner a.column area.point area.line.window area.column area.form
+      objects owner_places
 
   pub area_drawable : is_too_large rows a ≡ false
       → AreDrawable area.line counts vertices placed_points
   area_drawable e = record {
-    counted = (let k = ap total counts_are ∙ total_flat (row_vertices h.helper) line_rows in let m = ap (λ (vs : List Seen). length vs) vertices_are in omega (arith, k, m));
-    inside = λ w i. subst (AreIn w) (sym vertices_are) (inside_kept l.codes h.helper area.line area.lines w i line_rows lines_right);
-    few = (let m = (within (limits.vertex_count line_rows) (length objects) e).0 in let k = few_vertices in omega (arith, m, k));
+    counted = (let k = ap total counts_are ∙ total_flat (row_vertices h.helper) line_rows in
+        let m = ap (λ (vs : List Seen). length vs) vertices_are in omega (arith, k, m));
+    inside = λ w i. subst (AreIn w) (sym vertices_are)
+        (inside_kept l.codes h.helper area.line area.lines w i line_rows lines_right);
+    few = (let m = (within (limits.vertex_count line_rows) (length objects) e).0 in
+        let k = few_vertices in omega (arith, m, k));
     points_inside = λ w i. subst (ArePointsIn w) (sym placed_are) (all_inside w i);
-    few_points = (let m = (within (limits.vertex_count line_rows) (length objects) e).1 in let k = few_points objects in let j = ap (λ (ps : List Placed). length ps) placed_are in omega (arith, m, k, j));
+    few_points =
+        (let m = (within (limits.vertex_count line_rows) (length objects) e).1 in
+        let k = few_points objects in let j = ap (λ (ps : List Placed). length ps) placed_are in
+        omega (arith, m, k, j));
   }
     where
       within : (n m : ℕ) → (nat_lt area_limit n || nat_lt area_limit m) ≡ false
@@ -449,35 +526,50 @@ module _ (l : Layout) (rows : List (List Row)) (v : IsValid l) (c : IsClean l ro
       within n m e = (grind (arith, nat_tests), grind (arith, nat_tests))
 
       all_inside : (w : Window2) → IsWindowOf area.line.window w
-          → ArePointsIn w (flat_map (points_at l.codes (first_word area.owner.columns a.column) area.point) objects)
+          → ArePointsIn w
+          (flat_map (points_at l.codes (first_word area.owner.columns a.column) area.point)
+          objects)
       all_inside w i =
-          all_flat (λ (p : Placed). IsInside w.low w.high p.at) (HasPlaces l.codes area.owner) (points_at l.codes (first_word area.owner.columns a.column) area.point) objects
-          (point_in l.codes area.owner a.column area.point area.line.window w area.column area.form i) owner_places
+          all_flat (λ (p : Placed). IsInside w.low w.high p.at) (HasPlaces l.codes area.owner)
+          (points_at l.codes (first_word area.owner.columns a.column) area.point) objects
+          (point_in l.codes area.owner a.column area.point area.line.window w area.column area.form
+          i) owner_places
 
       at_most_one : (r : List Placed) (o : Result Value ValueFault) (line : ℕ)
           → r ≡ map (placed line) (place_read o) → length r ≤ 1
-      at_most_one r (Err f) line e = (let k = ap (λ (ps : List Placed). length ps) e in omega (arith, k))
-      at_most_one r (Ok (Bytes w)) line e = (let k = ap (λ (ps : List Placed). length ps) e in omega (arith, k))
-      at_most_one r (Ok (Numbers [])) line e = (let k = ap (λ (ps : List Placed). length ps) e in omega (arith, k))
-      at_most_one r (Ok (Numbers (x ∷ []))) line e = (let k = ap (λ (ps : List Placed). length ps) e in omega (arith, k))
-      at_most_one r (Ok (Numbers (x ∷ y ∷ []))) line e = (let k = ap (λ (ps : List Placed). length ps) e in omega (arith, k))
-      at_most_one r (Ok (Numbers (x ∷ y ∷ z ∷ ns))) line e = (let k = ap (λ (ps : List Placed). length ps) e in omega (arith, k))
+      at_most_one r (Err f) line e =
+          (let k = ap (λ (ps : List Placed). length ps) e in omega (arith, k))
+      at_most_one r (Ok (Bytes w)) line e =
+          (let k = ap (λ (ps : List Placed). length ps) e in omega (arith, k))
+      at_most_one r (Ok (Numbers [])) line e =
+          (let k = ap (λ (ps : List Placed). length ps) e in omega (arith, k))
+      at_most_one r (Ok (Numbers (x ∷ []))) line e =
+          (let k = ap (λ (ps : List Placed). length ps) e in omega (arith, k))
+      at_most_one r (Ok (Numbers (x ∷ y ∷ []))) line e =
+          (let k = ap (λ (ps : List Placed). length ps) e in omega (arith, k))
+      at_most_one r (Ok (Numbers (x ∷ y ∷ z ∷ ns))) line e =
+          (let k = ap (λ (ps : List Placed). length ps) e in omega (arith, k))
 
       few_points : (rs : List Row)
-          → length (flat_map (points_at l.codes (first_word area.owner.columns a.column) area.point) rs) ≤ length rs
+          → length (flat_map (points_at l.codes (first_word area.owner.columns a.column) area.point)
+          rs) ≤ length rs
       few_points [] = omega arith
       few_points (r ∷ rs) =
           let f = points_at l.codes (first_word area.owner.columns a.column) area.point in
           let k = few_points rs in
-          let m = at_most_one (f r) (column_reading area.point.form l.codes (words_at (first_word area.owner.columns a.column) area.point r)) r.line refl in
+          let m = at_most_one (f r)
+          (column_reading area.point.form l.codes
+          (words_at (first_word area.owner.columns a.column) area.point r)) r.line refl in
           let s = length-append (f r) (flat_map f rs) in
           omega (arith, k, m, s)
 
   pub is_drawing : (d : Plan) → AreDrawn area.line counts vertices placed_points d
       → IsDrawing l rows a d
   is_drawing d k =
-      let there : lines_in (slice_get l.tables a.lines) ≡ area.line ∷ [] = ap lines_in h.lines ∙ area.lines in
-      let own_columns : columns_in (slice_get l.tables a.main) ≡ area.owner.columns = ap columns_in area.main in
+      let there : lines_in (slice_get l.tables a.lines) ≡ area.line ∷ [] = ap lines_in h.lines
+      ∙ area.lines in
+      let own_columns : columns_in (slice_get l.tables a.main)
+      ≡ area.owner.columns = ap columns_in area.main in
       record {
         window = subst (λ (ls : List LineForm). HasWindow ls d.window) (sym there) k.window;
         curves =
@@ -489,11 +581,13 @@ module _ (l : Layout) (rows : List (List Row)) (v : IsValid l) (c : IsClean l ro
         points =
             k.placed
             ∙ placed_are
-            ∙ sym (ap (λ (o : Option Column). points_by l.codes (first_word area.owner.columns a.column) o objects) area.column)
+            ∙ sym (ap (λ (o : Option Column). points_by l.codes
+            (first_word area.owner.columns a.column) o objects) area.column)
             ∙ sym (ap (λ (cs : List Column). points_in l.codes cs a.column objects) own_columns);
       }
 
-  -- the area by the form of its lines and by what is kept of its two tables, wherever they come from
+  -- the area by the form of its lines and by what is kept of its two tables, wherever they come
+  -- from
   module _ (own : LineForm) (o : lines_in (slice_get l.tables a.lines) ≡ own ∷ []) where
     line_own : area.line ≡ own
     line_own = same area.line own (sym (ap lines_in h.lines ∙ area.lines) ∙ o)
@@ -501,15 +595,18 @@ module _ (l : Layout) (rows : List (List Row)) (v : IsValid l) (c : IsClean l ro
         same : (f g : LineForm) → f ∷ [] ≡ g ∷ [] → f ≡ g
         same f g e = cc
 
-    module _ (k m : Kept) (f : k ≡ strokes) (g : m ≡ owner) (ps : List Placed) (p : ps ≡ points_in_column a.column m.points) where
+    module _ (k m : Kept) (f : k ≡ strokes) (g : m ≡ owner) (ps : List Placed)
+        (p : ps ≡ points_in_column a.column m.points) where
       points_own : ps ≡ placed_points
       points_own = p ∙ ap (λ (x : Kept). points_in_column a.column x.points) g
 
       pub drawable_as : is_too_large rows a ≡ false
           → AreDrawable own (counts_in k.lines) (vertices_of k.lines) ps
       drawable_as e =
-          subst (λ (x : LineForm). AreDrawable x (counts_in k.lines) (vertices_of k.lines) ps) line_own
-          (subst (λ (x : Kept). AreDrawable area.line (counts_in x.lines) (vertices_of x.lines) ps) (sym f)
+          subst (λ (x : LineForm). AreDrawable x (counts_in k.lines) (vertices_of k.lines) ps)
+          line_own
+          (subst (λ (x : Kept). AreDrawable area.line (counts_in x.lines) (vertices_of x.lines) ps)
+          (sym f)
           (subst (AreDrawable area.line counts vertices) (sym points_own) (area_drawable e)))
 
       pub drawing_as : (d : Plan) → AreDrawn own (counts_in k.lines) (vertices_of k.lines) ps d
@@ -517,8 +614,10 @@ module _ (l : Layout) (rows : List (List Row)) (v : IsValid l) (c : IsClean l ro
       drawing_as d w =
           is_drawing d
           (subst (λ (x : LineForm). AreDrawn x counts vertices placed_points d) (sym line_own)
-          (subst (λ (x : Kept). AreDrawn own (counts_in x.lines) (vertices_of x.lines) placed_points d) f
-          (subst (λ (xs : List Placed). AreDrawn own (counts_in k.lines) (vertices_of k.lines) xs d) points_own w)))
+          (subst (λ (x : Kept). AreDrawn own (counts_in x.lines)
+          (vertices_of x.lines) placed_points d) f
+          (subst (λ (xs : List Placed). AreDrawn own (counts_in k.lines) (vertices_of k.lines) xs d)
+          points_own w)))
 
   -- the area among all tables
   module _ (n : EachRow IsCounted (map wanted_of l.tables) rows) where
@@ -531,12 +630,15 @@ module _ (l : Layout) (rows : List (List Row)) (v : IsValid l) (c : IsClean l ro
     all_vertices : length vertices ≡ limits.vertex_count line_rows
     all_vertices =
         ap (λ (vs : List Seen). length vs) vertices_are
-        ∙ counted_kept l.codes h.helper area.line area.lines line_rows (counted_at l.tables rows a.lines h.helper n h.lines) lines_right
+        ∙ counted_kept l.codes h.helper area.line area.lines line_rows
+        (counted_at l.tables rows a.lines h.helper n h.lines) lines_right
 
     pub large : is_kept_large (all_kept l.codes l.tables rows) rows a ≡ is_too_large rows a
     large =
-        ap (λ (o : Option Kept). nat_lt area_limit (length (vertices_there o)) || nat_lt area_limit (length (slice_index_or rows a.main []))) lines_kept_there
-        ∙ ap (λ (m : ℕ). nat_lt area_limit m || nat_lt area_limit (length (slice_index_or rows a.main []))) all_vertices
+        ap (λ (o : Option Kept). nat_lt area_limit (length (vertices_there o)) || nat_lt area_limit
+        (length (slice_index_or rows a.main []))) lines_kept_there
+        ∙ ap (λ (m : ℕ). nat_lt area_limit m || nat_lt area_limit
+        (length (slice_index_or rows a.main []))) all_vertices
 
     pub can_be_drawn : is_too_large rows a ≡ false → CanBeDrawn l (all_places l rows) a
     can_be_drawn e = record {
@@ -552,7 +654,9 @@ module _ (l : Layout) (rows : List (List Row)) (v : IsValid l) (c : IsClean l ro
     drawn_from d k =
         is_drawing d
         (record {
-          window = subst (λ (f : LineForm). IsWindowOf f.window d.window) (same k.forms.line area.line (sym k.forms.lines ∙ (ap lines_in h.lines ∙ area.lines))) k.window;
+          window = subst (λ (f : LineForm). IsWindowOf f.window d.window)
+              (same k.forms.line area.line (sym k.forms.lines ∙ (ap lines_in h.lines ∙ area.lines)))
+              k.window;
           curves = k.curves ∙ ap curves_there lines_kept_there;
           placed = k.points ∙ ap (column_points a.column) owner_kept;
         })
@@ -561,15 +665,19 @@ module _ (l : Layout) (rows : List (List Row)) (v : IsValid l) (c : IsClean l ro
         same f g e = cc
 
 -- ---- all areas
-module _ (l : Layout) (rows : List (List Row)) (v : IsValid l) (c : IsClean l rows) (n : EachRow IsCounted (map wanted_of l.tables) rows) where
+module _ (l : Layout) (rows : List (List Row)) (v : IsValid l) (c : IsClean l rows)
+    (n : EachRow IsCounted (map wanted_of l.tables) rows) where
   has_large : (as_ : List AreaOf) → All (IsArea l.tables) as_
       → has_kept_large (all_kept l.codes l.tables rows) rows as_ ≡ has_too_large rows as_
   has_large [] h = refl
   has_large (a ∷ as_) h =
-      ap (λ (b : Bool). b || has_kept_large (all_kept l.codes l.tables rows) rows as_) (large l rows v c a (All-head (IsArea l.tables) a as_ h) n)
-      ∙ ap (λ (b : Bool). is_too_large rows a || b) (has_large as_ (All-tail (IsArea l.tables) a as_ h))
+      ap (λ (b : Bool). b || has_kept_large (all_kept l.codes l.tables rows) rows as_)
+      (large l rows v c a (All-head (IsArea l.tables) a as_ h) n)
+      ∙ ap (λ (b : Bool). is_too_large rows a || b)
+      (has_large as_ (All-tail (IsArea l.tables) a as_ h))
 
-  pub all_large : has_kept_large (all_kept l.codes l.tables rows) rows l.areas ≡ has_too_large rows l.areas
+  pub all_large : has_kept_large (all_kept l.codes l.tables rows) rows l.areas
+      ≡ has_too_large rows l.areas
   all_large = has_large l.areas v.areas
 
   each_drawn : (as_ : List AreaOf) → All (IsArea l.tables) as_ → has_too_large rows as_ ≡ false
@@ -577,7 +685,9 @@ module _ (l : Layout) (rows : List (List Row)) (v : IsValid l) (c : IsClean l ro
   each_drawn [] h e = All-nil (CanBeDrawn l (all_places l rows))
   each_drawn (a ∷ as_) h e =
       let b = neither (is_too_large rows a) (has_too_large rows as_) e in
-      All-cons (CanBeDrawn l (all_places l rows)) a as_ (can_be_drawn l rows v c a (All-head (IsArea l.tables) a as_ h) n b.0) (each_drawn as_ (All-tail (IsArea l.tables) a as_ h) b.1)
+      All-cons (CanBeDrawn l (all_places l rows)) a as_
+      (can_be_drawn l rows v c a (All-head (IsArea l.tables) a as_ h) n b.0)
+      (each_drawn as_ (All-tail (IsArea l.tables) a as_ h) b.1)
     where
       neither : (b c : Bool) → (b || c) ≡ false → (b ≡ false) × (c ≡ false)
       neither true c h = absurd (cc)
@@ -592,7 +702,10 @@ module _ (l : Layout) (rows : List (List Row)) (v : IsValid l) (c : IsClean l ro
   drawings_of [] [] h z = z
   drawings_of [] (d ∷ ds) h z = z
   drawings_of (a ∷ as_) [] h z = z
-  drawings_of (a ∷ as_) (d ∷ ds) h z = (drawn_from l rows v c a (All-head (IsArea l.tables) a as_ h) n d z.0, drawings_of as_ ds (All-tail (IsArea l.tables) a as_ h) z.1)
+  drawings_of (a ∷ as_) (d ∷ ds) h z = (
+    drawn_from l rows v c a (All-head (IsArea l.tables) a as_ h) n d z.0,
+    drawings_of as_ ds (All-tail (IsArea l.tables) a as_ h) z.1,
+  )
 
   pub all_drawings : (ds : List Plan) → AllZip (IsDrawnFrom l (all_places l rows)) l.areas ds
       → AllZip (IsDrawing l rows) l.areas ds

@@ -71,16 +71,20 @@ rows_front : (rows : List CodeRow) (i : ℕ) (r : CodeRow) → i < length rows �
     → rows_of (take (suc i) rows) ≡ rows_of (take i rows) ++ row_of r ∷ []
 rows_front [] i r lt e = absurd (omega (arith, lt))
 rows_front (q ∷ rows) zero r lt e = ap (λ (x : CodeRow). row_of x ∷ []) (sym e)
-rows_front (q ∷ rows) (suc i) r lt e = ap (λ (rs : List Row). row_of q ∷ rs) (rows_front rows i r (omega (arith, lt)) e)
+rows_front (q ∷ rows) (suc i) r lt e =
+    ap (λ (rs : List Row). row_of q ∷ rs) (rows_front rows i r (omega (arith, lt)) e)
 
 rows_next : (rows : List CodeRow) (i : ℕ) (r : CodeRow) → i < length rows → r ≡ get_or rows i r
     → rows_of (take (i + 1) rows) ≡ rows_of (take i rows) ++ row_of r ∷ []
-rows_next rows i r lt e = ap (λ (m : ℕ). rows_of (take m rows)) (let s : i + 1 ≡ suc i = omega arith in s) ∙ rows_front rows i r lt e
+rows_next rows i r lt e =
+    ap (λ (m : ℕ). rows_of (take m rows)) (let s : i + 1 ≡ suc i = omega arith in s)
+    ∙ rows_front rows i r lt e
 
 pub kept_next : (codes : Codes) (t : Table) (rows : List CodeRow) (i : ℕ) (r : CodeRow)
     (values : RowValues) (old new : Kept) → i < length rows → r ≡ get_or rows i r
     → old ≡ kept codes t (rows_of (take i rows)) → AreReadAs codes t (row_of r) values
-    → new ≡ with_row r.line (cells_view values.cells.items) (vertices_view values.vertices.items) old
+    → new ≡ with_row r.line (cells_view values.cells.items)
+    (vertices_view values.vertices.items) old
     → new ≡ kept codes t (rows_of (take (i + 1) rows))
 kept_next codes t rows i r values old new lt e o v n =
     n
@@ -181,9 +185,12 @@ table_within (u ∷ ts) (suc n) t e = let h = table_within ts n t e in omega (ar
 -- what is kept of rows of that table
 pub kept_of_table : (codes : Codes) (ts : List CodeTable) (n : ℕ) (u : CodeTable) (t : Table)
     → n < length ts → u ≡ get_or ts n u → slice_get (tables_view ts) n ≡ Some t
-    → (k : Kept) (rs rows : List Row) → k ≡ kept codes (table_view u) rs → rs ≡ rows → k ≡ kept codes t rows
+    → (k : Kept) (rs rows : List Row) → k ≡ kept codes (table_view u) rs → rs ≡ rows
+    → k ≡ kept codes t rows
 kept_of_table codes ts n u t lt e q k rs rows h r =
-    h ∙ ap (kept codes (table_view u)) r ∙ ap (λ (x : Table). kept codes x rows) (same (table_view u) t (sym (table_there ts n u lt e) ∙ q))
+    h ∙ ap (kept codes (table_view u)) r
+    ∙ ap (λ (x : Table). kept codes x rows)
+    (same (table_view u) t (sym (table_there ts n u lt e) ∙ q))
   where
     same : (a b : Table) → Some a ≡ Some b → a ≡ b
     same a b e = cc
@@ -197,7 +204,8 @@ on_ok (Ok a) f p = f p
 on_ok (Err e) f p = tt
 
 -- ---- what is kept of no row, table by table
-pub one_table_more : {X Y Z W : Type 0} (g : X → Z) (v : Y → W) (f : W → Z) (old : List X) (x : X) (ts : List Y) (i : ℕ) (t : Y)
+pub one_table_more : {X Y Z W : Type 0} (g : X → Z) (v : Y → W) (f : W → Z) (old : List X) (x : X)
+    (ts : List Y) (i : ℕ) (t : Y)
     → i < length ts → t ≡ get_or ts i t → g x ≡ f (v t) → map g old ≡ map f (map v (take i ts))
     → map g (old ++ x ∷ []) ≡ map f (map v (take (i + 1) ts))
 one_table_more g v f old x ts i t lt at here front =

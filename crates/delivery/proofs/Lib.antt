@@ -10,6 +10,7 @@ pub mod Certified
 pub mod Closings
 pub mod Drawables
 pub mod EarlyEnds
+pub mod FiledFeeds
 pub mod FoundRegions
 pub mod GatheredLinks
 pub mod GoodRules

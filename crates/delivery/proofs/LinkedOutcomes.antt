@@ -169,7 +169,8 @@ module _ (laws : AreaLaws) (l : Layout) (rows : List (List Row)) (rules : List R
     agree_by true c f g p q u v =
         record {
           status = refl;
-          lines = judged_agree laws l rows ss ts ds xs ys cs es (lines.verdict verdict.Rejected ∷ [])
+          lines = judged_agree laws l rows ss ts ds xs ys cs es
+              (lines.verdict verdict.Rejected ∷ [])
               (lines.verdict verdict.Rejected ∷ []) (same refl, tt) sh sk h k;
           filings = refl;
         }

@@ -28,18 +28,27 @@ is_other p k c fails passes = elim (eqb_tells c k) as (λ z. (c == k) ≡ false)
 name_byte : (p : ℕ → Bool) → p 32 ≡ false → p 10 ≡ false → (c : ℕ) → p c ≡ true
     → is_name_byte c ≡ true
 name_byte p blank lf c h =
-    ap (λ (b : Bool). not b && not (c == 10)) (is_other p 32 c blank h) ∙ ap (λ (b : Bool). not false && not b) (is_other p 10 c lf h)
+    ap (λ (b : Bool). not b && not (c == 10)) (is_other p 32 c blank h)
+    ∙ ap (λ (b : Bool). not false && not b) (is_other p 10 c lf h)
 
 word_bytes : (bytes : List ℕ) → AllPass is_word_byte bytes
     → AllByRecursion (λ c. is_name_byte c ≡ true) bytes
 word_bytes [] h = tt
-word_bytes (c ∷ bytes) h =
-    (name_byte is_word_byte refl refl c (All-head (λ x. is_word_byte x ≡ true) c bytes h), word_bytes bytes (All-tail (λ x. is_word_byte x ≡ true) c bytes h))
+word_bytes (c ∷ bytes) h = (
+  name_byte is_word_byte refl refl c (All-head (λ x. is_word_byte x ≡ true) c bytes h),
+  word_bytes bytes (All-tail (λ x. is_word_byte x ≡ true) c bytes h),
+)
 
 pub held_name : (bytes : List ℕ) → IsWord bytes → IsName bytes
 held_name bytes w =
     subst IsName (sym w.made)
-    (record { some = omega arith; bytes = (name_byte is_ascii_alphabetic refl refl w.first w.letter, word_bytes w.rest w.behind) })
+    (record {
+      some = omega arith;
+      bytes = (
+        name_byte is_ascii_alphabetic refl refl w.first w.letter,
+        word_bytes w.rest w.behind,
+      );
+    })
 
 -- ---- areas are no more than tables
 rising : (tables : List Table) (from : ℕ) (as_ : List AreaOf) → from ≤ length tables → Rise from as_
@@ -48,19 +57,29 @@ rising tables from [] b r h = omega (arith, b)
 rising tables from (a ∷ as_) b r h =
     let one = All-head (IsArea tables) a as_ h in
     let within = slice_get_within tables a.lines one.helper one.lines in
-    omega (arith, r.0, rising tables (a.lines + 1) as_ (omega (arith, within)) r.1 (All-tail (IsArea tables) a as_ h))
+    omega (
+      arith,
+      r.0,
+      rising tables (a.lines + 1) as_ (omega (arith, within)) r.1
+          (All-tail (IsArea tables) a as_ h),
+    )
 
 pub areas_few : (l : Layout) → IsValid l → length l.areas ≤ 4194304
 areas_few l v = omega (arith, v.few, rising l.tables 0 l.areas (omega arith) v.in_order v.areas)
 
 -- ---- areas of a valid layout have names that a certificate can hold
-module _ (l : Layout) (named : (k : ℕ) (a : AreaOf) → slice_get l.areas k ≡ Some a → IsNamedArea l a) where
+module _ (l : Layout) (named : (k : ℕ) (a : AreaOf) → slice_get l.areas k ≡ Some a
+    → IsNamedArea l a) where
   has_title : (a : AreaOf) → IsNamedArea l a → HasTitle l a
   has_title a n = record {
-    topic = subst (λ (t : Option Table). IsName (topic_at l t)) (sym n.main) (held_name (slice_index_or l.topics n.table.topic []) n.topic_name);
-    table = subst (λ (t : Option Table). IsName (name_at t)) (sym n.main) (held_name n.table.name n.table_name);
+    topic = subst (λ (t : Option Table). IsName (topic_at l t)) (sym n.main)
+        (held_name (slice_index_or l.topics n.table.topic []) n.topic_name);
+    table = subst (λ (t : Option Table). IsName (name_at t)) (sym n.main)
+        (held_name n.table.name n.table_name);
     attribute = held_name a.name n.name;
   }
 
   pub all_titled : All (HasTitle l) l.areas
-  all_titled k a lt = has_title (get_or l.areas k a) (named k (get_or l.areas k a) (slice_get-get_or l.areas k a lt))
+  all_titled k a lt =
+      has_title (get_or l.areas k a)
+      (named k (get_or l.areas k a) (slice_get-get_or l.areas k a lt))

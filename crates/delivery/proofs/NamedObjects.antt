@@ -169,7 +169,8 @@ pub ids_at : (codes : Codes) (transfer : List (List Row)) (ts : List Table)
 ids_at codes transfer [] tables n t e g = absurd (cc)
 ids_at codes transfer (u ∷ ts) [] n t e g = refl
 ids_at codes transfer (u ∷ ts) (rows ∷ tables) zero t e g =
-    let b = empty_both (table_keys codes transfer u rows) (tables_keys codes transfer ts tables) e in
+    let b = empty_both (table_keys codes transfer u rows)
+    (tables_keys codes transfer ts tables) e in
     (empty_both (tid_findings [] rows) _ b.0).0
 ids_at codes transfer (u ∷ ts) (rows ∷ tables) (suc n) t e g =
     ids_at codes transfer ts tables n t (empty_both (table_keys codes transfer u rows)

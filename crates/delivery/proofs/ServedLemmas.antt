@@ -34,7 +34,8 @@ pub same_space : (space now : List ℕ → Option ℕ)
     → ((name : List ℕ) → FellBy 0 (space name) (now name)) → (f : Option Filing)
     → HasFilingSpace space f → HasFilingSpace now f
 same_space space now e None h = tt
-same_space space now e (Some f) h = room_kept (length f.text) (space f.name) (now f.name) (e f.name) h
+same_space space now e (Some f) h =
+    room_kept (length f.text) (space f.name) (now f.name) (e f.name) h
 
 -- ---- files and an output in memory
 sure_space : (calls : ℕ) (numbers : List ℕ) (room : Option ℕ) → are_over calls numbers ≡ true
@@ -50,17 +51,24 @@ module _ (shelf : MemoryShelf) (out : Output) (words : List (List ℕ)) where
   held_readable : are_over (calls shelf) (listed shelf) ≡ true → AreReadableFor words (Holds shelf)
       → AreReadableFor words (MemoryReadable shelf)
   held_readable over h c i =
-      let there : (name : List ℕ) → Holds shelf name → MemoryReadable shelf name = λ name k. record { over = over; there = k } in
-      (one_readable (Holds shelf) (MemoryReadable shelf) there (model_of c) (h c i).0, all_readable (Holds shelf) (MemoryReadable shelf) there (further_files (task_of c)) (h c i).1)
+      let there : (name : List ℕ) → Holds shelf name
+      → MemoryReadable shelf name = λ name k. record { over = over; there = k } in (
+        one_readable (Holds shelf) (MemoryReadable shelf) there (model_of c) (h c i).0,
+        all_readable (Holds shelf) (MemoryReadable shelf) there (further_files (task_of c))
+            (h c i).1,
+      )
 
   space_there : are_over (calls shelf) (listed shelf) ≡ true → (f : Option Filing)
       → HasFilingSpace (room shelf) f → HasFilingSpace (space shelf) f
   space_there over None h = tt
-  space_there over (Some f) h = subst (HasRoom (length f.text)) (sym (sure_space (calls shelf) (listed shelf) (room shelf f.name) over)) h
+  space_there over (Some f) h =
+      subst (HasRoom (length f.text))
+      (sym (sure_space (calls shelf) (listed shelf) (room shelf f.name) over)) h
 
   room_there : are_over out.calls out.listed ≡ true → (n : ℕ) → HasRoom n (Some out.room)
       → HasRoom n (sure_room out)
-  room_there over n h = subst (HasRoom n) (sym (sure_space out.calls out.listed (Some out.room) over)) h
+  room_there over n h =
+      subst (HasRoom n) (sym (sure_space out.calls out.listed (Some out.room) over)) h
 
 pub in_memory_for : (shelf : MemoryShelf) (out : Output) (words : List (List ℕ)) (o : Outcome)
     → are_over (calls shelf) (listed shelf) ≡ true → are_over out.calls out.listed ≡ true

@@ -21,13 +21,18 @@ module _ (held : Option Files) (counted : List ℕ → Type 0) (l : Layout) wher
   -- a judged transfer has a text, which was read
   pub text_of : (s : TransferSource) (j : Judged)
       → IsSourceJudged held counted l (transfer_of s) (reading.Judged j)
-      → (text : List ℕ) × IsJudged l text j × ((far : List ℕ → Type 0) (g : Gathered) (P : List ℕ → Type 0) → P text → Reads held far (transfer_of s) g P)
+      → (text : List ℕ) × IsJudged l text j
+      × ((far : List ℕ → Type 0) (g : Gathered) (P : List ℕ → Type 0) → P text
+      → Reads held far (transfer_of s) g P)
   text_of (File name) j h = (h.0, h.2, λ far g P p. inr (inr (h.0, h.1, p)))
   text_of (Grid n) j h = (_, h, λ far g P p. p)
 
   -- one that could not be read or is too long ends the call
-  pub unread_ends : (s : TransferSource) (r : FileRefusal) (o : Outcome) (P : Gathered → List ℕ → Type 0)
+  pub unread_ends : (s : TransferSource) (r : FileRefusal) (o : Outcome) (P : Gathered → List ℕ
+      → Type 0)
       → IsSourceJudged held counted l (transfer_of s) (reading.Unread r) → IsNotRead Transfer r o
-      → (g : Gathered) × Reads held counted (transfer_of s) g (P g) × ((t : Task) → HasOutcome t g o)
-  unread_ends (File name) r o P h e = steps.unread_ends held counted (counted name.now) name.now l r o P h (λ n. n) e
+      → (g : Gathered) × Reads held counted (transfer_of s) g (P g)
+      × ((t : Task) → HasOutcome t g o)
+  unread_ends (File name) r o P h e =
+      steps.unread_ends held counted (counted name.now) name.now l r o P h (λ n. n) e
   unread_ends (Grid n) r o P h e = absurd h

@@ -33,7 +33,8 @@ pub rose_before : (a b c : ℕ) → b ≤ c → Rose a b → Rose a c
 rose_before a b c h k = omega arith
 
 -- what is read is read still where more counts have risen
-module _ (held : Option Files) (near far : List ℕ → Type 0) (counted : (name : List ℕ) → near name → far name) where
+module _ (held : Option Files) (near far : List ℕ → Type 0) (counted : (name : List ℕ) → near name
+    → far name) where
   reads_on : (s : Source) (g : Gathered) (P Q : List ℕ → Type 0)
       → ((text : List ℕ) → P text → Q text) → Reads held near s g P → Reads held far s g Q
   reads_on (made text) g P Q f h = f text h
@@ -49,7 +50,8 @@ module _ (held : Option Files) (near far : List ℕ → Type 0) (counted : (name
       → ReadsAll held near l before ss g → ReadsAll held far l before ss g
   all_on l before [] g h = h
   all_on l before (s ∷ ss) g h =
-      reads_on s g (λ text. ReadsAll held near l (before ++ (text ∷ [])) ss g) (λ text. ReadsAll held far l (before ++ (text ∷ [])) ss g)
+      reads_on s g (λ text. ReadsAll held near l (before ++ (text ∷ [])) ss g)
+      (λ text. ReadsAll held far l (before ++ (text ∷ [])) ss g)
       (λ text k. all_on l (before ++ (text ∷ [])) ss g k) h
 
   compiles_on : (t : Task) (text : List ℕ) (g : Gathered) → Compiles held near t text g
@@ -60,7 +62,9 @@ module _ (held : Option Files) (near far : List ℕ → Type 0) (counted : (name
   ]
 
   gathers_on : (c : Command) (g : Gathered) → InputsOf held near c g → InputsOf held far c g
-  gathers_on c g h = reads_on (model_of c) g (λ text. Compiles held near (task_of c) text g) (λ text. Compiles held far (task_of c) text g) (λ text k. compiles_on (task_of c) text g k) h
+  gathers_on c g h =
+      reads_on (model_of c) g (λ text. Compiles held near (task_of c) text g)
+      (λ text. Compiles held far (task_of c) text g) (λ text k. compiles_on (task_of c) text g k) h
 
   pub passes_on : (words : List (List ℕ)) (test : Task → Layout → List (List ℕ) → Type 0)
       → HoldsOfTexts held near words test → HoldsOfTexts held far words test
@@ -68,11 +72,19 @@ module _ (held : Option Files) (near far : List ℕ → Type 0) (counted : (name
 
   pub ends_on : (t : Task) (l : Layout) (before : List (List ℕ)) (rest : List Source) (o : Outcome)
       → OutcomeAfter held near t l before rest o → OutcomeAfter held far t l before rest o
-  ends_on t l before rest o h = record { gathered = h.gathered; reads = all_on l before rest h.gathered h.reads; amounts = h.amounts }
+  ends_on t l before rest o h = record {
+    gathered = h.gathered;
+    reads = all_on l before rest h.gathered h.reads;
+    amounts = h.amounts;
+  }
 
   pub model_on : (t : Task) (text : List ℕ) (o : Outcome) → ModelOutcome held near t text o
       → ModelOutcome held far t text o
-  model_on t text o h = record { gathered = h.gathered; compiles = compiles_on t text h.gathered h.compiles; amounts = h.amounts }
+  model_on t text o h = record {
+    gathered = h.gathered;
+    compiles = compiles_on t text h.gathered h.compiles;
+    amounts = h.amounts;
+  }
 
   pub decides_on : (words : List (List ℕ)) (o : Outcome) → CallOutcome held near words o
       → CallOutcome held far words o
@@ -80,23 +92,34 @@ module _ (held : Option Files) (near far : List ℕ → Type 0) (counted : (name
   decides_on words o (with_command c g i h a) = with_command c g i (gathers_on c g h) a
 
 -- a file that was not read ends the call
-pub not_read_ends : (T : Type 0) (held : Option Files) (counted : List ℕ → Type 0) (f : File) (name : List ℕ) (r : FileRefusal) (o : Outcome) (P : Gathered → List ℕ → Type 0) → (IsErrOf {T = T} (Err r) Failed → counted name) → (IsErrOf {T = T} (Err r) TooLong → IsLonger held name (limit_of f)) → IsNotRead f r o
-    → (g : Gathered) × Reads held counted (from_file f name) g (P g) × ((t : Task) → HasOutcome t g o)
-not_read_ends T held counted f name Failed o P a b e = (gathering.unread f, inl (a refl, refl), λ t. e)
-not_read_ends T held counted f name TooLong o P a b e = (gathering.too_long f, inr (inl (b refl, refl)), λ t. e)
+pub not_read_ends : (T : Type 0) (held : Option Files) (counted : List ℕ → Type 0) (f : File)
+    (name : List ℕ) (r : FileRefusal) (o : Outcome) (P : Gathered → List ℕ → Type 0)
+    → (IsErrOf {T = T} (Err r) Failed → counted name)
+    → (IsErrOf {T = T} (Err r) TooLong → IsLonger held name (limit_of f)) → IsNotRead f r o
+    → (g : Gathered) × Reads held counted (from_file f name) g (P g)
+    × ((t : Task) → HasOutcome t g o)
+not_read_ends T held counted f name Failed o P a b e =
+    (gathering.unread f, inl (a refl, refl), λ t. e)
+not_read_ends T held counted f name TooLong o P a b e =
+    (gathering.too_long f, inr (inl (b refl, refl)), λ t. e)
 not_read_ends T held counted f name Memory o P a b e = absurd e
 
 -- and the transfer's, which is judged while it is read
-pub unread_ends : (held : Option Files) (counted : List ℕ → Type 0) (rose : Type 0) (name : List ℕ) (l : Layout) (r : FileRefusal) (o : Outcome) (P : Gathered → List ℕ → Type 0)
+pub unread_ends : (held : Option Files) (counted : List ℕ → Type 0) (rose : Type 0) (name : List ℕ)
+    (l : Layout) (r : FileRefusal) (o : Outcome) (P : Gathered → List ℕ → Type 0)
     → IsTransfer held name l rose (reading.Unread r) → (rose → counted name)
     → IsNotRead Transfer r o
-    → (g : Gathered) × Reads held counted (from_file Transfer name) g (P g) × ((t : Task) → HasOutcome t g o)
-unread_ends held counted rose name l Failed o P h f e = (gathering.unread Transfer, inl (f h, refl), λ t. e)
-unread_ends held counted rose name l TooLong o P h f e = (gathering.too_long Transfer, inr (inl (h, refl)), λ t. e)
+    → (g : Gathered) × Reads held counted (from_file Transfer name) g (P g)
+    × ((t : Task) → HasOutcome t g o)
+unread_ends held counted rose name l Failed o P h f e =
+    (gathering.unread Transfer, inl (f h, refl), λ t. e)
+unread_ends held counted rose name l TooLong o P h f e =
+    (gathering.too_long Transfer, inr (inl (h, refl)), λ t. e)
 unread_ends held counted rose name l Memory o P h f e = absurd e
 
 -- an outcome that its areas have no part in is one whatever is said of them
-pub ended_for : (l : Layout) (text : List ℕ) (Areas : List (List Row) → Outcome → Type 0) (o : Outcome)
+pub ended_for : (l : Layout) (text : List ℕ) (Areas : List (List Row) → Outcome → Type 0)
+    (o : Outcome)
     → IsJudgedBy l text (λ rows p. ⊥) o → IsJudgedBy l text Areas o
 ended_for l text Areas o (at_fault n code h e) = at_fault n code h e
 ended_for l text Areas o (faulty rows t n e) = faulty rows t n e
@@ -104,7 +127,8 @@ ended_for l text Areas o (oversized rows t k b e) = oversized rows t k b e
 ended_for l text Areas o (sound h) = absurd h.4
 
 -- the rows of a file that was not read are a transfer that was not read
-pub rows_unread : (K : Type 0) (Has : Keeps K) (held : Option Files) (name : List ℕ) (l : Layout) (rose : Type 0) (r : FileRefusal)
+pub rows_unread : (K : Type 0) (Has : Keeps K) (held : Option Files) (name : List ℕ) (l : Layout)
+    (rose : Type 0) (r : FileRefusal)
     → AreFileRows Has held name l rose (rows_reading.Unread r)
     → IsTransfer held name l rose (reading.Unread r)
 rows_unread K Has held name l rose Failed h = h

@@ -17,7 +17,10 @@ use Rattle.delivery.proofs.AreaLemmas.{straights_decided}
 
 none_in : (t : Task) (l : Layout) (ts : List (List ℕ)) → HasStraightAreas t l ts
     → LeavesUndecided t l ts → ⊥
-none_in (judges s target) l (text ∷ []) k h = straights_decided l h.0 (subst (HaveStraightLines l) (one_transfer (form_of l) (lines_of l text).lines k.0 h.0 k.1.1 h.1.1) k.2) h.4.0
+none_in (judges s target) l (text ∷ []) k h =
+    straights_decided l h.0
+    (subst (HaveStraightLines l)
+    (one_transfer (form_of l) (lines_of l text).lines k.0 h.0 k.1.1 h.1.1) k.2) h.4.0
 none_in (tests_points s r) l (text ∷ links ∷ []) k h =
     straights_decided l h.0
     (subst (HaveStraightLines l)
@@ -34,7 +37,10 @@ none_left files far near words p q =
 -- an answer that has its cause is not that something is undecided
 pub decided : (held : Option Files) (counted : List ℕ → Type 0) (words : List (List ℕ)) (s : Status)
     → HasCause held counted words s
-    → ((files : Files) → HoldsOfTexts (Some files) counted words HasStraightAreas → HasCause (Some files) counted words Undecided → ⊥)
-    → (files : Files) → held ≡ Some files → HoldsOfTexts (Some files) counted words HasStraightAreas → s ≢ Undecided
+    → ((files : Files) → HoldsOfTexts (Some files) counted words HasStraightAreas
+    → HasCause (Some files) counted words Undecided → ⊥)
+    → (files : Files) → held ≡ Some files → HoldsOfTexts (Some files) counted words HasStraightAreas
+    → s ≢ Undecided
 decided held counted words s m law files t p e =
-    law files p (subst (λ (x : Option Files). HasCause x counted words Undecided) t (subst (HasCause held counted words) e m))
+    law files p (subst (λ (x : Option Files). HasCause x counted words Undecided) t
+    (subst (HasCause held counted words) e m))

@@ -100,7 +100,8 @@ is_surface l s h =
     let a = among 0 l.tables s h in
     record {
       helper = a.table;
-      lines = ap (λ (n : ℕ). slice_get l.tables n) (let e = a.number in let z : s.lines ≡ a.place = omega (arith, e) in z) ∙ a.at;
+      lines = ap (λ (n : ℕ). slice_get l.tables n) (let e = a.number in
+          let z : s.lines ≡ a.place = omega (arith, e) in z) ∙ a.at;
       role = a.role;
     }
 

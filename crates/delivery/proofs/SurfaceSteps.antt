@@ -85,7 +85,8 @@ grouped_one [] line lines os = refl
 grouped_one (p ∷ ps) line lines os = refl
 
 pub grouped_end : (ps : List (Option ℕ)) (ns : List ℕ) (i : ℕ) (vs : List Seen)
-    (os whole : List (List (List Seen))) → length ns ≤ i → grouped ps (cut (drop i ns) vs) os ≡ whole
+    (os whole : List (List (List Seen))) → length ns ≤ i
+    → grouped ps (cut (drop i ns) vs) os ≡ whole
     → os ≡ whole
 grouped_end ps ns i vs os whole le h = sym (by ps ns i le) ∙ h
   where

@@ -31,7 +31,8 @@ use Rattle.delivery.proofs.Verifications.{certificates_of}
 -- an element of a list and of its view
 pub mapped_there : {X Y : Type 0} (f : X → Y) (xs : List X) (i : ℕ) (x : X) → i < length xs
     → x ≡ get_or xs i x → slice_get (map f xs) i ≡ Some (f x)
-mapped_there f xs i x w e = slice_get-map f xs i ∙ ap (option_map f) (slice_get_read xs (length xs) i x refl w e)
+mapped_there f xs i x w e = slice_get-map f xs i
+    ∙ ap (option_map f) (slice_get_read xs (length xs) i x refl w e)
 
 pub paired_at : {X : Type 0} (P : X → Type 0) (xs : List X) (i : ℕ) (x : X) → AllByRecursion P xs
     → i < length xs → x ≡ get_or xs i x → P x
@@ -109,13 +110,15 @@ module _ (l : Layout) (ds : List Drawing) (cs : List Certificate) (k : ℕ) (d :
 -- what holds before a number and at it
 pub one_further : (P : ℕ → Type 0) (n : ℕ) → ((j : ℕ) → j < n → P j) → P n → (j : ℕ) → j < n + 1
     → P j
-one_further P n h p j w = by_lt j n (h j) (λ (x : n ≤ j). (let e : n ≡ j = omega (arith, w, x) in subst P e p))
+one_further P n h p j w =
+    by_lt j n (h j) (λ (x : n ≤ j). (let e : n ≡ j = omega (arith, w, x) in subst P e p))
 
 pub whole_take : {X : Type 0} (xs : List X) (n : ℕ) → n ≡ length xs → take n xs ≡ xs
 whole_take [] zero e = refl
 whole_take [] (suc n) e = refl
 whole_take (x ∷ xs) zero e = absurd (omega (arith, e))
-whole_take {X = X} (x ∷ xs) (suc n) e = ap (λ (ys : List X). x ∷ ys) (whole_take xs n (omega (arith, e)))
+whole_take {X = X} (x ∷ xs) (suc n) e =
+    ap (λ (ys : List X). x ∷ ys) (whole_take xs n (omega (arith, e)))
 
 abbrev level : Certificate → ℕ
 level c = c.level
@@ -126,7 +129,9 @@ pub levels_more : (cs : List Certificate) (n : ℕ) (c : Certificate) (old new :
     → old ≡ map (λ (x : Certificate). x.level) (take n cs)
     → new ≡ map (λ (x : Certificate). x.level) (take (n + 1) cs)
 levels_more cs n c old new w p q =
-    p ∙ ap (λ (ns : List ℕ). ns ++ (get_or cs n c).level ∷ []) q ∙ sym (map-append level (take n cs) (get_or cs n c ∷ [])) ∙ ap (map level) (sym (take_more cs n c w))
+    p ∙ ap (λ (ns : List ℕ). ns ++ (get_or cs n c).level ∷ []) q
+    ∙ sym (map-append level (take n cs) (get_or cs n c ∷ []))
+    ∙ ap (map level) (sym (take_more cs n c w))
 
 pub levels_view : (cs : List Certificate)
     → map (λ (c : Certificate). c.level) cs ≡ levels_of (views cs)
@@ -136,5 +141,6 @@ levels_view (c ∷ cs) = ap (λ (ns : List ℕ). c.level ∷ ns) (levels_view cs
 pub checked_list : (l : Layout) (ds : List Plan) (cs : List Plain) (v : Verification)
     → length ds ≡ length l.areas → AreNamed l cs → AreChecked l ds cs v → (text : List ℕ)
     → AreFiledIn text cs → IsVerification l ds text v
-checked_list l ds cs (proved levels) m n h text s = all_proved cs s (certificates_of l ds cs m n h.1) (ap proved h.0)
+checked_list l ds cs (proved levels) m n h text s =
+    all_proved cs s (certificates_of l ds cs m n h.1) (ap proved h.0)
 checked_list l ds cs (not_proved k rule place) m n h text s = broken cs k rule place s n h refl

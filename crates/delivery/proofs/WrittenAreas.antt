@@ -1,4 +1,5 @@
--- The polygons of areas: all answers are fine where an outcome is accepted, then there are polygons,
+-- The polygons of areas: all answers are fine where an outcome is accepted, then there are
+-- polygons,
 -- and they are given by the drawings.
 use Rattle.std.proofs.Common.{◌≡◌, ◌⊎◌, inl, inr, ℕ, zero, suc, ℤ, ◌<◌, arith, Bool, true, false}
 use Rattle.std.proofs.Common.{◌&&◌, ◌||◌, List, [], ◌∷◌, length, Some, refl, sym, ap, ◌∙◌, subst}
@@ -74,7 +75,8 @@ fine_answers [] f u = refl
 fine_answers (x ∷ xs) f u =
     let n = neither (answer_is_fault x) (some_fault xs) f in
     let m = neither (answer_is_undecided x) (some_undecided xs) u in
-    both (is_fine (answer_kind x)) (are_fine xs) (fine_kind (answer_kind x) n.0 m.0) (fine_answers xs n.1 m.1)
+    both (is_fine (answer_kind x)) (are_fine xs) (fine_kind (answer_kind x) n.0 m.0)
+    (fine_answers xs n.1 m.1)
 
 -- where the outcome is accepted all answers are fine
 module _ (l : Layout) (objects : ℕ) (target : Target) (ss : List SurfaceAnswer) (ds : List Plan)
@@ -117,7 +119,8 @@ fault_not_fine d (fault.Cut i) = refl
 
 -- straights are their own ground
 abbrev pub StraightGrounds : Type 0
-StraightGrounds = (t : ℤ) (d g : Plan) (x : Bool) (os : List ℕ) → AreStraights d → IsRightGround t d x g os → g ≡ d
+StraightGrounds = (t : ℤ) (d g : Plan) (x : Bool) (os : List ℕ) → AreStraights d
+    → IsRightGround t d x g os → g ≡ d
 
 -- a half arc is among the curves
 abbrev pub HasArcIn : List Curve → Type 0
@@ -147,11 +150,15 @@ arc_or_straights d = elim (arc_or d.curves) as (λ y. HasHalfArc d ⊎ AreStraig
 module _ (grounds : StraightGrounds) (l : Layout) where
   fine_plan : (a : AreaOf) (d : Plan) (x : AreaAnswer) (cs : List Plain)
       → is_fine (answer_kind x) ≡ true → IsAnswer l a d x cs → IsSkippedOrArea d
-  fine_plan a d x cs t (faulty f h e z) = differ (is_fine (answer_kind x)) t (ap (λ (y : AreaAnswer). is_fine (answer_kind y)) e ∙ fault_not_fine d f)
-  fine_plan a d x cs t (undecided i j h e z) = differ (is_fine (answer_kind x)) t (ap (λ (y : AreaAnswer). is_fine (answer_kind y)) e)
+  fine_plan a d x cs t (faulty f h e z) =
+      differ (is_fine (answer_kind x)) t (ap (λ (y : AreaAnswer). is_fine (answer_kind y)) e
+      ∙ fault_not_fine d f)
+  fine_plan a d x cs t (undecided i j h e z) =
+      differ (is_fine (answer_kind x)) t (ap (λ (y : AreaAnswer). is_fine (answer_kind y)) e)
   fine_plan a d x cs t (proved c n h e z) = elim (arc_or_straights d) as (λ y. IsSkippedOrArea d) [
     | inl arc ↦ inl arc
-    | inr s ↦ (let own : h.g ≡ d = grounds (area_tolerance l a) d h.g c.bent h.origin s h.right in inr (subst IsPartition own h.area.parts, subst HasNoCut own h.area.uncut))
+    | inr s ↦ (let own : h.g ≡ d = grounds (area_tolerance l a) d h.g c.bent h.origin s h.right in
+        inr (subst IsPartition own h.area.parts, subst HasNoCut own h.area.uncut))
   ]
 
   pub all_fine : (as_ : List AreaOf) (ds : List Plan) (xs : List AreaAnswer) (cs : List Plain)
@@ -174,14 +181,18 @@ one_list d run os ps h k =
     let n : i < length d.points = subst (λ (c : ℕ). i < c) h.size m in
     let p = h.each i n in
     let q = k.each i n in
-    one_polygon d (edge d) run.0 run.1 (object d i) p.order.m p.order.at p.order.f p.order.halves q.order.m q.order.at q.order.f q.order.halves (outline os i) (outline ps i) p.order.rings_are q.order.rings_are)
+    one_polygon d (edge d) run.0 run.1
+    (object d i) p.order.m p.order.at p.order.f p.order.halves q.order.m q.order.at q.order.f
+    q.order.halves (outline os i) (outline ps i) p.order.rings_are q.order.rings_are)
 
 one_answer : (d : Plan) (a b : PolygonAnswer) → IsPolygonAnswer d a → IsPolygonAnswer d b
     → objects_of d a ≡ objects_of d b
 one_answer d polygon.Skipped polygon.Skipped h k = refl
 one_answer d polygon.Skipped (polygon.Rings ps) h k = absurd (no_half_arc d h.0 k.0 h.1)
 one_answer d (polygon.Rings os) polygon.Skipped h k = absurd (no_half_arc d k.0 h.0 k.1)
-one_answer d (polygon.Rings os) (polygon.Rings ps) h k = ap (λ (rings : List (List (List Point))). Some (with_lines d.points rings)) (one_list d h.1 (outlines os.items) (outlines ps.items) h.2 k.2)
+one_answer d (polygon.Rings os) (polygon.Rings ps) h k =
+    ap (λ (rings : List (List (List Point))). Some (with_lines d.points rings))
+    (one_list d h.1 (outlines os.items) (outlines ps.items) h.2 k.2)
 
 one_area : (l : Layout) (a : AreaOf) (d : Plan) (p q : polygons.Plain) → IsWrittenArea l a d p
     → IsWrittenArea l a d q → p ≡ q
@@ -202,14 +213,18 @@ one_text l (a ∷ as_) [] ps qs h k = absurd h
 one_text l (a ∷ as_) (d ∷ ds) [] qs h k = absurd h
 one_text l (a ∷ as_) (d ∷ ds) (p ∷ ps) [] h k = absurd k
 one_text l (a ∷ as_) (d ∷ ds) (p ∷ ps) (q ∷ qs) h k =
-    ap (λ (x : polygons.Plain). x ∷ ps) (one_area l a d p q h.0 k.0) ∙ ap (λ (xs : List polygons.Plain). q ∷ xs) (one_text l as_ ds ps qs h.1 k.1)
+    ap (λ (x : polygons.Plain). x ∷ ps) (one_area l a d p q h.0 k.0)
+    ∙ ap (λ (xs : List polygons.Plain). q ∷ xs) (one_text l as_ ds ps qs h.1 k.1)
 
 pub one_bounded : (l : Layout) (text : List ℕ) (ps qs : List polygons.Plain) → AreBounded l text ps
     → AreBounded l text qs → ps ≡ qs
 one_bounded l text ps qs h k =
-    let rows : h.rows ≡ k.rows = one_transfer (form_of l) (lines_of l text).lines h.rows k.rows h.rows_of.1 k.rows_of.1 in
-    let plans : h.drawings ≡ k.drawings = same_drawings l k.rows l.areas h.drawings k.drawings (subst (λ (r : List (List Row)). AreDrawings l r h.drawings) rows h.drawn) k.drawn in
-    one_text l l.areas k.drawings ps qs (subst (λ (ds : List Plan). AreWrittenAreas l l.areas ds ps) plans h.written) k.written
+    let rows : h.rows ≡ k.rows = one_transfer (form_of l)
+    (lines_of l text).lines h.rows k.rows h.rows_of.1 k.rows_of.1 in
+    let plans : h.drawings ≡ k.drawings = same_drawings l k.rows l.areas h.drawings k.drawings
+    (subst (λ (r : List (List Row)). AreDrawings l r h.drawings) rows h.drawn) k.drawn in
+    one_text l l.areas k.drawings ps qs
+    (subst (λ (ds : List Plan). AreWrittenAreas l l.areas ds ps) plans h.written) k.written
 
 -- ---- what is filed
 -- where polygons are filed, certificates are not
@@ -241,8 +256,12 @@ pub bounded_for : (f : Filed) → f ≡ filed.Polygons
 bounded_for f e l ds ps h = subst (λ (k : Filed). ArePolygonsFor k l ds ps) (sym e) h
 
 -- ---- what is judged
-module _ (target : Target) (l : Layout) (rows : List (List Row)) (o : Outcome) (n : ℕ) (ss : List SurfaceAnswer) (ds : List Plan) (xs : List AreaAnswer) (cs : List Plain) (ps : List polygons.Plain)
-    (count : n ≡ objects rows) (told : AreSurfaceAnswers l rows (surfaces l) ss) (drawn : AreDrawings l rows ds) (answered : AreAnswers l l.areas ds xs cs) (spelt : AreSpelt cs) where
+module _ (target : Target) (l : Layout) (rows : List (List Row)) (o : Outcome) (n : ℕ)
+    (ss : List SurfaceAnswer) (ds : List Plan) (xs : List AreaAnswer) (cs : List Plain)
+    (ps : List polygons.Plain)
+    (count : n ≡ objects rows) (told : AreSurfaceAnswers l rows (surfaces l) ss)
+    (drawn : AreDrawings l rows ds) (answered : AreAnswers l l.areas ds xs cs)
+    (spelt : AreSpelt cs) where
   -- where certificates are filed
   pub judged_certified : (target.filed ≡ filed.Polygons → ⊥)
       → o ≡ areas_outcome l n target ss xs cs ps → AreJudged target l rows o
@@ -265,7 +284,9 @@ module _ (target : Target) (l : Layout) (rows : List (List Row)) (o : Outcome) (
       → o ≡ areas_outcome l n target ss xs es ps
       → (are_fine xs ≡ true → AreWrittenAreas l l.areas ds ps) → AreJudged target l rows o
   judged_bounded es polygons_filed e written =
-      let same : o ≡ areas_outcome l (objects rows) target ss xs cs ps = e ∙ uncertified l n target ss xs es cs ps polygons_filed ∙ ap (λ (k : ℕ). areas_outcome l k target ss xs cs ps) count in
+      let same : o ≡ areas_outcome l (objects rows) target ss xs cs ps = e
+      ∙ uncertified l n target ss xs es cs ps polygons_filed
+      ∙ ap (λ (k : ℕ). areas_outcome l k target ss xs cs ps) count in
       record {
         surface_answers = ss;
         surfaces_answered = told;
@@ -276,6 +297,8 @@ module _ (target : Target) (l : Layout) (rows : List (List Row)) (o : Outcome) (
         answered = answered;
         spelt = spelt;
         polygons = ps;
-        bounded = λ s. bounded_for target.filed polygons_filed l ds ps (written (accepted_fine l (objects rows) target ss ds xs cs ps answered (sym (ap (λ (p : Outcome). p.status) same) ∙ s)));
+        bounded = λ s. bounded_for target.filed polygons_filed l ds ps
+            (written (accepted_fine l (objects rows) target ss ds xs cs ps answered
+            (sym (ap (λ (p : Outcome). p.status) same) ∙ s)));
         is = same;
       }

@@ -45,17 +45,34 @@ IsCleanText l text (Clean c) = IsCleanOf l text c
 IsCleanText l text (Ended o) =
     IsJudgedBy l text (λ rows p. ⊥) (outcome_of o) × IsEarly (outcome_of o)
 
+-- the transfer of that name has a text, and this alone has that outcome, without its areas
+abbrev pub IsOfText : Option Files → Layout → List ℕ → Outcome → Type 0
+IsOfText held l transfer o =
+    (text : List ℕ) × IsWhole held transfer 268435456 text × IsJudgedBy l text (λ rows p. ⊥) o
+
+-- so it is of the layout of a model with that text
+abbrev pub IsOfModel : Option Files → List ℕ → List ℕ → Outcome → Type 0
+IsOfModel held model_text transfer o =
+    (l : Layout) × HasLayout model_text l × IsOfText held l transfer o
+
+-- so it is of the model of that name
+abbrev pub IsOfFiles : Option Files → List ℕ → List ℕ → Outcome → Type 0
+IsOfFiles held model transfer o =
+    (text : List ℕ) × IsWhole held model 4194304 text × IsOfModel held text transfer o
+
 -- a check of that transfer, whose certificates go to that target
 abbrev pub checks : List ℕ → Target → Task
 checks transfer target = judges (from_file Transfer transfer) target
 
--- the file of a transfer is clean by that layout, or a check ends before any area is searched
+-- The file of a transfer is clean by that layout, or a check ends before any area is searched, and
+-- rejects the transfer by its text alone.
 abbrev pub IsDrawnFile : Option Files → (List ℕ → Type 0) → Layout → List ℕ → Delivered → Type 0
 IsDrawnFile held counted l transfer (Clean c) =
     (text : List ℕ) × IsWhole held transfer 268435456 text × IsCleanOf l text c
 IsDrawnFile held counted l transfer (Ended o) =
     ((target : Target) → LayoutOutcome held counted (checks transfer target) l (outcome_of o))
     × IsEarly (outcome_of o)
+    × (o.status ≡ status.Rejected → IsOfText held l transfer (outcome_of o))
 
 -- the files of a model and a transfer, where the model has that text and the transfer is clean
 pub record IsCleanBy (held : Option Files) (model_text transfer : List ℕ)
@@ -72,6 +89,7 @@ IsDrawnModel held counted text transfer (Clean c) = IsCleanBy held text transfer
 IsDrawnModel held counted text transfer (Ended o) =
     ((target : Target) → ModelOutcome held counted (checks transfer target) text (outcome_of o))
     × IsEarly (outcome_of o)
+    × (o.status ≡ status.Rejected → IsOfModel held text transfer (outcome_of o))
 
 -- the files of a model and a transfer that is clean
 pub record IsCleanDelivery (held : Option Files) (model transfer : List ℕ)
@@ -85,13 +103,14 @@ abbrev pub names : List ℕ → List ℕ → List ℕ → FileNames
 names model transfer third = record { model = model; transfer = transfer; third = third }
 
 -- What the files of a model and of a transfer come to: a clean transfer, or the outcome of a check
--- of them, wherever its certificates go.
+-- of them, wherever its certificates go, which rejects the transfer by its text alone.
 abbrev pub IsDelivered : Option Files → (List ℕ → Type 0) → List ℕ → List ℕ → Delivered → Type 0
 IsDelivered held counted model transfer (Clean c) = IsCleanDelivery held model transfer c
 IsDelivered held counted model transfer (Ended o) =
     ((third : List ℕ)
     → CommandOutcome held counted (on_files Check (names model transfer third)) (outcome_of o))
     × IsEarly (outcome_of o)
+    × (o.status ≡ status.Rejected → IsOfFiles held model transfer (outcome_of o))
 
 -- both files can be read
 pub record AreReadable (readable : List ℕ → Type 0) (m t : List ℕ) : Type 0 where

@@ -14,8 +14,8 @@ HoldsFront None name text new = ⊤
 HoldsFront (Some files) name text new =
     (new ≡ Some files) ⊎ ((n : ℕ) × (new ≡ Some (map.insert files name (take n text))))
 
--- Where nothing is filed every file is as before; else only that file has changed, and it holds what
--- it held or a front of the text.
+-- Where nothing is filed every file is as before; else only that file has changed, and it holds
+-- what it held or a front of the text.
 abbrev pub IsBegun : Option Filing → Option Files → Option Files → Type 0
 IsBegun None old new = new ≡ old
 IsBegun (Some f) old new = HoldsFront old f.name (f.text) new

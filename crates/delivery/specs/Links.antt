@@ -47,7 +47,8 @@ AreMisplaced t d (p ∷ ps) lines =
 
 -- ---- the pairs of rules
 -- a test of the drawing of a rule's area, by the overlap that it permits, and of the rule's pairs
-abbrev pub PairsPass : (ℤ → Plan → List LinkPair → Type 0) → Layout → List (List Row) → Rule → Type 0
+abbrev pub PairsPass : (ℤ → Plan → List LinkPair → Type 0) → Layout → List (List Row) → Rule
+    → Type 0
 PairsPass test l rows r =
     (a : AreaOf) × (d : Plan) × (slice_get l.areas r.area ≡ Some a) × IsDrawing l rows a d
     × test (area_tolerance l a) d (pairs_of l rows r)

@@ -84,7 +84,8 @@ pub data IsVerification (l : Layout) (ds : List Plan) (text : List ℕ)
     (v : Verification) : Type 0 where
   unspelt : (line : ℕ) → ((cs : List Plain) → AreFiledIn text cs → ⊥) → IsBadLine text line
       → v ≡ not_proved 0 0 line → IsVerification l ds text v
-  misnamed : (cs : List Plain) (k : ℕ) → AreFiledIn text cs → IsMisnamedAt l cs k → v ≡ not_proved k 1 k
+  misnamed : (cs : List Plain) (k : ℕ) → AreFiledIn text cs → IsMisnamedAt l cs k
+      → v ≡ not_proved k 1 k
       → IsVerification l ds text v
   broken : (cs : List Plain) (k rule place : ℕ) → AreFiledIn text cs → AreNamed l cs
       → IsBrokenAt l ds cs k rule place → v ≡ not_proved k rule place → IsVerification l ds text v

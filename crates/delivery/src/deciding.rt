@@ -22,6 +22,7 @@ ghost use Rattle.delivery.specs.Served.{IsReadable, AreReadable, HasReadableFile
 ghost use Rattle.commands.specs.TrialFiles.{model_text as the_model};
 ghost use Rattle.commands.specs.TrialFiles.{transfer_text as the_transfer};
 
+use crate::filed::read_certificates;
 use crate::judging::{Judged, LinksKept};
 use crate::rows::{checked, linked_by, rewritten, verified_by};
 use crate::transfers::{RowsReading, TransferReading, judge_text, read_for, read_transfer};
@@ -121,8 +122,8 @@ fn decide_filed<'a, S: Shelf>(
         (S.held shelf.new) (S.read_faults shelf.new) (S.write_faults shelf.new)
         (S.readable shelf.new) (S.space shelf.new) }
 {
-    match read_file(alloc, shelf, File::Certificate, name) {
-        Ok(filed) => verified_by(alloc, layout, judged, &filed),
+    match read_certificates(alloc, shelf, name) {
+        Ok(filed) => verified_by(alloc, layout, judged, filed),
         Err(refusal) => not_read(alloc, File::Certificate, refusal),
     }
 }

@@ -1,5 +1,5 @@
 // The outcome of a transfer that was judged.
-ghost use Rattle.std.specs.Prelude.{◌≡◌, ◌≤◌, ◌^◌, ℕ, List, length, true, IfOk};
+ghost use Rattle.std.specs.Prelude.{◌≡◌, ◌≤◌, ℕ, List, length, true, IfOk};
 ghost use Rattle.std.specs.List.{All, AllZip};
 ghost use Rattle.itf_reader.specs.Forms.{Row as GivenRow};
 ghost use Rattle.table_layout.specs.Layouts.{Layout as GivenLayout};
@@ -14,6 +14,7 @@ ghost use Rattle.delivery.specs.AreaPolygons.{AreWrittenAreas, IsSkippedOrArea};
 ghost use Rattle.polygons.specs.Text.{views as polygons_in};
 ghost use Rattle.reports.specs.Kinds.{are_fine};
 ghost use Rattle.area_drawings.specs.KeptViews.{HasTolerance};
+ghost use Rattle.delivery.specs.FiledLists.{IsReadOf};
 ghost use Rattle.delivery.specs.FiledTexts.{AreVerified, IsVerified};
 ghost use Rattle.delivery.specs.Judging.{AreJudged, IsChecked, objects};
 ghost use Rattle.commands.specs.CommandViews.{target_of};
@@ -29,6 +30,7 @@ ghost use Rattle.area_links.specs.Views.{rules_view};
 ghost use Rattle.itf_writer.specs.Feeds.{HoldsRows};
 
 use crate::area_answers::answers_of;
+use crate::filed::FiledList;
 use crate::judging::{CleanLinks, Judged, LinksJudged, LinksKept, count_objects, judge_links};
 use crate::links::{gather, tested_answers};
 use crate::polygon_answers::written_areas;
@@ -191,32 +193,33 @@ fn verify_drawn<'a>(
     layout: &Layout,
     count: u128,
     drawings: &[Drawing],
-    filed: &[u8],
+    filed: FiledList,
 ) -> Result<Outcome<'a>, Memory>
     requires drawn { length drawings.now ≡ length layout.now.areas.items }
     requires small { All IsSmallPlan (plans drawings.now) }
     requires tolerances { AllZip (HasTolerance (layout_view layout.now))
         (areas_view layout.now.areas.items) drawings.now }
-    requires short { length filed.now ≤ 2 ^ 30 }
-    ensures { (rows : List (List GivenRow)) → count ≡ objects rows
-        → AreDrawings (layout_view layout.now) rows (plans drawings.now)
-        → IfOk result (λ o. AreVerified (layout_view layout.now) filed.now rows (outcome_of o)) }
+    requires read { (spelling : List ℕ) × IsReadOf spelling filed }
+    ensures { (spelling : List ℕ) (rows : List (List GivenRow)) → IsReadOf spelling filed
+        → count ≡ objects rows → AreDrawings (layout_view layout.now) rows (plans drawings.now)
+        → IfOk result (λ o. AreVerified (layout_view layout.now) spelling rows (outcome_of o)) }
 {
     let verification = verify_areas(alloc, layout, drawings, filed)?;
     verified(alloc, layout, count, drawings, &verification)
 }
 
-/// The outcome of a verify, from the judged transfer and the filed text.
+/// The outcome of a verify, from the judged transfer and what the filed text is read as.
 pub fn verified_by<'a>(
     alloc: Global,
     layout: &Layout,
     judged: Judged,
-    filed: &[u8],
+    filed: FiledList,
 ) -> Result<Outcome<'a>, Memory>
     requires text { (text : List ℕ) × IsJudged (layout_view layout.now) text judged }
-    requires filed { length filed.now ≤ 1073741824 }
-    ensures { (text : List ℕ) → IsJudged (layout_view layout.now) text judged
-        → IfOk result (λ o. IsVerified (layout_view layout.now) text filed.now (outcome_of o)) }
+    requires read { (spelling : List ℕ) × IsReadOf spelling filed }
+    ensures { (text spelling : List ℕ) → IsJudged (layout_view layout.now) text judged
+        → IsReadOf spelling filed
+        → IfOk result (λ o. IsVerified (layout_view layout.now) text spelling (outcome_of o)) }
 {
     match sound_rows(alloc, judged)? {
         Sound::Drawn(count, drawings, _surfaces) => {

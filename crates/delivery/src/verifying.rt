@@ -1,5 +1,5 @@
 // Filed certificates, judged against the drawings of a layout's areas.
-ghost use Rattle.std.specs.Prelude.{◌≡◌, ◌↔◌, ℕ, List, ◌<◌, ◌≤◌, ◌^◌, length, IfOk, IsTrue};
+ghost use Rattle.std.specs.Prelude.{◌≡◌, ◌↔◌, ℕ, List, ◌<◌, ◌^◌, length, IfOk, IsTrue};
 ghost use Rattle.std.specs.List.{All, AllByRecursion, AllZip};
 ghost use Rattle.area_drawings.specs.AreaLimits.{IsSmallPlan};
 ghost use Rattle.area_drawings.specs.KeptViews.{HasTolerance};
@@ -11,9 +11,11 @@ ghost use Rattle.reports.specs.AreaKinds.{plans};
 ghost use Rattle.delivery.specs.AreaCertificates.{IsNamedFor, claims_of};
 ghost use Rattle.reports.specs.VerificationViews.{verification_of};
 ghost use Rattle.delivery.specs.Verifying.{AreChecked, IsFirstMisnamed, IsLineOf, IsNamedAt};
+ghost use Rattle.delivery.specs.FiledLists.{IsReadOf};
 ghost use Rattle.delivery.specs.Verifying.{AreFiledIn, IsVerification};
 
-use certificate::{CertFault, Certificate, read};
+use crate::filed::FiledList;
+use certificate::{CertFault, Certificate};
 use certificate_checker::{Verdict, check};
 use plane::Drawing;
 use ports::Memory;
@@ -139,28 +141,29 @@ fn verify_list(
     }
 }
 
-/// Judges a text of certificates against the drawings of all areas, in order: the text spells a
-/// list, which has a certificate for each area by its names, and each proves its drawing or what
-/// becomes of it when its forks are bent, as it says. The first rule that is broken counts. The
-/// only error is out of memory.
+/// Judges what a text of certificates is read as against the drawings of all areas, in order: the
+/// text spells a list, which has a certificate for each area by its names, and each proves its
+/// drawing or what becomes of it when its forks are bent, as it says. The first rule that is broken
+/// counts. The only error is out of memory.
 ///
-/// The text is read once, in time and memory linear in its length; then the drawings are checked
-/// one after the other, each at the cost that `certificate_checker` says.
+/// Cost: the drawings are checked one after the other, each at the cost that `certificate_checker`
+/// says.
 pub fn verify_areas(
     alloc: Global,
     layout: &Layout,
     drawings: &[Drawing],
-    text: &[u8],
+    filed: FiledList,
 ) -> Result<Verification, Memory>
     requires drawn { length drawings.now ≡ length layout.now.areas.items }
     requires small { All IsSmallPlan (plans drawings.now) }
     requires tolerances { AllZip (HasTolerance (layout_view layout.now))
         (areas_view layout.now.areas.items) drawings.now }
-    requires short { length text.now ≤ 2 ^ 30 }
-    ensures { IfOk result (λ v. IsVerification (layout_view layout.now) (plans drawings.now)
-        text.now (verification_of v)) }
+    requires text { (text : List ℕ) × IsReadOf text filed }
+    ensures { (text : List ℕ) → IsReadOf text filed
+        → IfOk result (λ v. IsVerification (layout_view layout.now) (plans drawings.now)
+        text (verification_of v)) }
 {
-    match read(alloc, text) {
+    match filed {
         Ok(certificates) => verify_list(alloc, layout, drawings, &certificates),
         Err(fault) => Ok(Verification::NotProved {
             area: 0,

@@ -33,13 +33,17 @@ said_memory verdict.Clean e = absurd (cc)
 said_memory verdict.Faulty e = absurd (cc)
 said_memory verdict.Unsettled e = absurd (cc)
 
-pub told_writes : (l : Layout) (ds : List Plan) (xs : List SurfaceAnswer) (n : ℕ) (t r : List ℕ) (s : Status)
+pub told_writes : (l : Layout) (ds : List Plan) (xs : List SurfaceAnswer) (n : ℕ) (t r : List ℕ)
+    (s : Status)
     → IsTold l ds xs n t r s → s ≡ status.WriteFault → ⊥
-told_writes l ds xs n t r s h e = said_writes (all_verdict h.tellings (has_surface_fault l xs)) (sym h.status ∙ e)
+told_writes l ds xs n t r s h e =
+    said_writes (all_verdict h.tellings (has_surface_fault l xs)) (sym h.status ∙ e)
 
-pub told_memory : (l : Layout) (ds : List Plan) (xs : List SurfaceAnswer) (n : ℕ) (t r : List ℕ) (s : Status)
+pub told_memory : (l : Layout) (ds : List Plan) (xs : List SurfaceAnswer) (n : ℕ) (t r : List ℕ)
+    (s : Status)
     → IsTold l ds xs n t r s → s ≡ status.Memory → ⊥
-told_memory l ds xs n t r s h e = said_memory (all_verdict h.tellings (has_surface_fault l xs)) (sym h.status ∙ e)
+told_memory l ds xs n t r s h e =
+    said_memory (all_verdict h.tellings (has_surface_fault l xs)) (sym h.status ∙ e)
 
 pub early_writes : (s : Status) → IsEarlyStatus s → s ≡ status.WriteFault → ⊥
 early_writes s h e = subst IsEarlyStatus e h
@@ -48,21 +52,29 @@ pub early_memory : (s : Status) → IsEarlyStatus s → s ≡ status.Memory → 
 early_memory s h e = subst IsEarlyStatus e h
 
 -- ---- a clean delivery
-module _ (held : Option Files) (model transfer : List ℕ) (c : CleanDelivery) (h : IsCleanDelivery held model transfer c) where
+module _ (held : Option Files) (model transfer : List ℕ) (c : CleanDelivery)
+    (h : IsCleanDelivery held model transfer c) where
   pub as_many : length c.drawings.items ≡ length c.layout.areas.items
-  as_many = drawn_count (layout_view c.layout) h.by.clean.judged.0 c.layout.areas.items c.drawings.items h.by.clean.judged.5
+  as_many = drawn_count (layout_view c.layout) h.by.clean.judged.0 c.layout.areas.items
+      c.drawings.items h.by.clean.judged.5
 
   pub all_small : All IsSmallPlan (plans c.drawings.items)
-  all_small = few_curves (layout_view c.layout) h.by.clean.judged.0 (plans c.drawings.items) h.by.clean.judged.3 h.by.clean.judged.5
+  all_small = few_curves (layout_view c.layout) h.by.clean.judged.0
+      (plans c.drawings.items) h.by.clean.judged.3 h.by.clean.judged.5
 
-  pub all_tolerant : AllZip (HasTolerance (layout_view c.layout)) (areas_view c.layout.areas.items) c.drawings.items
+  pub all_tolerant : AllZip (HasTolerance (layout_view c.layout))
+      (areas_view c.layout.areas.items) c.drawings.items
   all_tolerant = h.by.clean.judged.6
 
   -- its faults are all told
-  pub tells : (name : List ℕ) (answer : Status) (new : Option Files) (before after : Option (List ℕ)) (text report : List ℕ) (s : Status)
-      → IsTold (layout_view c.layout) (plans c.drawings.items) c.surfaces.items c.objects text report s
-      → (answer ≢ status.WriteFault → Puts held name (λ file. text) new) → HoldsFront held name text new
-      → Reports report s answer before after → TellsAll held (names_by model transfer name) answer new before after
+  pub tells : (name : List ℕ) (answer : Status) (new : Option Files)
+      (before after : Option (List ℕ)) (text report : List ℕ) (s : Status)
+      → IsTold (layout_view c.layout) (plans c.drawings.items) c.surfaces.items c.objects text
+      report s
+      → (answer ≢ status.WriteFault → Puts held name (λ file. text) new)
+      → HoldsFront held name text new
+      → Reports report s answer before after
+      → TellsAll held (names_by model transfer name) answer new before after
   tells name answer new before after text report s t filed begun reports =
       let j = h.by.clean.judged in
       record {
@@ -83,7 +95,9 @@ module _ (held : Option Files) (model transfer : List ℕ) (c : CleanDelivery) (
         text = text;
         report = report;
         said = s;
-        told = subst (λ (n : ℕ). IsTold (layout_view c.layout) (plans c.drawings.items) c.surfaces.items n text report s) j.4 t;
+        told = subst
+            (λ (n : ℕ). IsTold (layout_view c.layout)
+            (plans c.drawings.items) c.surfaces.items n text report s) j.4 t;
         filed = filed;
         begun = begun;
         reports = reports;

@@ -4,7 +4,7 @@ use Rattle.std.specs.Prelude.{codes}
 use Rattle.commands.specs.Commands.{FileNames, on_files}
 use Rattle.commands.specs.declared.command.Verb.TheVariants.{Check}
 use Rattle.delivery.specs.Deciding.{CallOutcome, with_command}
-use Rattle.delivery.specs.Drawn.{IsEarly, names}
+use Rattle.delivery.specs.Drawn.{IsEarly, IsOfFiles, names}
 use Rattle.delivery.proofs.Steps.{decides_on}
 use Rattle.ports.specs.Files.{Files}
 use Rattle.reports.specs.Lines.{Line}
@@ -29,7 +29,8 @@ by_rejected A status.Memory f n = n (λ e. cc)
 by_rejected A status.NotProved f n = n (λ e. cc)
 
 module _ (held : Option Files) (near far : List ℕ → Type 0) (words : List (List ℕ))
-    (c : FileNames) (o : Outcome) (answer : Status) (new : Option Files) (before after : Option (List ℕ))
+    (c : FileNames) (o : Outcome) (answer : Status) (new : Option Files)
+    (before after : Option (List ℕ))
     (counted : (name : List ℕ) → near name → far name) (n : AreNames words c)
     (h : IsCheckOf held near c.model c.transfer o) where
   decided : CallOutcome held far (codes "check" ∷ words) o
@@ -37,20 +38,27 @@ module _ (held : Option Files) (near far : List ℕ → Type 0) (words : List (L
       let e = h c.third in
       decides_on held near far counted (codes "check" ∷ words) o
       (with_command (on_files Check (names c.model c.transfer c.third)) e.gathered
-      (record { spelled = ap (λ (ws : List (List ℕ)). codes "check" ∷ ws) n.spelled; model = n.model; transfer = n.transfer; third = n.third }) e.gathers e.amounts)
+      (record {
+        spelled = ap (λ (ws : List (List ℕ)). codes "check" ∷ ws) n.spelled;
+        model = n.model;
+        transfer = n.transfer;
+        third = n.third;
+      }) e.gathers e.amounts)
 
-  pub ended : IsEarly o → (o.status ≢ status.Rejected → new ≡ held)
+  pub ended : IsEarly o → (o.status ≡ status.Rejected → IsOfFiles held c.model c.transfer o)
+      → (o.status ≢ status.Rejected → new ≡ held)
       → (o.status ≢ status.Rejected → Reports (report_of o) o.status answer before after)
       → ((ls : List Line) → o ≡ rejection ls
       → LeavesRejection ls held c.third answer new before after)
       → HasCause held far words answer new before after
-  ended i same reports leaves =
+  ended i of_files same reports leaves =
       by_rejected (HasCause held far words answer new before after) o.status
       (λ s.
       let r = rejects held near c.model c.transfer o h s in
       rejected c n (record {
         lines = r.0;
         decided = subst (CallOutcome held far (codes "check" ∷ words)) r.1 decided;
+        of_files = subst (IsOfFiles held c.model c.transfer) r.1 (of_files s);
         leaves = leaves r.0 r.1;
       }))
       (λ s. early (record {

@@ -61,11 +61,13 @@ judged_rejects : (target : Target) (l : Layout) (text : List ℕ) (o : Outcome)
 judged_rejects target l text o (at_fault n code h e) s = (lines.structure n code ∷ [], e)
 judged_rejects target l text o (faulty rows t n e) s = (map lines.finding (findings l rows), e)
 judged_rejects target l text o (oversized rows t k b e) s =
-    absurd (let q : status.OverLimit ≡ status.Rejected = sym (ap (λ (p : Outcome). p.status) e) ∙ s in cc)
+    absurd (let q : status.OverLimit ≡ status.Rejected = sym (ap (λ (p : Outcome). p.status) e)
+    ∙ s in cc)
 judged_rejects target l text o (sound h) s =
     let j = h.4 in
     let ls = judged_lines l j.surface_answers j.answers in
-    let other = accepted (ls ++ trial_lines target.filed j.answers j.certificates) _ (filing_for target j.certificates j.polygons) in
+    let other = accepted (ls ++ trial_lines target.filed j.answers j.certificates) _
+    (filing_for target j.certificates j.polygons) in
     let r = by_kinds_rejects ls other refl (sym (ap (λ (p : Outcome). p.status) j.is) ∙ s) in
     (r.0, j.is ∙ r.1)
 
@@ -73,11 +75,14 @@ task_rejects : (s : Source) (target : Target) (g : Gathered) (o : Outcome)
     → HasOutcome (judges s target) g o → o.status ≡ status.Rejected
     → (rs : List Line) × (o ≡ rejection rs)
 task_rejects s target (gathering.unread f) o e h =
-    absurd (let q : status.ReadFault ≡ status.Rejected = sym (ap (λ (p : Outcome). p.status) e) ∙ h in cc)
+    absurd (let q : status.ReadFault ≡ status.Rejected = sym (ap (λ (p : Outcome). p.status) e)
+    ∙ h in cc)
 task_rejects s target (gathering.too_long f) o e h =
-    absurd (let q : status.OverLimit ≡ status.Rejected = sym (ap (λ (p : Outcome). p.status) e) ∙ h in cc)
+    absurd (let q : status.OverLimit ≡ status.Rejected = sym (ap (λ (p : Outcome). p.status) e)
+    ∙ h in cc)
 task_rejects s target (gathering.refused r) o e h =
-    absurd (let q : status.ModelRefused ≡ status.Rejected = sym (ap (λ (p : Outcome). p.status) e) ∙ h in cc)
+    absurd (let q : status.ModelRefused ≡ status.Rejected = sym (ap (λ (p : Outcome). p.status) e)
+    ∙ h in cc)
 task_rejects s target (gathering.texts l []) o e h = absurd e
 task_rejects s target (gathering.texts l (text ∷ [])) o e h = judged_rejects target l text o e h
 task_rejects s target (gathering.texts l (text ∷ more ∷ rest)) o e h = absurd e
@@ -124,7 +129,9 @@ none_last n = omega arith
 count_findings : (fs : List Finding) → count_by is_finding (findings_view fs) ≡ length fs
 count_findings [] = refl
 count_findings (f ∷ fs) =
-    let first : count_by is_finding (findings_view (f ∷ fs)) ≡ 1 + count_by is_finding (findings_view fs) = sum_by-cons one (lines.finding (finding_of f)) (findings_view fs) in
+    let first : count_by is_finding (findings_view (f ∷ fs))
+    ≡ 1 + count_by is_finding (findings_view fs) =
+    sum_by-cons one (lines.finding (finding_of f)) (findings_view fs) in
     let all : 1 + length fs ≡ length (f ∷ fs) = omega arith in
     first ∙ ap (λ (n : ℕ). 1 + n) (count_findings fs) ∙ all
 
@@ -189,7 +196,8 @@ module _ (o : outcome.Outcome) (ls : List Line) (e : outcome_of o ≡ rejection 
       → IsRejection ls text report status.Rejected
   all_told report front text r f t =
       let whole : report ≡ report_of (rejection ls) = r ∙ ap report_of e in
-      let lines : front ≡ flat_map line_text ls = f (flat_map line_text ls) (whole ∙ report_by_lines ls) in
+      let lines : front ≡ flat_map line_text ls = f (flat_map line_text ls) (whole
+      ∙ report_by_lines ls) in
       record {
         text = t
             ∙ ap (λ (n : ℕ). rejected_text n front) (sym (counted o ls e))
@@ -213,6 +221,7 @@ module _ (ls : List Line) (t r : List ℕ) (s : Status) (h : IsRejection ls t r 
       record {
         filed = λ n. subst (λ (text : List ℕ). Puts held name (λ file. text) new) h.text (filed n);
         begun = subst (λ (text : List ℕ). HoldsFront held name text new) h.text begun;
-        reports = subst (λ (text : List ℕ). Reports text status.Rejected answer before after) h.report
+        reports = subst (λ (text : List ℕ). Reports text status.Rejected answer before after)
+            h.report
             (subst (λ (x : Status). Reports r x answer before after) h.status reports);
       }

@@ -10,7 +10,7 @@ use Rattle.commands.specs.Commands.{FileNames, is_file_name}
 use Rattle.commands.specs.ModelTexts.{HasLayout}
 use Rattle.commands.specs.Reading.{IsWhole}
 use Rattle.delivery.specs.Deciding.{CallOutcome}
-use Rattle.delivery.specs.Drawn.{IsEarly}
+use Rattle.delivery.specs.Drawn.{IsEarly, IsOfFiles}
 use Rattle.delivery.specs.Effects.{HoldsFront}
 use Rattle.delivery.specs.Judging.{IsClean, IsTextOf, objects}
 use Rattle.delivery.specs.Surfaces.{AreSurfaceAnswers}
@@ -165,13 +165,14 @@ pub record LeavesRejection (ls : List Line) (held : Option Files) (name : List �
   pub reports : Reports (report_of (rejection ls)) status.Rejected answer before after
 
 -- A check of the files, wherever its certificates would go, rejects the transfer with these lines
--- before any area is searched, and they are told.
+-- by its text alone, before any area is searched, and they are told.
 pub record TellsRejection (held : Option Files) (counted : List ℕ → Type 0)
-    (words : List (List ℕ)) (name : List ℕ) (answer : Status) (new : Option Files)
+    (words : List (List ℕ)) (names : FileNames) (answer : Status) (new : Option Files)
     (before after : Option (List ℕ)) : Type 0 where
   pub lines : List Line
   pub decided : CallOutcome held counted (codes "check" ∷ words) (rejection lines)
-  pub leaves : LeavesRejection lines held name answer new before after
+  pub of_files : IsOfFiles held names.model names.transfer (rejection lines)
+  pub leaves : LeavesRejection lines held names.third answer new before after
 
 -- All faults are told: the transfer has rows that meet the declarations, no area is over its limit,
 -- the third file holds the text of all faults of the drawings of these rows, or after a failed
@@ -209,7 +210,7 @@ pub data HasCause (held : Option Files) (counted : List ℕ → Type 0) (words :
   early : EndsEarly held counted words answer new before after
       → HasCause held counted words answer new before after
   rejected : (names : FileNames) → AreNames words names
-      → TellsRejection held counted words names.third answer new before after
+      → TellsRejection held counted words names answer new before after
       → HasCause held counted words answer new before after
   told : (names : FileNames) → AreNames words names
       → TellsAll held names answer new before after

@@ -14,11 +14,18 @@ abbrev pub invariant-loop-area : goal.invariant-loop-area
 invariant-loop-area l = record {
   can_next : (goal.iterator-loop-area).can_next l.area-iterator;
   is_finite : (goal.iterator-loop-area).is_finite l.area-iterator;
-  same : length (iter_rest (zip_second l.area-iterator)) ≡ length (iter_rest (zip_first l.area-iterator));
-  names : All (HasTitle (layout_view l.layout)) (areas_view (iter_rest (zip_first l.area-iterator)));
+  same : length (iter_rest (zip_second l.area-iterator))
+      ≡ length (iter_rest (zip_first l.area-iterator));
+  names : All (HasTitle (layout_view l.layout))
+      (areas_view (iter_rest (zip_first l.area-iterator)));
   few : All IsSmallPlan (plans (iter_rest (zip_second l.area-iterator)));
-  tolerances : HaveTolerances (layout_view l.layout) (iter_rest (zip_first l.area-iterator)) (iter_rest (zip_second l.area-iterator));
-  goes_on : GoesOn (layout_view l.layout) (areas_view l.layout.areas.items) (plans l.drawings) (areas_view (iter_rest (zip_first l.area-iterator))) (plans (iter_rest (zip_second l.area-iterator))) l.answers.areas.items (views l.answers.certificates.items);
+  tolerances : HaveTolerances (layout_view l.layout) (iter_rest (zip_first l.area-iterator))
+      (iter_rest (zip_second l.area-iterator));
+  goes_on : GoesOn (layout_view l.layout) (areas_view l.layout.areas.items) (plans l.drawings)
+      (areas_view (iter_rest (zip_first l.area-iterator)))
+      (plans (iter_rest (zip_second l.area-iterator))) l.answers.areas.items
+      (views l.answers.certificates.items);
   spelt : AllByRecursion Fits (views l.answers.certificates.items);
-  count : length (views l.answers.certificates.items) + length (iter_rest (zip_first l.area-iterator)) ≤ length l.layout.areas.items;
+  count : length (views l.answers.certificates.items)
+      + length (iter_rest (zip_first l.area-iterator)) ≤ length l.layout.areas.items;
 }

@@ -11,7 +11,10 @@ use Rattle.delivery.proofs.area_drawing.places_of.Goals as goal
 pub loop-row-init : goal.loop-row-init
 loop-row-init c =
     let codes = codes_of c.args.codes.now in
-    record { table = ap (λ (f : Found). f.table) (c.in_ok-read.ensures codes); kept = c.in_ok-kept.ensures codes }
+    record {
+      table = ap (λ (f : Found). f.table) (c.in_ok-read.ensures codes);
+      kept = c.in_ok-kept.ensures codes;
+    }
 
 pub loop-row-preserved : goal.loop-row-preserved
 loop-row-preserved c =

@@ -10,5 +10,6 @@ use Rattle.delivery.proofs.area_drawing.places_of.Given as goal
 abbrev pub invariant-loop-row : goal.invariant-loop-row
 invariant-loop-row l = record {
   table : (found_of l.read).table ≡ table_view l.table;
-  kept : kept_of l.kept ≡ kept (codes_of l.codes) (table_view l.table) (rows_of (take l.row-index l.rows));
+  kept : kept_of l.kept ≡ kept (codes_of l.codes) (table_view l.table)
+      (rows_of (take l.row-index l.rows));
 }

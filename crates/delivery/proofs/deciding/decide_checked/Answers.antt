@@ -14,21 +14,30 @@ use Rattle.delivery.proofs.deciding.decide_checked.Goals as goal
 pub checked-requires-clause-text : goal.checked-requires-clause-text
 checked-requires-clause-text g c =
     let held = g.S.Shelf.held c.args.shelf.now in
-    let counted : List ℕ → Type 0 = ReadRose (g.S.Shelf.read_faults c.args.shelf.now) (g.S.Shelf.read_faults c.judge_source.new.shelf) in
+    let counted : List ℕ
+    → Type 0 = ReadRose (g.S.Shelf.read_faults c.args.shelf.now)
+    (g.S.Shelf.read_faults c.judge_source.new.shelf) in
     let l = layout_view c.args.layout.now in
-    let t = text_of held counted l c.args.source c.in-Judged.judged (subst (λ (r : TransferReading). IsSourceJudged held counted l (transfer_of c.args.source) r) c.in-Judged.is c.in_ok-judged.ensures.judged) in
+    let t = text_of held counted l c.args.source c.in-Judged.judged
+    (subst (λ (r : TransferReading). IsSourceJudged held counted l
+    (transfer_of c.args.source) r) c.in-Judged.is c.in_ok-judged.ensures.judged) in
     (t.0, t.1)
 
 pub returns-in-Judged-clause-outcome : goal.returns-in-Judged-clause-outcome
 returns-in-Judged-clause-outcome g c =
     let held = g.S.Shelf.held c.args.shelf.now in
-    let counted : List ℕ → Type 0 = ReadRose (g.S.Shelf.read_faults c.args.shelf.now) (g.S.Shelf.read_faults c.judge_source.new.shelf) in
+    let counted : List ℕ
+    → Type 0 = ReadRose (g.S.Shelf.read_faults c.args.shelf.now)
+    (g.S.Shelf.read_faults c.judge_source.new.shelf) in
     let l = layout_view c.args.layout.now in
-    let t = text_of held counted l c.args.source c.in-Judged.judged (subst (λ (r : TransferReading). IsSourceJudged held counted l (transfer_of c.args.source) r) c.in-Judged.is c.in_ok-judged.ensures.judged) in
+    let t = text_of held counted l c.args.source c.in-Judged.judged
+    (subst (λ (r : TransferReading). IsSourceJudged held counted l
+    (transfer_of c.args.source) r) c.in-Judged.is c.in_ok-judged.ensures.judged) in
     if_ok _ _ c.checked.result
     (λ o h. record {
       gathered = texts l (t.0 ∷ []);
-      reads = t.2 counted (texts l (t.0 ∷ [])) (λ text. ReadsAll held counted l ([] ++ (text ∷ [])) [] (texts l (t.0 ∷ []))) refl;
+      reads = t.2 counted (texts l (t.0 ∷ []))
+          (λ text. ReadsAll held counted l ([] ++ (text ∷ [])) [] (texts l (t.0 ∷ []))) refl;
       amounts = h;
     })
     (c.checked.ensures t.0 t.1)
@@ -36,11 +45,20 @@ returns-in-Judged-clause-outcome g c =
 pub returns-in-Unread-clause-outcome : goal.returns-in-Unread-clause-outcome
 returns-in-Unread-clause-outcome g c =
     let held = g.S.Shelf.held c.args.shelf.now in
-    let counted : List ℕ → Type 0 = ReadRose (g.S.Shelf.read_faults c.args.shelf.now) (g.S.Shelf.read_faults c.judge_source.new.shelf) in
+    let counted : List ℕ
+    → Type 0 = ReadRose (g.S.Shelf.read_faults c.args.shelf.now)
+    (g.S.Shelf.read_faults c.judge_source.new.shelf) in
     let l = layout_view c.args.layout.now in
-    let u = subst (λ (r : TransferReading). IsSourceJudged held counted l (transfer_of c.args.source) r) c.in-Unread.is c.in_ok-judged.ensures.judged in
+    let u = subst
+    (λ (r : TransferReading). IsSourceJudged held counted l (transfer_of c.args.source) r)
+    c.in-Unread.is c.in_ok-judged.ensures.judged in
     if_ok _ _ c.not_read.result
     (λ o h.
-    let e = unread_ends held counted l c.args.source c.in-Unread.refusal (outcome_of o) (λ q text. ReadsAll held counted l ([] ++ (text ∷ [])) [] q) u h in
-    record { gathered = e.0; reads = e.1; amounts = e.2 (judges (transfer_of c.args.source) (target_of c.args.target.now)) })
+    let e = unread_ends held counted l c.args.source c.in-Unread.refusal (outcome_of o)
+    (λ q text. ReadsAll held counted l ([] ++ (text ∷ [])) [] q) u h in
+    record {
+      gathered = e.0;
+      reads = e.1;
+      amounts = e.2 (judges (transfer_of c.args.source) (target_of c.args.target.now));
+    })
     c.not_read.ensures

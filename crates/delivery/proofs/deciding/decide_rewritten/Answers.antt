@@ -21,8 +21,10 @@ rewritten-requires-clause-text g c =
     let name = c.args.transfer.now in
     let l = layout_view c.args.layout.now in
     let counted : List ℕ → Type 0 =
-    ReadRose (g.S.Shelf.read_faults c.args.shelf.now) (g.S.Shelf.read_faults c.read_for.new.shelf) in
-    let r = subst (λ (r : RowsReading CanonFeed). AreFileRows HoldsRows held name l (counted name) r)
+    ReadRose (g.S.Shelf.read_faults c.args.shelf.now)
+    (g.S.Shelf.read_faults c.read_for.new.shelf) in
+    let r = subst
+    (λ (r : RowsReading CanonFeed). AreFileRows HoldsRows held name l (counted name) r)
     c.in-Rows.is c.in_ok-kept-2.ensures.rows in
     (r.0, r.2)
 
@@ -32,8 +34,10 @@ returns-in-Rows-clause-outcome g c =
     let name = c.args.transfer.now in
     let l = layout_view c.args.layout.now in
     let counted : List ℕ → Type 0 =
-    ReadRose (g.S.Shelf.read_faults c.args.shelf.now) (g.S.Shelf.read_faults c.read_for.new.shelf) in
-    let r = subst (λ (r : RowsReading CanonFeed). AreFileRows HoldsRows held name l (counted name) r)
+    ReadRose (g.S.Shelf.read_faults c.args.shelf.now)
+    (g.S.Shelf.read_faults c.read_for.new.shelf) in
+    let r = subst
+    (λ (r : RowsReading CanonFeed). AreFileRows HoldsRows held name l (counted name) r)
     c.in-Rows.is c.in_ok-kept-2.ensures.rows in
     if_ok _ _ c.rewritten.result
     (λ o h. record {
@@ -49,8 +53,10 @@ returns-in-Malformed-clause-outcome g c =
     let name = c.args.transfer.now in
     let l = layout_view c.args.layout.now in
     let counted : List ℕ → Type 0 =
-    ReadRose (g.S.Shelf.read_faults c.args.shelf.now) (g.S.Shelf.read_faults c.read_for.new.shelf) in
-    let r = subst (λ (r : RowsReading CanonFeed). AreFileRows HoldsRows held name l (counted name) r)
+    ReadRose (g.S.Shelf.read_faults c.args.shelf.now)
+    (g.S.Shelf.read_faults c.read_for.new.shelf) in
+    let r = subst
+    (λ (r : RowsReading CanonFeed). AreFileRows HoldsRows held name l (counted name) r)
     c.in-Malformed.is c.in_ok-kept-2.ensures.rows in
     if_ok _ _ c.malformed.result
     (λ o e. record {
@@ -66,8 +72,10 @@ returns-in-Unread-clause-outcome g c =
     let name = c.args.transfer.now in
     let l = layout_view c.args.layout.now in
     let counted : List ℕ → Type 0 =
-    ReadRose (g.S.Shelf.read_faults c.args.shelf.now) (g.S.Shelf.read_faults c.read_for.new.shelf) in
-    let r = subst (λ (r : RowsReading CanonFeed). AreFileRows HoldsRows held name l (counted name) r)
+    ReadRose (g.S.Shelf.read_faults c.args.shelf.now)
+    (g.S.Shelf.read_faults c.read_for.new.shelf) in
+    let r = subst
+    (λ (r : RowsReading CanonFeed). AreFileRows HoldsRows held name l (counted name) r)
     c.in-Unread.is c.in_ok-kept-2.ensures.rows in
     let u = rows_unread CanonFeed HoldsRows held name l (counted name) c.in-Unread.refusal r in
     if_ok _ _ c.not_read.result

@@ -22,7 +22,8 @@ decide_linked-requires-clause-text g c =
     let name = c.args.transfer.now in
     let l = layout_view c.args.layout.now in
     let counted : List ℕ → Type 0 =
-    ReadRose (g.S.Shelf.read_faults c.args.shelf.now) (g.S.Shelf.read_faults c.read_for.new.shelf) in
+    ReadRose (g.S.Shelf.read_faults c.args.shelf.now)
+    (g.S.Shelf.read_faults c.read_for.new.shelf) in
     let r =
     subst (λ (r : RowsReading LinksKept). AreFileRows HasLinked held name l (counted name) r)
     c.in-Rows.is c.in_ok-kept-2.ensures.rows in
@@ -34,7 +35,8 @@ returns-in-Rows-clause-outcome g c =
     let name = c.args.transfer.now in
     let l = layout_view c.args.layout.now in
     let first : List ℕ → Type 0 =
-    ReadRose (g.S.Shelf.read_faults c.args.shelf.now) (g.S.Shelf.read_faults c.read_for.new.shelf) in
+    ReadRose (g.S.Shelf.read_faults c.args.shelf.now)
+    (g.S.Shelf.read_faults c.read_for.new.shelf) in
     let near : List ℕ → Type 0 =
     ReadRose (g.S.Shelf.read_faults c.read_for.new.shelf)
     (g.S.Shelf.read_faults c.decide_linked.new.shelf) in
@@ -76,7 +78,8 @@ returns-in-Malformed-clause-outcome g c =
     let name = c.args.transfer.now in
     let l = layout_view c.args.layout.now in
     let first : List ℕ → Type 0 =
-    ReadRose (g.S.Shelf.read_faults c.args.shelf.now) (g.S.Shelf.read_faults c.read_for.new.shelf) in
+    ReadRose (g.S.Shelf.read_faults c.args.shelf.now)
+    (g.S.Shelf.read_faults c.read_for.new.shelf) in
     let near : List ℕ → Type 0 =
     ReadRose (g.S.Shelf.read_faults c.read_for.new.shelf)
     (g.S.Shelf.read_faults c.decide_unlinked.new.shelf) in
@@ -119,7 +122,8 @@ returns-in-Unread-clause-outcome g c =
     let name = c.args.transfer.now in
     let l = layout_view c.args.layout.now in
     let counted : List ℕ → Type 0 =
-    ReadRose (g.S.Shelf.read_faults c.args.shelf.now) (g.S.Shelf.read_faults c.read_for.new.shelf) in
+    ReadRose (g.S.Shelf.read_faults c.args.shelf.now)
+    (g.S.Shelf.read_faults c.read_for.new.shelf) in
     let links = from_file Links c.args.links.now in
     let r =
     subst (λ (r : RowsReading LinksKept). AreFileRows HasLinked held name l (counted name) r)

@@ -13,14 +13,20 @@ use Rattle.delivery.proofs.deciding.judge_source.Goals as goal
 pub returns-in-File-clause-judged : goal.returns-in-File-clause-judged
 returns-in-File-clause-judged g c =
     let held = g.S.Shelf.held c.args.shelf.now in
-    let counted : List ℕ → Type 0 = ReadRose (g.S.Shelf.read_faults c.args.shelf.now) (g.S.Shelf.read_faults c.read_transfer.new.shelf) in
+    let counted : List ℕ
+    → Type 0 = ReadRose (g.S.Shelf.read_faults c.args.shelf.now)
+    (g.S.Shelf.read_faults c.read_transfer.new.shelf) in
     let l = layout_view c.args.layout.now in
     if_ok _ _ c.read_transfer.result
-    (λ r h. subst (λ (s : TransferSource). IsSourceJudged held counted l (transfer_of s) r) (sym c.in-File.is) h)
+    (λ r h. subst (λ (s : TransferSource). IsSourceJudged held counted l (transfer_of s) r)
+    (sym c.in-File.is) h)
     c.read_transfer.ensures.transfer
 
 pub returns-in-File-clause-reads : goal.returns-in-File-clause-reads
-returns-in-File-clause-reads g c = reads_by (λ r. subst (λ (s : TransferSource). IsReadable (g.S.Shelf.readable c.args.shelf.now) (transfer_of s)) c.in-File.is r) c.read_transfer.ensures.reads
+returns-in-File-clause-reads g c =
+    reads_by (λ r. subst
+    (λ (s : TransferSource). IsReadable (g.S.Shelf.readable c.args.shelf.now) (transfer_of s))
+    c.in-File.is r) c.read_transfer.ensures.reads
 
 pub judge_grid-requires-clause-size : goal.judge_grid-requires-clause-size
 judge_grid-requires-clause-size g c = subst IsSmallSource c.in-Grid.is c.requires.small
@@ -28,6 +34,10 @@ judge_grid-requires-clause-size g c = subst IsSmallSource c.in-Grid.is c.require
 pub returns-in_ok-judge_grid-in-Grid-clause-judged : goal.returns-in_ok-judge_grid-in-Grid-clause-judged
 returns-in_ok-judge_grid-in-Grid-clause-judged g c =
     let held = g.S.Shelf.held c.args.shelf.now in
-    let counted : List ℕ → Type 0 = ReadRose (g.S.Shelf.read_faults c.args.shelf.now) (g.S.Shelf.read_faults c.args.shelf.now) in
+    let counted : List ℕ
+    → Type 0 = ReadRose (g.S.Shelf.read_faults c.args.shelf.now)
+    (g.S.Shelf.read_faults c.args.shelf.now) in
     let l = layout_view c.args.layout.now in
-    subst (λ (s : TransferSource). IsSourceJudged held counted l (transfer_of s) (Judged c.in_ok-judge_grid-in-Grid.field-0)) (sym c.in-Grid.is) c.in_ok-judge_grid-in-Grid.ensures
+    subst (λ (s : TransferSource). IsSourceJudged held counted l (transfer_of s)
+    (Judged c.in_ok-judge_grid-in-Grid.field-0))
+    (sym c.in-Grid.is) c.in_ok-judge_grid-in-Grid.ensures

@@ -9,10 +9,15 @@ use Rattle.delivery.proofs.drawn.from_judged.Goals as goal
 pub returns-in-Drawn : goal.returns-in-Drawn
 returns-in-Drawn c text h =
     let l = layout_view c.args.layout in
-    record { layout = refl; judged = subst (λ (x : Sound). IsSound l text x) c.in-Drawn.is (c.in_ok-objects.ensures l text h) }
+    record {
+      layout = refl;
+      judged = subst (λ (x : Sound). IsSound l text x) c.in-Drawn.is
+          (c.in_ok-objects.ensures l text h);
+    }
 
 pub returns-in-Ended : goal.returns-in-Ended
 returns-in-Ended c text h =
     let l = layout_view c.args.layout in
-    let j = subst (λ (x : Sound). IsSound l text x) c.in-Ended.is (c.in_ok-objects.ensures l text h) in
+    let j = subst (λ (x : Sound). IsSound l text x) c.in-Ended.is
+    (c.in_ok-objects.ensures l text h) in
     (j, judged_early l text (outcome_of c.in-Ended.outcome) j)

@@ -6,7 +6,12 @@ use Rattle.delivery.proofs.PolygonLemmas.{rings_size}
 use Rattle.delivery.proofs.polygon_answers.area_objects.Goals as goal
 
 pub returns-in-Skipped : goal.returns-in-Skipped
-returns-in-Skipped c = (Skipped, subst (IsPolygonAnswer (plan c.args.drawing.now)) c.in-Skipped.is c.in_ok-area_polygons.ensures, refl)
+returns-in-Skipped c = (
+  Skipped,
+  subst (IsPolygonAnswer (plan c.args.drawing.now)) c.in-Skipped.is
+      c.in_ok-area_polygons.ensures,
+  refl,
+)
 
 pub with_lines-requires : goal.with_lines-requires
 with_lines-requires c =

@@ -14,8 +14,11 @@ abbrev pub invariant-loop-area : goal.invariant-loop-area
 invariant-loop-area l = record {
   can_next : (goal.iterator-loop-area).can_next l.area-iterator;
   is_finite : (goal.iterator-loop-area).is_finite l.area-iterator;
-  same : length (iter_rest (zip_second l.area-iterator)) ≡ length (iter_rest (zip_first l.area-iterator));
+  same : length (iter_rest (zip_second l.area-iterator))
+      ≡ length (iter_rest (zip_first l.area-iterator));
   few : All IsSmallPlan (plans (iter_rest (zip_second l.area-iterator)));
   areas : All IsSkippedOrArea (plans (iter_rest (zip_second l.area-iterator)));
-  goes_on : WrittenOn (layout_view l.layout) (areas_view l.layout.areas.items) (plans l.drawings) (areas_view (iter_rest (zip_first l.area-iterator))) (plans (iter_rest (zip_second l.area-iterator))) (views l.written.items);
+  goes_on : WrittenOn (layout_view l.layout) (areas_view l.layout.areas.items) (plans l.drawings)
+      (areas_view (iter_rest (zip_first l.area-iterator)))
+      (plans (iter_rest (zip_second l.area-iterator))) (views l.written.items);
 }

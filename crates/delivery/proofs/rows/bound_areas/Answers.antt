@@ -13,8 +13,12 @@ use Rattle.delivery.proofs.rows.bound_areas.Goals as goal
 
 pub polygons_if_fine-requires-clause-fine : goal.polygons_if_fine-requires-clause-fine
 polygons_if_fine-requires-clause-fine c = λ f.
-    all_fine c.one_right_ground.ensures.straights (layout_view c.args.layout.now) (areas_view c.args.layout.now.areas.items) (plans c.args.drawings.now) c.args.answers.areas.items (views c.args.answers.certificates.items)
-    c.requires.answered (subst (λ (xs : List AreaAnswer). are_fine xs ≡ true) c.deref.ensures.value f)
+    all_fine c.one_right_ground.ensures.straights (layout_view c.args.layout.now)
+    (areas_view c.args.layout.now.areas.items)
+    (plans c.args.drawings.now) c.args.answers.areas.items
+    (views c.args.answers.certificates.items)
+    c.requires.answered
+    (subst (λ (xs : List AreaAnswer). are_fine xs ≡ true) c.deref.ensures.value f)
 
 pub returns : goal.returns
 returns c rows n told h =
@@ -22,7 +26,11 @@ returns c rows n told h =
     let ps = polygons_in c.in_ok-polygons.polygons.items in
     if_ok _ _ c.areas_outcome.result
     (λ o e.
-    judged_bounded (target_of c.args.target.now) l rows (outcome_of o) c.args.count c.args.surfaces.now (plans c.args.drawings.now) c.args.answers.areas.items (views c.args.answers.certificates.items) ps
+    judged_bounded (target_of c.args.target.now) l rows
+    (outcome_of o) c.args.count c.args.surfaces.now
+    (plans c.args.drawings.now) c.args.answers.areas.items
+    (views c.args.answers.certificates.items) ps
     n told h c.requires.answered c.requires.spelt _ c.requires.filed e
-    (λ f. c.in_ok-polygons.ensures (subst (λ (xs : List AreaAnswer). are_fine xs ≡ true) (sym c.deref.ensures.value) f)))
+    (λ f. c.in_ok-polygons.ensures
+    (subst (λ (xs : List AreaAnswer). are_fine xs ≡ true) (sym c.deref.ensures.value) f)))
     c.areas_outcome.ensures

@@ -23,15 +23,19 @@ pub check_areas-requires-clause-drawn : goal.check_areas-requires-clause-drawn
 check_areas-requires-clause-drawn c =
     let l = layout_view c.args.layout.now in
     let text = c.requires.text.0 in
-    let j = subst (λ (x : Sound). IsSound l text x) c.in-Drawn.is (c.in_ok-count.ensures l text c.requires.text.1) in
-    ap length c.deref-in-Drawn.ensures.value ∙ drawn_count l j.0 c.args.layout.now.areas.items c.in-Drawn.drawings.items j.5
+    let j = subst (λ (x : Sound). IsSound l text x) c.in-Drawn.is
+    (c.in_ok-count.ensures l text c.requires.text.1) in
+    ap length c.deref-in-Drawn.ensures.value
+    ∙ drawn_count l j.0 c.args.layout.now.areas.items c.in-Drawn.drawings.items j.5
 
 pub check_areas-requires-clause-few : goal.check_areas-requires-clause-few
 check_areas-requires-clause-few c =
     let l = layout_view c.args.layout.now in
     let text = c.requires.text.0 in
-    let j = subst (λ (x : Sound). IsSound l text x) c.in-Drawn.is (c.in_ok-count.ensures l text c.requires.text.1) in
-    subst (λ (ds : List Drawing). All IsSmallPlan (plans ds)) (sym c.deref-in-Drawn.ensures.value) (few_curves l j.0 (plans c.in-Drawn.drawings.items) j.3 j.5)
+    let j = subst (λ (x : Sound). IsSound l text x) c.in-Drawn.is
+    (c.in_ok-count.ensures l text c.requires.text.1) in
+    subst (λ (ds : List Drawing). All IsSmallPlan (plans ds)) (sym c.deref-in-Drawn.ensures.value)
+    (few_curves l j.0 (plans c.in-Drawn.drawings.items) j.3 j.5)
 
 pub check_areas-requires-clause-tolerances : goal.check_areas-requires-clause-tolerances
 check_areas-requires-clause-tolerances c =
@@ -46,11 +50,13 @@ check_areas-requires-clause-tolerances c =
 pub returns-in-Drawn : goal.returns-in-Drawn
 returns-in-Drawn c text h =
     let l = layout_view c.args.layout.now in
-    let j = subst (λ (x : Sound). IsSound l text x) c.in-Drawn.is (c.in_ok-count.ensures l text h) in
+    let j = subst (λ (x : Sound). IsSound l text x) c.in-Drawn.is
+    (c.in_ok-count.ensures l text h) in
     if_ok _ _ c.check_areas.result (λ o e. sound (j.0, j.1, j.2, j.3, e))
     (c.check_areas.ensures j.0 j.4
     (subst (AreSurfaceAnswers l j.0 (surfaces l)) (sym c.deref.ensures.value) j.7)
-    (subst (λ (ds : List Drawing). AreDrawings l j.0 (plans ds)) (sym c.deref-in-Drawn.ensures.value) j.5))
+    (subst (λ (ds : List Drawing). AreDrawings l j.0 (plans ds))
+    (sym c.deref-in-Drawn.ensures.value) j.5))
 
 pub returns-in-Ended : goal.returns-in-Ended
 returns-in-Ended c text h =

@@ -9,7 +9,8 @@ use Rattle.delivery.proofs.rows.sound_rows.Goals as goal
 pub returns-in_ok-malformed-in-Malformed : goal.returns-in_ok-malformed-in-Malformed
 returns-in_ok-malformed-in-Malformed c l text h =
     let j = subst (λ (x : Judged). IsJudged l text x) c.in-Malformed.is h in
-    at_fault c.in-Malformed.line (fault_of c.in-Malformed.code) j c.in_ok-malformed-in-Malformed.ensures
+    at_fault c.in-Malformed.line (fault_of c.in-Malformed.code) j
+    c.in_ok-malformed-in-Malformed.ensures
 
 pub returns-in_ok-rejected-in-Faulty : goal.returns-in_ok-rejected-in-Faulty
 returns-in_ok-rejected-in-Faulty c l text h =

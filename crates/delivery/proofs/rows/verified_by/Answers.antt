@@ -21,8 +21,10 @@ pub verify_drawn-requires-clause-drawn : goal.verify_drawn-requires-clause-drawn
 verify_drawn-requires-clause-drawn c =
     let l = layout_view c.args.layout.now in
     let text = c.requires.text.0 in
-    let j = subst (λ (x : Sound). IsSound l text x) c.in-Drawn.is (c.in_ok-count.ensures l text c.requires.text.1) in
-    ap length c.deref.ensures.value ∙ drawn_count l j.0 c.args.layout.now.areas.items c.in-Drawn.drawings.items j.5
+    let j = subst (λ (x : Sound). IsSound l text x) c.in-Drawn.is
+    (c.in_ok-count.ensures l text c.requires.text.1) in
+    ap length c.deref.ensures.value
+    ∙ drawn_count l j.0 c.args.layout.now.areas.items c.in-Drawn.drawings.items j.5
 
 pub verify_drawn-requires-clause-small : goal.verify_drawn-requires-clause-small
 verify_drawn-requires-clause-small c =
@@ -45,14 +47,17 @@ verify_drawn-requires-clause-tolerances c =
     (sym c.deref.ensures.value) j.6
 
 pub returns-in-Drawn : goal.returns-in-Drawn
-returns-in-Drawn c text h =
+returns-in-Drawn c text spelling h r =
     let l = layout_view c.args.layout.now in
-    let j = subst (λ (x : Sound). IsSound l text x) c.in-Drawn.is (c.in_ok-count.ensures l text h) in
+    let j = subst (λ (x : Sound). IsSound l text x) c.in-Drawn.is
+    (c.in_ok-count.ensures l text h) in
     if_ok _ _ c.verify_drawn.result (λ o e. sound (j.0, j.1, j.2, j.3, e))
-    (c.verify_drawn.ensures j.0 j.4 (subst (λ (ds : List Drawing). AreDrawings l j.0 (plans ds)) (sym c.deref.ensures.value) j.5))
+    (c.verify_drawn.ensures spelling j.0 r j.4
+    (subst (λ (ds : List Drawing). AreDrawings l j.0 (plans ds))
+    (sym c.deref.ensures.value) j.5))
 
 pub returns-in-Ended : goal.returns-in-Ended
-returns-in-Ended c text h =
+returns-in-Ended c text spelling h r =
     let l = layout_view c.args.layout.now in
-    ended_for l text (AreVerified l c.args.filed.now) (outcome_of c.in-Ended.outcome)
+    ended_for l text (AreVerified l spelling) (outcome_of c.in-Ended.outcome)
     (subst (λ (x : Sound). IsSound l text x) c.in-Ended.is (c.in_ok-count.ensures l text h))

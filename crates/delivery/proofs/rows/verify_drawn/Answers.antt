@@ -7,7 +7,7 @@ use Rattle.commands.proofs.Results.{if_ok}
 use Rattle.delivery.proofs.rows.verify_drawn.Goals as goal
 
 pub returns : goal.returns
-returns c rows n h =
+returns c text rows r n h =
     let l = layout_view c.args.layout.now in
     let ds = c.args.drawings.now in
     let v = verification_of c.in_ok-verification.verification in
@@ -16,7 +16,7 @@ returns c rows n h =
       drawings = plans ds;
       verification = v;
       drawn = h;
-      judged = c.in_ok-verification.ensures;
+      judged = c.in_ok-verification.ensures text r;
       is = e ∙ ap (λ (k : ℕ). verified l k (plans ds) v) n;
     })
     c.verified.ensures

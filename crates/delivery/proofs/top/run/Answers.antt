@@ -27,8 +27,10 @@ returns g c =
     (outcome_of c.in-Ok.outcome) c.publish.result c.in-Ok.ensures.outcome c.in-Ok.ensures.reads
     (record {
       answered = c.publish.ensures.status;
-      text = λ n. subst (λ (bytes : List ℕ). Adds before bytes after) text (c.publish.ensures.text n);
-      prefix = subst (λ (bytes : List ℕ). AddsPrefix before bytes after) text c.publish.ensures.prefix;
+      text = λ n. subst (λ (bytes : List ℕ). Adds before bytes after) text
+          (c.publish.ensures.text n);
+      prefix = subst (λ (bytes : List ℕ). AddsPrefix before bytes after) text
+          c.publish.ensures.prefix;
       begun = c.publish.ensures.begun;
       filed = c.publish.ensures.filed;
       whole = c.publish.ensures.whole;
@@ -37,5 +39,6 @@ returns g c =
       faults = c.publish.ensures.faults;
       cause = c.publish.ensures.cause;
       stay = λ filing report. c.publish.ensures.stay filing
-          (subst (λ (bytes : List ℕ). HasRoom (length bytes) (g.K.Sink.space out)) (sym text) report);
+          (subst (λ (bytes : List ℕ). HasRoom (length bytes) (g.K.Sink.space out))
+          (sym text) report);
     })

@@ -5,4 +5,5 @@ use Rattle.delivery.specs.Verifying.{IsNamedAt}
 use Rattle.delivery.proofs.verifying.first_misnamed.Given as goal
 
 abbrev pub invariant-loop-number : goal.invariant-loop-number
-invariant-loop-number l = (j : ℕ) → j < l.number → IsNamedAt (layout_view l.layout) (views l.certificates) j
+invariant-loop-number l = (j : ℕ) → j < l.number
+    → IsNamedAt (layout_view l.layout) (views l.certificates) j

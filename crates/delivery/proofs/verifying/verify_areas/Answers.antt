@@ -1,20 +1,25 @@
 use Rattle.std.proofs.Common.{List, refl, sym, subst}
 use Rattle.certificate.specs.Spelling.{views}
 use Rattle.certificate.specs.declared.notes.Certificate.{Certificate}
+use Rattle.delivery.specs.FiledLists.{IsReadOf}
 use Rattle.delivery.specs.Verifying.{AreFiledIn, unspelt}
 use Rattle.commands.proofs.Results.{if_ok}
 use Rattle.delivery.proofs.VerifyingLemmas.{no_list, bad_line_named}
 use Rattle.delivery.proofs.verifying.verify_areas.Goals as goal
 
 pub returns-in-Ok : goal.returns-in-Ok
-returns-in-Ok c =
-    let f = c.in-Ok.ensures.found in
+returns-in-Ok c text r =
+    let read = subst (IsReadOf text) c.in-Ok.is r in
     if_ok _ _ c.verify_list.result
-    (λ v h. h c.args.text.now (subst (λ (cs : List Certificate). AreFiledIn c.args.text.now (views cs)) (sym c.deref.ensures.value) (record { spelt = f.0; spells = f.1 })))
+    (λ v h. h text
+    (subst (λ (cs : List Certificate). AreFiledIn text (views cs))
+    (sym c.deref.ensures.value) read.found))
     c.verify_list.ensures
 
 pub returns-in_ok-line_of-in-Err : goal.returns-in_ok-line_of-in-Err
-returns-in_ok-line_of-in-Err c =
+returns-in_ok-line_of-in-Err c text r =
+    let read = subst (IsReadOf text) c.in-Err.is r in
     let line = c.in_ok-line_of-in-Err.field-0 in
     let q = c.in_ok-line_of-in-Err.ensures in
-    unspelt line (λ cs s. no_list c.in-Err.fault line cs q (c.in-Err.ensures.only cs s.spelt s.spells)) (bad_line_named c.args.text.now c.in-Err.fault line c.in-Err.ensures.first_bad q) refl
+    unspelt line (λ cs s. no_list c.in-Err.fault line cs q (read.only cs s))
+    (bad_line_named text c.in-Err.fault line read.first_bad q) refl

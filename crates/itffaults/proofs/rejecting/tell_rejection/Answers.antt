@@ -7,6 +7,8 @@ pub returns : goal.returns
 returns c ls e =
     let findings = c.args.outcome.now.findings in
     let count : vec_len findings ≡ length findings.items = search rules in
-    all_told c.args.outcome.now ls e c.in_ok-report.report.items c.without_verdict.result.now c.in_ok-text.text c.in_ok-report.ensures
+    all_told c.args.outcome.now ls e c.in_ok-report.report.items c.without_verdict.result.now
+    c.in_ok-text.text c.in_ok-report.ensures
     (λ lines h. c.without_verdict.ensures lines (c.deref.ensures.value ∙ h))
-    (c.in_ok-text.ensures ∙ ap (λ (n : ℕ). rejected_text n c.without_verdict.result.now) (c.len.ensures ∙ count))
+    (c.in_ok-text.ensures
+    ∙ ap (λ (n : ℕ). rejected_text n c.without_verdict.result.now) (c.len.ensures ∙ count))

@@ -8,7 +8,8 @@ use Rattle.delivery.proofs.judging.keeping.count_objects.Goals as goal
 pub loop-number-preserved : goal.loop-number-preserved
 loop-number-preserved g c = record {
   counted = λ rows h.
-      let s = objects_step (transfer_so_far (layout_view c.args.layout.now) rows) c.loop-number.number in
+      let s = objects_step (transfer_so_far (layout_view c.args.layout.now) rows)
+      c.loop-number.number in
       let r = c.row_count.ensures (layout_view c.args.layout.now) rows h in
       let i = c.loop-number.invariant.counted rows h in
       omega (arith, s, r, i);
@@ -17,6 +18,7 @@ loop-number-preserved g c = record {
 
 pub returns : goal.returns
 returns g c rows h =
-    let a = all_counted (layout_view c.args.layout.now) rows c.loop-number.number (tables_few c.args.layout.now.tables.items c.loop-number.number (search rules)) in
+    let a = all_counted (layout_view c.args.layout.now) rows c.loop-number.number
+    (tables_few c.args.layout.now.tables.items c.loop-number.number (search rules)) in
     let i = c.loop-number.invariant.counted rows h in
     omega (arith, a, i)

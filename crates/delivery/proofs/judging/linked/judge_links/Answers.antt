@@ -23,7 +23,8 @@ returns-then-has_any c text k =
     c.in_ok-found.ensures l k.rows (c.in_ok-sorted.ensures l k.rows k.taken.judged.keys)
     ∙ ap (λ (ts : List TableFound). in_order (in_order (all_found (found_in ts))
     ++ in_order (fed_keys l k.rows))) c.deref_mut.ensures.value
-    ∙ all_lines l text c.args.kept.judged (judged_kept l text c.args.kept k) c.fed_transfer.ensures in (
+    ∙ all_lines l text c.args.kept.judged
+    (judged_kept l text c.args.kept k) c.fed_transfer.ensures in (
       t,
       k.has_rows,
       λ e. c.has_any.ensures.some c.if-has_any.true
@@ -39,7 +40,8 @@ returns-then-oversized c text k =
     c.in_ok-found.ensures l k.rows (c.in_ok-sorted.ensures l k.rows k.taken.judged.keys)
     ∙ ap (λ (ts : List TableFound). in_order (in_order (all_found (found_in ts))
     ++ in_order (fed_keys l k.rows))) c.deref_mut.ensures.value
-    ∙ all_lines l text c.args.kept.judged (judged_kept l text c.args.kept k) c.fed_transfer.ensures in
+    ∙ all_lines l text c.args.kept.judged
+    (judged_kept l text c.args.kept k) c.fed_transfer.ensures in
     let clean =
     sym as_found
     ∙ ap findings_of (sym c.deref-2.ensures.value)
@@ -50,7 +52,9 @@ returns-then-oversized c text k =
     ∙ ap (λ (as_ : List CodeArea). has_kept_large places t (areas_view as_))
     c.deref.ensures.value in
     let n = c.strokes_counted.ensures.counted (form_of l) (lines_of l text).lines t k.has_rows.1 in
-    let limits = sym (large_are l text c.args.kept.judged (judged_kept l text c.args.kept k) c.requires.valid clean n) ∙ sym large in
+    let limits = sym
+    (large_are l text c.args.kept.judged
+    (judged_kept l text c.args.kept k) c.requires.valid clean n) ∙ sym large in
     (t, k.has_rows, clean, limits ∙ c.if-oversized.true)
 
 pub judge_clean_links-requires-clause-rows : goal.judge_clean_links-requires-clause-rows
@@ -63,7 +67,8 @@ judge_clean_links-requires-clause-rows c =
     c.in_ok-found.ensures l k.rows (c.in_ok-sorted.ensures l k.rows k.taken.judged.keys)
     ∙ ap (λ (ts : List TableFound). in_order (in_order (all_found (found_in ts))
     ++ in_order (fed_keys l k.rows))) c.deref_mut.ensures.value
-    ∙ all_lines l text c.args.kept.judged (judged_kept l text c.args.kept k) c.fed_transfer.ensures in
+    ∙ all_lines l text c.args.kept.judged
+    (judged_kept l text c.args.kept k) c.fed_transfer.ensures in
     let clean =
     sym as_found
     ∙ ap findings_of (sym c.deref-2.ensures.value)
@@ -74,7 +79,9 @@ judge_clean_links-requires-clause-rows c =
     ∙ ap (λ (as_ : List CodeArea). has_kept_large places t (areas_view as_))
     c.deref.ensures.value in
     let n = c.strokes_counted.ensures.counted (form_of l) (lines_of l text).lines t k.has_rows.1 in
-    let limits = sym (large_are l text c.args.kept.judged (judged_kept l text c.args.kept k) c.requires.valid clean n) ∙ sym large in (
+    let limits = sym
+    (large_are l text c.args.kept.judged
+    (judged_kept l text c.args.kept k) c.requires.valid clean n) ∙ sym large in (
       k.rows,
       record {
         kept = record {
@@ -97,7 +104,8 @@ returns c text k =
     c.in_ok-found.ensures l k.rows (c.in_ok-sorted.ensures l k.rows k.taken.judged.keys)
     ∙ ap (λ (ts : List TableFound). in_order (in_order (all_found (found_in ts))
     ++ in_order (fed_keys l k.rows))) c.deref_mut.ensures.value
-    ∙ all_lines l text c.args.kept.judged (judged_kept l text c.args.kept k) c.fed_transfer.ensures in
+    ∙ all_lines l text c.args.kept.judged
+    (judged_kept l text c.args.kept k) c.fed_transfer.ensures in
     let clean =
     sym as_found
     ∙ ap findings_of (sym c.deref-2.ensures.value)
@@ -108,7 +116,9 @@ returns c text k =
     ∙ ap (λ (as_ : List CodeArea). has_kept_large places t (areas_view as_))
     c.deref.ensures.value in
     let n = c.strokes_counted.ensures.counted (form_of l) (lines_of l text).lines t k.has_rows.1 in
-    let limits = sym (large_are l text c.args.kept.judged (judged_kept l text c.args.kept k) c.requires.valid clean n) ∙ sym large in
+    let limits = sym
+    (large_are l text c.args.kept.judged
+    (judged_kept l text c.args.kept k) c.requires.valid clean n) ∙ sym large in
     c.judge_clean_links.ensures text k.rows k.has_rows
     (record {
       kept = record {

@@ -44,7 +44,8 @@ tested_answer-requires-clause-tolerance c =
     let x = c.index.result.now in
     let d = c.index-drawings-number.result in
     subst (λ (y : CodeArea). HasTolerance l (area_view y) d) (sym c.index.ensures)
-    (subst (HasTolerance l (area_view (get_or c.args.layout.now.areas.items c.loop-number.number x)))
+    (subst (HasTolerance l
+    (area_view (get_or c.args.layout.now.areas.items c.loop-number.number x)))
     (sym c.index-drawings-number.is)
     (zip_there (HasTolerance l) area_view c.args.layout.now.areas.items c.args.drawings.now
     c.loop-number.number x d c.loop-number-test.true c.requires.tolerances))

@@ -7,7 +7,8 @@ use Rattle.delivery.proofs.judging.lines.Judge.take.Given as goal
 abbrev pub invariant-loop-n : goal.invariant-loop-n
 invariant-loop-n g l = record {
   within : l.at ≤ length l.piece;
-  takes : Takes g.K.RowKeeper.has_rows (layout_view l.layout) l.fn.self l.piece l.self (drop l.at l.piece);
+  takes : Takes g.K.RowKeeper.has_rows (layout_view l.layout) l.fn.self l.piece l.self
+      (drop l.at l.piece);
   few : l.self.lines.ended ≤ l.fn.self.lines.ended + l.at;
 }
 
