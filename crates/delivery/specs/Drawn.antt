@@ -45,7 +45,7 @@ IsCleanText l text (Clean c) = IsCleanOf l text c
 IsCleanText l text (Ended o) =
     IsJudgedBy l text (λ rows p. ⊥) (outcome_of o) × IsEarly (outcome_of o)
 
--- the transfer of that name has a text, and this alone has that outcome, without its areas
+-- the text of the transfer has that outcome, in which its areas have no part
 abbrev pub IsOfText : Option Files → Layout → List ℕ → Outcome → Type 0
 IsOfText held l transfer o =
     (text : List ℕ) × IsWhole held transfer 268435456 text × IsJudgedBy l text (λ rows p. ⊥) o
@@ -64,8 +64,8 @@ IsOfFiles held model transfer o =
 abbrev pub checks : List ℕ → Target → Task
 checks transfer target = judges (from_file Transfer transfer) target
 
--- The file of a transfer is clean by that layout, or a check ends before any area is searched, and
--- rejects the transfer by its text alone.
+-- The file of a transfer is clean by that layout, or a check ends before any area is searched. If
+-- it rejects the transfer, it does so by its text alone.
 abbrev pub IsDrawnFile : Option Files → (List ℕ → Type 0) → Layout → List ℕ → Delivered → Type 0
 IsDrawnFile held counted l transfer (Clean c) =
     (text : List ℕ) × IsWhole held transfer 268435456 text × IsCleanOf l text c
@@ -103,7 +103,7 @@ abbrev pub names : List ℕ → List ℕ → List ℕ → FileNames
 names model transfer third = record { model = model; transfer = transfer; third = third }
 
 -- What the files of a model and of a transfer come to: a clean transfer, or the outcome of a check
--- of them, wherever its certificates go, which rejects the transfer by its text alone.
+-- of them, wherever its certificates go. If that rejects the transfer, it is by its text alone.
 abbrev pub IsDelivered : Option Files → (List ℕ → Type 0) → List ℕ → List ℕ → Delivered → Type 0
 IsDelivered held counted model transfer (Clean c) = IsCleanDelivery held model transfer c
 IsDelivered held counted model transfer (Ended o) =
