@@ -6,6 +6,7 @@ pub mod FirstLines
 pub mod ListLaws
 pub mod Local
 pub mod FormLaws
+pub mod LinesOfParts
 pub mod Loop
 pub mod Pairs
 pub mod PartLaws
