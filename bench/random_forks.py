@@ -18,7 +18,7 @@ import tempfile
 
 import random_pairs
 from plain_forks import bent, is_inside
-from random_pairs import HEAD, HalfArc, Straight, cross
+from random_pairs import HEAD, Straight, cross, curves_of
 
 BELOW = ("ports", "plane", "straight_predicates", "arc_predicates", "near_pairs", "forks")
 ROWS = 25
@@ -37,16 +37,6 @@ def tangent(chance, centre, place, far):
     off = chance.choice([0, 0, chance.uniform(-0.07, 0.07), chance.uniform(-0.07, 0.07)])
     angle = math.atan2(y, x) + chance.choice([1, -1]) * math.pi / 2 + off
     return round(place[0] + far * math.cos(angle)), round(place[1] + far * math.sin(angle))
-
-
-def curves_of(lines):
-    curves = []
-    for line in lines:
-        if len(line) == 2:
-            curves.append(Straight(*line))
-        else:
-            curves += [HalfArc(*line), HalfArc(line[1], line[2], line[0])]
-    return curves
 
 
 def lines_of(chance, tolerance):

@@ -114,15 +114,20 @@ def are_bad(one, other):
             or crosses(other, one) or are_one_arc(one, other))
 
 
-def bad_pairs(lines):
-    """The pairs that may be named."""
+def curves_of(lines):
+    """The curves of lines, each of two places, or of three for an arc."""
     curves = []
     for line in lines:
         if len(line) == 2:
             curves.append(Straight(*line))
         else:
-            curves.append(HalfArc(line[0], line[1], line[2]))
-            curves.append(HalfArc(line[1], line[2], line[0]))
+            curves += [HalfArc(*line), HalfArc(line[1], line[2], line[0])]
+    return curves
+
+
+def bad_pairs(lines):
+    """The pairs that may be named."""
+    curves = curves_of(lines)
     straights, arcs = [], []
     for j, other in enumerate(curves):
         for i, one in enumerate(curves[:j]):

@@ -19,7 +19,7 @@ import sys
 
 sys.dont_write_bytecode = True
 from areas import (Fault, Form, Model, Refusal, answers_of, fields_of, findings_of,
-                   logical_lines, physical_lines, scaled)
+                   logical_lines, physical_lines, report_in, scaled)
 from regions import around, curve_at, free_ends_of_fault, owner_of, region_of, region_of_fault
 from rows import Rows, column_of, objects_of
 
@@ -386,11 +386,7 @@ def main(words):
         print(__doc__, file=sys.stderr)
         return 2
     try:
-        if words[2] == "-":
-            report = sys.stdin.read()
-        else:
-            with open(words[2], encoding="latin-1") as file:
-                report = file.read()
+        report = report_in(words[2])
         if not report.strip():
             raise Refusal("the report is empty, as after the statuses 6 and 8")
         for line in Teller(words[0], words[1], report, *words[3:]).told():
