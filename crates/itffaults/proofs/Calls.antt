@@ -8,9 +8,9 @@ use Rattle.area_drawings.proofs.Zips.{drawn_count}
 use Rattle.delivery.specs.Drawn.{IsCleanDelivery, IsEarlyStatus}
 use Rattle.delivery.specs.Effects.{HoldsFront}
 use Rattle.delivery.specs.declared.drawn.CleanDelivery.{CleanDelivery}
-use Rattle.fault_text.specs.Report.{all_verdict}
-use Rattle.fault_text.specs.declared.verdicts.Verdict.{Verdict}
-use Rattle.fault_text.specs.declared.verdicts.Verdict.TheVariants as verdict
+use Rattle.itffaults.specs.FaultText.Report.{all_verdict}
+use Rattle.itffaults.specs.declared.fault_text.verdicts.Verdict.{Verdict}
+use Rattle.itffaults.specs.declared.fault_text.verdicts.Verdict.TheVariants as verdict
 use Rattle.plane.specs.Rule.Plans.{Plan}
 use Rattle.ports.specs.Files.{Files, Puts}
 use Rattle.reports.specs.AreaKinds.{plans}
@@ -19,7 +19,8 @@ use Rattle.reports.specs.declared.status.Status.{Status}
 use Rattle.reports.specs.declared.status.Status.TheVariants as status
 use Rattle.table_layout.specs.Layouts.{Layout}
 use Rattle.table_layout.specs.Values.{areas_view, layout_view}
-use Rattle.itffaults.specs.Faults.{IsTold, Reports, TellsAll, has_surface_fault, names_by, status_of}
+use Rattle.itffaults.specs.Faults.{IsTold, Reports, TellsAll, has_surface_fault, names_by}
+use Rattle.itffaults.specs.Faults.{status_of}
 
 -- ---- the status
 -- what is said of areas is no failed write, and not out of memory

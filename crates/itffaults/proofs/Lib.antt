@@ -1,5 +1,6 @@
 pub mod Calls
 pub mod Ended
+pub mod FaultTextLemmas
 pub mod Rejections
 pub mod Tellings
 pub mod Words

@@ -17,7 +17,7 @@ use Rattle.delivery.specs.Drawn.{names}
 use Rattle.delivery.specs.Effects.{HoldsFront}
 use Rattle.delivery.specs.Ending.{CommandOutcome}
 use Rattle.delivery.specs.Judging.{IsChecked, at_fault, faulty, findings, oversized, sound}
-use Rattle.fault_text.specs.Text.{rejected_text}
+use Rattle.itffaults.specs.FaultText.Text.{rejected_text}
 use Rattle.itf_reader.specs.Findings.{finding_of}
 use Rattle.itf_reader.specs.declared.findings.Finding.{Finding}
 use Rattle.ports.specs.Files.{Files, Puts}

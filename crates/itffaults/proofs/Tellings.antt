@@ -7,8 +7,8 @@ use Rattle.std.proofs.lemmas.List.Elements.{All-head, All-tail}
 use Rattle.area_drawings.specs.AreaLimits.{IsSmallPlan}
 use Rattle.area_drawings.specs.Drawings.{area_tolerance}
 use Rattle.area_drawings.specs.KeptViews.{HasTolerance}
-use Rattle.fault_text.specs.Text.{Telling, telling_of, tellings}
-use Rattle.fault_text.specs.declared.kinds.AreaTelling.{AreaTelling}
+use Rattle.itffaults.specs.FaultText.Text.{Telling, telling_of, tellings}
+use Rattle.itffaults.specs.declared.fault_text.kinds.AreaTelling.{AreaTelling}
 use Rattle.plane.specs.Rule.Plans.{Plan, plan}
 use Rattle.plane.specs.declared.drawing.Drawing.{Drawing}
 use Rattle.reports.specs.AreaKinds.{plans}

@@ -14,10 +14,10 @@ use Rattle.delivery.specs.Drawn.{IsEarly, IsOfFiles}
 use Rattle.delivery.specs.Effects.{HoldsFront}
 use Rattle.delivery.specs.Judging.{IsClean, IsTextOf, objects}
 use Rattle.delivery.specs.Surfaces.{AreSurfaceAnswers}
-use Rattle.fault_text.specs.Report.{all_verdict, fault_report}
-use Rattle.fault_text.specs.Text.{Telling, fault_text, rejected_text}
-use Rattle.fault_text.specs.declared.verdicts.Verdict.{Verdict}
-use Rattle.fault_text.specs.declared.verdicts.Verdict.TheVariants as verdict
+use Rattle.itffaults.specs.FaultText.Report.{all_verdict, fault_report}
+use Rattle.itffaults.specs.FaultText.Text.{Telling, fault_text, rejected_text}
+use Rattle.itffaults.specs.declared.fault_text.verdicts.Verdict.{Verdict}
+use Rattle.itffaults.specs.declared.fault_text.verdicts.Verdict.TheVariants as verdict
 use Rattle.itf_reader.specs.Forms.{Row}
 use Rattle.plane.specs.Rule.Plans.{Plan}
 use Rattle.ports.specs.Files.{Files, Puts}

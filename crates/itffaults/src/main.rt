@@ -15,6 +15,7 @@
 //!   8, as `run` does.
 #![tactic(auto)]
 
+mod fault_text;
 mod naming;
 mod rejecting;
 mod running;

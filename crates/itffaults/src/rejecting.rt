@@ -4,8 +4,8 @@ ghost use Rattle.reports.specs.Lines.{Line};
 ghost use Rattle.reports.specs.OutcomeViews.{outcome_of};
 ghost use Rattle.itffaults.specs.Faults.{IsRejection, rejection};
 
+use super::fault_text::rejected_text;
 use crate::telling::Telling;
-use fault_text::rejected_text;
 use ports::Memory;
 use reports::outcome::Outcome;
 use reports::{Status, report};

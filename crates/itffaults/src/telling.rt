@@ -3,7 +3,7 @@ ghost use Rattle.std.specs.Prelude.{◌≡◌, ◌≤◌, length, IfOk};
 ghost use Rattle.std.specs.List.{All, AllZip};
 ghost use Rattle.area_drawings.specs.AreaLimits.{IsSmallPlan};
 ghost use Rattle.area_drawings.specs.KeptViews.{HasTolerance};
-ghost use Rattle.fault_text.specs.Text.{telling_of, tellings};
+ghost use Rattle.itffaults.specs.FaultText.Text.{telling_of, tellings};
 ghost use Rattle.plane.specs.Rule.Plans.{plan};
 ghost use Rattle.reports.specs.AreaKinds.{plans};
 ghost use Rattle.table_layout.specs.Valid.{IsValid};
@@ -11,9 +11,9 @@ ghost use Rattle.table_layout.specs.Values.{area_view, areas_view, layout_view, 
 ghost use Rattle.itffaults.specs.Faults.{AreTellings, IsTelling, IsTold, area_scale, scale_by};
 ghost use Rattle.itffaults.specs.Faults.{status_of};
 
+use super::fault_text::{AreaTelling, Verdict, all_verdict, fault_report, fault_text};
 use area_faults::all_faults;
 use delivery::CleanDelivery;
-use fault_text::{AreaTelling, Verdict, all_verdict, fault_report, fault_text};
 use file_pages::HeldText;
 use plane::Drawing;
 use ports::Memory;

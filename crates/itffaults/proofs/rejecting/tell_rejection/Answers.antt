@@ -1,5 +1,5 @@
 use Rattle.std.proofs.Common.{◌≡◌, ℕ, ap, ◌∙◌, length, rules, vec_len}
-use Rattle.fault_text.specs.Text.{rejected_text}
+use Rattle.itffaults.specs.FaultText.Text.{rejected_text}
 use Rattle.itffaults.proofs.Rejections.{all_told}
 use Rattle.itffaults.proofs.rejecting.tell_rejection.Goals as goal
 

@@ -2,7 +2,7 @@ use Rattle.std.proofs.Common.{ap, rules}
 use Rattle.std.proofs.lemmas.Slice.Zip.{either_empty_from_Zip, Zip-more}
 use Rattle.std.specs.Iterator.Adapters.{zip_first, zip_second}
 use Rattle.std.specs.Slice.Iter.{iter_rest}
-use Rattle.fault_text.specs.Text.{tellings}
+use Rattle.itffaults.specs.FaultText.Text.{tellings}
 use Rattle.plane.specs.Rule.Plans.{plan}
 use Rattle.reports.specs.AreaKinds.{plans}
 use Rattle.table_layout.specs.Values.{area_view, areas_view, layout_view}

@@ -3,7 +3,7 @@ use Rattle.std.specs.Iterator.Adapters.{zip_first, zip_second}
 use Rattle.std.specs.List.{All}
 use Rattle.std.specs.Slice.Iter.{iter_rest}
 use Rattle.area_drawings.specs.AreaLimits.{IsSmallPlan}
-use Rattle.fault_text.specs.Text.{tellings}
+use Rattle.itffaults.specs.FaultText.Text.{tellings}
 use Rattle.reports.specs.AreaKinds.{plans}
 use Rattle.table_layout.specs.Values.{areas_view, layout_view}
 use Rattle.itffaults.proofs.Tellings.{GoesOn, HaveTolerances}
