@@ -33,3 +33,10 @@ pub mod FacePlaces
 pub mod FaceNumberLists
 pub mod NumberedPlaces
 pub mod NumberedFaces
+pub mod SideHalves
+pub mod SidesRound
+pub mod ArcChains
+pub mod CurveChains
+pub mod TubeHalves
+pub mod SettledSides
+pub mod RoundFaces
