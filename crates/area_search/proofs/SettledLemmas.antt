@@ -33,9 +33,11 @@ pub mod FacePlaces
 pub mod FaceNumberLists
 pub mod NumberedPlaces
 pub mod NumberedFaces
+pub mod ChainLaws
 pub mod SideHalves
 pub mod SidesRound
 pub mod ArcChains
+pub mod CurveEdges
 pub mod CurveChains
 pub mod TubeHalves
 pub mod SettledSides

@@ -1,6 +1,6 @@
 -- The two chains of one half arc's tube: along the chord each goes from the half arc's first end to
 -- its second one, and they share no other corner.
-use Rattle.std.proofs.Common.{◌≡◌, ◌⊎◌, ℕ, zero, suc, ◌+◌, ◌<◌, List, [], ◌∷◌, ◌++◌, length, get_or}
+use Rattle.std.proofs.Common.{◌≡◌, ◌⊎◌, ℕ, suc, ◌+◌, ◌<◌, List, [], ◌∷◌, ◌++◌, length, get_or}
 use Rattle.std.proofs.Common.{ℤ, ◌<ℤ◌, ◌≤ℤ◌, inl, inr, refl, sym, ap, subst, ◌∙◌, arith}
 use Rattle.std.proofs.lemmas.Int.{ints}
 use Rattle.plane.specs.CurveRuns.TubedRuns.{Owned, Part, chain, edges_of, inner, inner_corners}
@@ -13,8 +13,7 @@ use Rattle.plane.specs.Tubes.Bays.{AreBays, Bay, IsSome, IsTube}
 use Rattle.plane.specs.declared.kinds.Curve.{Curve}
 use Rattle.plane.specs.declared.kinds.CurveKind.TheVariants as kind
 use Rattle.plane.specs.declared.kinds.Point.{Point}
-use Rattle.plane.proofs.ListLemmas.ListPairs.{Pairs, pairs_append}
-use Rattle.plane.proofs.ListLemmas.Lists.{each_append}
+use Rattle.area_search.proofs.SettledLemmas.ChainLaws.{Pairs, each_append, pairs_append}
 
 -- the last point of a way
 abbrev pub last_point : Point → List Point → Point
@@ -213,7 +212,8 @@ other_parts x part [] P n f e h = tt
 other_parts x part (o ∷ os) P n f e h =
     ((λ same. absurd (n (same ∙ f o e.0))), other_parts x part os P n f e.1 h)
 
-inner_then_outer : (xs ys : List Owned) (P Q : Owned → Type 0) → ((o : Owned) → P o → o.part ≡ inner)
+inner_then_outer : (xs ys : List Owned) (P Q : Owned → Type 0)
+    → ((o : Owned) → P o → o.part ≡ inner)
     → ((o : Owned) → Q o → o.part ≡ outer) → Each P xs → Each Q ys → (h : HalfArc)
     → Each (λ (x : Owned). Each (Follow h x) ys) xs
 inner_then_outer [] ys P Q f g a b h = tt

@@ -1,6 +1,6 @@
 -- The sides of a settled drawing go round its faces: the half-edge after that of a side is on a
 -- side too, and the face on a side is that of its half-edges.
-use Rattle.std.proofs.Common.{◌≡◌, ◌⊎◌, ℕ, ◌*◌, ◌<◌, Bool, true, false, List, [], inl, inr, length}
+use Rattle.std.proofs.Common.{◌≡◌, ℕ, ◌<◌, Bool, true, false, List, [], inl, inr, length}
 use Rattle.std.proofs.Common.{slice_index, refl, sym, ap, subst, ◌∙◌, arith}
 use Rattle.fault_lists.specs.FaceLists.{IsSide, face_beside}
 use Rattle.fault_lists.specs.Rings.{GoRound}
@@ -25,12 +25,13 @@ use Rattle.area_search.specs.Settled.CaseSides.{AreBeside, beside_at, face_on, f
 use Rattle.area_search.specs.Settled.CaseSides.{is_first_kind}
 use Rattle.area_search.specs.Settled.Cases.{HasRunFaces, IsCase, IsRunMesh}
 use Rattle.area_search.specs.Settled.FaceNumbers.{HaveFaces, curve_faces}
-use Rattle.area_search.specs.Settled.NextSides.{AreNextTo, IsHalfOf, IsOnFirst, way_end, way_start}
-use Rattle.area_search.proofs.PlaneLaws.{below_number, edge_twin, edge_within, number_half, owner_is}
+use Rattle.area_search.specs.Settled.NextSides.{AreNextTo, IsHalfOf, IsOnFirst, way_start}
+use Rattle.area_search.proofs.PlaneLaws.{below_number, edge_within, number_half, owner_is}
 use Rattle.area_search.proofs.SettledLemmas.CaseCurves.{AreFirstOfArc}
 use Rattle.area_search.proofs.SettledLemmas.FacesBeside as beside
 use Rattle.area_search.proofs.SettledLemmas.RunFaces.{face_in}
-use Rattle.area_search.proofs.SettledLemmas.SettledSides.{case_chains, only, side_there, straight_ends}
+use Rattle.area_search.proofs.SettledLemmas.SettledSides.{case_chains, only, side_there}
+use Rattle.area_search.proofs.SettledLemmas.SettledSides.{straight_ends}
 use Rattle.area_search.proofs.SettledLemmas.SidesRound.{go_round}
 use Rattle.area_search.proofs.SettledLemmas.TubeHalves.{half_or_twin, not_within, some_side}
 
@@ -92,7 +93,8 @@ module _ (d : Plan) (level : ℕ) (edges : List Edge) (owners : List Owner) (fac
     x = first_at d level i
 
     ends_apart : (curve d i).from ≡ (curve d i).to → ⊥
-    ends_apart e = beside.two_ends d level edges owners facings vs is mesh n f chains besides are i s e
+    ends_apart e =
+        beside.two_ends d level edges owners facings vs is mesh n f chains besides are i s e
 
     -- by the way of the half-edge along the straight
     abbrev start : Bool → Point
@@ -145,10 +147,12 @@ module _ (d : Plan) (level : ℕ) (edges : List Edge) (owners : List Owner) (fac
     pub straight_face : (b : Bool) (h : ℕ) (a : On (record { curve = i; left = b }) h)
         → face_on (is_first (curve d i) b) (beside_at besides i) ≡ face a.half
     straight_face b h a =
-        let q : edge_of a.half ≡ x = only d level edges owners facings vs is (edge_of a.half) a.there
+        let q : edge_of a.half ≡ x = only d level edges owners facings vs is
+        (edge_of a.half) a.there
         (subst (IsStraight d) (sym a.curve_is) s) ∙ ap (first_at d level) a.curve_is in
         ap (λ (k : CurveKind). face_on (is_first_kind k (curve d i) b) (beside_at besides i)) s.kind
-        ∙ elim (beside.straight_beside d level edges owners facings vs is mesh n f chains besides are
+        ∙ elim (beside.straight_beside d level edges owners facings vs is mesh n f chains besides
+        are
         i s) [
           | inl r ↦ forth_face a.half b r q (starts_at b h a)
           | inr r ↦ back_face a.half b r q (starts_at b h a)
@@ -182,7 +186,8 @@ module _ (d : Plan) (level : ℕ) (edges : List Edge) (owners : List Owner) (fac
       where
         both : (beside_at besides i).first
             ≡ beside.inner_face d level edges owners facings vs is mesh n f chains besides are i
-        both = (beside.arc_faces d level edges owners facings vs is mesh n f chains besides are i r).0
+        both = (beside.arc_faces d level edges owners facings vs is mesh n f chains besides are i
+            r).0
 
         other : (beside_at besides i).second
             ≡ beside.outer_face d level edges owners facings vs is mesh n f chains besides are i
@@ -197,13 +202,15 @@ module _ (d : Plan) (level : ℕ) (edges : List Edge) (owners : List Owner) (fac
         by whole g q t k = absurd t
         by inner true q t k =
             both
-            ∙ sym (beside.inner_same d level edges owners facings vs is mesh n f chains besides are i
+            ∙ sym (beside.inner_same d level edges owners facings vs is mesh n f chains besides are
+            i
             r (edge_of a.half) a.there a.curve_is q) ∙ here
         by inner false q t k = absurd (let c : false ≡ true = k in cc)
         by outer true q t k = absurd (let c : true ≡ false = k in cc)
         by outer false q t k =
             other
-            ∙ sym (beside.outer_same d level edges owners facings vs is mesh n f chains besides are i
+            ∙ sym (beside.outer_same d level edges owners facings vs is mesh n f chains besides are
+            i
             r (edge_of a.half) a.there a.curve_is q) ∙ here
 
   -- ---- all sides

@@ -1,6 +1,6 @@
 -- The half-edges of a settled drawing and the sides on which they are, by its lists of owners and
 -- facings.
-use Rattle.std.proofs.Common.{◌≡◌, ◌⊎◌, ℕ, ◌+◌, ◌*◌, ◌/◌, ◌<◌, Bool, true, false, not, List, inl}
+use Rattle.std.proofs.Common.{◌≡◌, ℕ, ◌+◌, ◌*◌, ◌/◌, ◌<◌, Bool, true, false, not, List, inl}
 use Rattle.std.proofs.Common.{inr, Some}
 use Rattle.std.proofs.Common.{[], length, get_or, refl, sym, ap, subst, ◌∙◌, arith}
 use Rattle.std.specs.Prelude.{if◌then◌else◌, slice_get, slice_set}
@@ -21,23 +21,22 @@ use Rattle.plane.specs.declared.kinds.Curve.{Curve}
 use Rattle.plane.specs.declared.kinds.CurveKind.{CurveKind}
 use Rattle.plane.specs.declared.kinds.CurveKind.TheVariants as kind
 use Rattle.plane.specs.declared.kinds.Edge.{Edge}
-use Rattle.plane.specs.declared.kinds.Point.{Point}
 use Rattle.tubes.specs.Settled.{edge_at, edges_at, facing_of, owned_at}
 use Rattle.tubes.specs.TubedEdges.{drawn_bays, part_of}
 use Rattle.tubes.specs.declared.kinds.Facing.{Facing}
-use Rattle.tubes.specs.declared.kinds.Facing.TheVariants as facing
 use Rattle.tubes.specs.declared.kinds.Owner.{Owner}
 use Rattle.tubes.specs.declared.kinds.Part.TheVariants as part
 use Rattle.area_search.specs.Settled.CaseRoots.{facing_in, no_owner, owner_at}
 use Rattle.area_search.specs.Settled.CaseSides.{first_at, is_first}
 use Rattle.area_search.specs.Settled.Cases.{IsCase, IsRunMesh}
 use Rattle.area_search.specs.Settled.NextSides.{AreNextTo, IsHalfOf, IsPartOf, way_end, way_start}
-use Rattle.area_search.specs.Settled.Sides.{IsOnSide, back, forth, half_over}
-use Rattle.area_search.proofs.PlaneLaws.{before_trans, edge_within, never, owner_is}
+use Rattle.area_search.specs.Settled.Sides.{IsOnSide, back, forth}
+use Rattle.area_search.proofs.PlaneLaws.{edge_within, owner_is}
 use Rattle.area_search.proofs.SettledLemmas.CaseCurves.{straight_only}
 use Rattle.area_search.proofs.SettledLemmas.CaseEdges.{nth_curve_is, nth_owner, owners_size}
 use Rattle.area_search.proofs.SettledLemmas.CaseEdges.{tube_part, whole_part}
-use Rattle.area_search.proofs.SettledLemmas.CurveChains as curves
+use Rattle.area_search.proofs.SettledLemmas.CurveChains.{chains}
+use Rattle.area_search.proofs.SettledLemmas.CurveEdges as curves
 use Rattle.area_search.proofs.SettledLemmas.SideHalves.{AreChains}
 use Rattle.area_search.proofs.SettledLemmas.SidesRound.{none_next, note_more}
 use Rattle.area_search.proofs.SettledLemmas.TubeHalves.{free_on, not_within}
@@ -89,7 +88,7 @@ module _ (d : Plan) (level : ℕ) (edges : List Edge) (owners : List Owner) (fac
   only e l s = straight_only d level edges owners facings vs is e l s
 
   pub case_chains : AreChains d m E o
-  case_chains = curves.chains d bays m E (steps_from [] vs) is.settled.run only
+  case_chains = chains d bays m E (steps_from [] vs) is.settled.run only
 
   -- ---- the lists
   pub edge_there : (h : ℕ) → h < 2 * m → h / 2 < m

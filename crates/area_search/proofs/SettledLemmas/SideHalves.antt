@@ -1,11 +1,12 @@
 -- Half-edges on the sides of curves: which of them begin and end a side, and what follows them.
-use Rattle.std.proofs.Common.{◌≡◌, ◌⊎◌, ℕ, ◌+◌, ◌*◌, ◌<◌, Bool, true, false, inl, inr, length, refl}
+use Rattle.std.proofs.Common.{◌≡◌, ◌⊎◌, ℕ, ◌<◌, Bool, true, false, inl, inr, length, refl}
 use Rattle.std.proofs.Common.{sym, ap, subst, ◌∙◌, arith}
 use Rattle.fault_lists.specs.Rings.{end_of, start_of}
 use Rattle.fault_lists.specs.Sides.{is_first_kind, is_inward}
 use Rattle.fault_lists.specs.declared.kinds.SideAt.{SideAt}
 use Rattle.half_edges.specs.HalfEdges.{twin_of}
-use Rattle.plane.specs.CurveRuns.TubedRuns.{Connects, Owned, Part, inner, outer, third_is_left, whole}
+use Rattle.plane.specs.CurveRuns.TubedRuns.{Connects, Owned, Part, inner, outer, third_is_left}
+use Rattle.plane.specs.CurveRuns.TubedRuns.{whole}
 use Rattle.plane.specs.Faces.Directions.{origin}
 use Rattle.plane.specs.Faces.Halves.{Half, edge_of, number, over, twin, under}
 use Rattle.plane.specs.Forms.Meets.{IsEnd}

@@ -1,6 +1,6 @@
 -- The sides that follow one another go round the faces: along `next` of the mesh from half-edge to
 -- half-edge.
-use Rattle.std.proofs.Common.{◌≡◌, ◌≢◌, ℕ, zero, suc, ◌+◌, ◌*◌, ◌<◌, Option, Some, List, [], ◌∷◌}
+use Rattle.std.proofs.Common.{◌≡◌, ◌≢◌, ℕ, zero, suc, ◌+◌, ◌<◌, Some, List, [], ◌∷◌}
 use Rattle.std.proofs.Common.{length, set, slice_index, refl, sym, ap, subst, ◌∙◌, arith, inl, inr}
 use Rattle.std.proofs.lemmas.Bool.{cases_eq}
 use Rattle.std.specs.Prelude.{slice_get, slice_set}
@@ -9,8 +9,8 @@ use Rattle.fault_lists.specs.FaceLists.{IsSide, side_number}
 use Rattle.fault_lists.specs.Rings.{GoRound, IsSaidNext, end_of, start_of}
 use Rattle.fault_lists.specs.declared.faces.DrawingFaces.{DrawingFaces}
 use Rattle.fault_lists.specs.declared.kinds.SideAt.{SideAt}
-use Rattle.fault_lists.proofs.LeastSides.{one_face_beside, one_side}
-use Rattle.half_edges.specs.HalfEdges.{HalfEdges, face_of, next_of, origin_of, prev_of, size, twin_of}
+use Rattle.half_edges.specs.HalfEdges.{HalfEdges, face_of, next_of, origin_of, prev_of, size}
+use Rattle.half_edges.specs.HalfEdges.{twin_of}
 use Rattle.half_edges.specs.Meshes.{IsMesh}
 use Rattle.plane.specs.CurveRuns.TubedRuns.{Owned}
 use Rattle.plane.specs.Faces.Directions.{origin}
@@ -20,6 +20,7 @@ use Rattle.plane.specs.Runs.Steps.{Step}
 use Rattle.plane.specs.declared.kinds.Edge.{Edge}
 use Rattle.plane.specs.declared.kinds.Point.{Point}
 use Rattle.area_search.specs.Settled.NextSides.{AreNextTo, IsHalfOf}
+use Rattle.area_search.proofs.SettledLemmas.ChainLaws.{one_face_beside, one_side}
 use Rattle.area_search.proofs.SettledLemmas.SideHalves.{AreChains, Begins, Ends, begins_once}
 use Rattle.area_search.proofs.SettledLemmas.SideHalves.{ends_once, goes_on, none_after}
 use Rattle.area_search.proofs.SettledLemmas.SideHalves.{one_side_of, some_end, twin_edge, twin_is}
@@ -90,7 +91,8 @@ module _ (d : Plan) (m : ℕ) (E : ℕ → Edge) (o : ℕ → Owned) (are : AreC
           (subst (λ (i : ℕ). On v (next_of mesh i)) q b) after in
           ap (λ (xs : List ℕ). slice_get xs (side_number u))
           (set_new (λ e. differ (p ∙ one_side s t e ∙ sym r)))
-          ∙ ap (λ (w : SideAt). slice_get (set old (side_number s) (side_number t)) (side_number w)) p
+          ∙ ap (λ (w : SideAt). slice_get (set old (side_number s) (side_number t)) (side_number w))
+          p
           ∙ entry_written old (side_number s) (side_number t) within
           ∙ ap (λ (w : SideAt). Some (side_number w)) (sym r)
 

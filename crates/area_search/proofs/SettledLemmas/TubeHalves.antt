@@ -1,9 +1,11 @@
--- The half-edges of a drawing with tubes: each is on a side of a curve, or faces a tube from within.
+-- The half-edges of a drawing with tubes: each is on a side of a curve, or faces a tube from
+-- within.
 use Rattle.std.proofs.Common.{◌≡◌, ◌⊎◌, ℕ, ◌<◌, Bool, true, false, List, inl, inr, refl, sym, ap}
-use Rattle.std.proofs.Common.{subst, ◌∙◌, arith}
+use Rattle.std.proofs.Common.{subst, ◌∙◌}
 use Rattle.fault_lists.specs.Sides.{is_first_kind, is_inward}
 use Rattle.fault_lists.specs.declared.kinds.SideAt.{SideAt}
-use Rattle.plane.specs.CurveRuns.TubedRuns.{Connects, IsOfTube, IsTubedRun, Owned, Part, half_within}
+use Rattle.plane.specs.CurveRuns.TubedRuns.{Connects, IsOfTube, IsTubedRun, Owned, Part}
+use Rattle.plane.specs.CurveRuns.TubedRuns.{half_within}
 use Rattle.plane.specs.CurveRuns.TubedRuns.{inner, inward, outer, owned, third_is_left, whole}
 use Rattle.plane.specs.Faces.Directions.{origin}
 use Rattle.plane.specs.Faces.Halves.{Half, edge_of, number, over, twin, under}
@@ -13,16 +15,13 @@ use Rattle.plane.specs.Runs.Steps.{Step}
 use Rattle.plane.specs.Tubes.Bays.{Bay}
 use Rattle.plane.specs.Tubes.Facing.{way}
 use Rattle.plane.specs.Tubes.Windings.{arrow}
-use Rattle.plane.specs.declared.kinds.Curve.{Curve}
 use Rattle.plane.specs.declared.kinds.CurveKind.{CurveKind}
 use Rattle.plane.specs.declared.kinds.CurveKind.TheVariants as kind
 use Rattle.plane.specs.declared.kinds.Edge.{Edge}
 use Rattle.plane.specs.declared.kinds.Point.{Point}
-use Rattle.plane.proofs.TubedRuns.FacedTubes.{edge_twin, edge_within}
-use Rattle.plane.proofs.TubedRuns.FacingHalves.{faces}
-use Rattle.plane.proofs.TubedRuns.OwnedEdges.{owner_is}
 use Rattle.area_search.specs.Settled.NextSides.{IsHalfOf, IsOnFirst, IsPartOf, way_end, way_start}
 use Rattle.area_search.proofs.PlaneLaws.{never}
+use Rattle.area_search.proofs.SettledLemmas.ChainLaws.{edge_twin, edge_within, faces, owner_is}
 use Rattle.area_search.proofs.SettledLemmas.SideHalves.{number_apart}
 
 twice : (x : Half) → twin (twin x) ≡ x

@@ -50,7 +50,8 @@ pub record IsHalfOf (d : Plan) (m : ℕ) (E : ℕ → Edge) (o : ℕ → Owned) 
   pub starts : origin E half ≡ way_start s.left (o (edge_of half))
   pub ends : origin E (twin half) ≡ way_end s.left (o (edge_of half))
 
--- Of each of the first k half-edges that is on a side, while the next half-edge round the face is on
+-- Of each of the first k half-edges that is on a side, while the next half-edge round the face is
+-- on
 -- another one, the entry of the first side is the number of the second.
 abbrev pub AreNextTo : (d : Plan) (m : ℕ) (E : ℕ → Edge) (o : ℕ → Owned) → HalfEdges → ℕ → List ℕ
     → Type 0

@@ -27,8 +27,8 @@ pub enum SettledFaces {
 
 /// The faces of a drawing of at most 16,000,000 curves, where some level settles it, and the sides
 /// that follow one another round them. No curve is left out, so no face is open. The only error is
-/// out of memory. It takes what the levels take, as for `find_area`, then a replay and the search of
-/// the faces; 8 bytes a point, 20 a curve and 1 a face stay.
+/// out of memory. It takes what the levels take, as for `find_area`, then a replay and the search
+/// of the faces; 8 bytes a point, 20 a curve and 1 a face stay.
 pub fn settled_faces(alloc: Global, drawing: &Drawing) -> Result<SettledFaces, Memory>
     requires { length (plan drawing.now).curves ≤ 16000000 }
     ensures { IfOk result (AreSettledFaces (plan drawing.now)) }

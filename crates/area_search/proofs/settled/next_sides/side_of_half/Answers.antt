@@ -1,4 +1,4 @@
-use Rattle.std.proofs.Common.{rules, refl, sym, ap, subst, ◌∙◌, ◌<◌, ◌≡◌, ◌*◌, ◌/◌, ℕ, length, get_or}
+use Rattle.std.proofs.Common.{refl, sym, subst, ◌<◌, ◌≡◌, ◌/◌, ℕ, length, get_or}
 use Rattle.plane.specs.Rule.Plans.{plan}
 use Rattle.plane.specs.CurveRuns.TubedRuns.{IsOfTube, Part, half_within}
 use Rattle.tubes.specs.Settled.{edge_at, facing_of, owned_at}
@@ -10,7 +10,8 @@ use Rattle.area_search.specs.Settled.Cases.{edges_of}
 use Rattle.area_search.specs.Settled.NextSides.{IsHalfOf, IsPartOf}
 use Rattle.area_search.proofs.SettledLemmas.CaseEdges.{curves_turn, nth_curve_is}
 use Rattle.area_search.proofs.SettledLemmas.SettledSides.{curve_there, edge_there, facing_is}
-use Rattle.area_search.proofs.SettledLemmas.SettledSides.{is_tube, straight_on, tube_on, within_edge}
+use Rattle.area_search.proofs.SettledLemmas.SettledSides.{is_tube, straight_on, tube_on}
+use Rattle.area_search.proofs.SettledLemmas.SettledSides.{within_edge}
 use Rattle.area_search.proofs.settled.next_sides.side_of_half.Goals as goal
 
 pub index-curve-requires : goal.index-curve-requires
