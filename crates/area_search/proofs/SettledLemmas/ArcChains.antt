@@ -1,6 +1,6 @@
 -- The two chains of one half arc's tube: along the chord each goes from the half arc's first end to
 -- its second one, and they share no other corner.
-use Rattle.std.proofs.Common.{◌≡◌, ◌⊎◌, ℕ, suc, ◌+◌, ◌<◌, List, [], ◌∷◌, ◌++◌, length, get_or}
+use Rattle.std.proofs.Common.{◌≡◌, ◌⊎◌, ℕ, suc, ◌<◌, List, [], ◌∷◌, ◌++◌, length, get_or}
 use Rattle.std.proofs.Common.{ℤ, ◌<ℤ◌, ◌≤ℤ◌, inl, inr, refl, sym, ap, subst, ◌∙◌, arith}
 use Rattle.std.proofs.lemmas.Int.{ints}
 use Rattle.plane.specs.CurveRuns.TubedRuns.{Owned, Part, chain, edges_of, inner, inner_corners}

@@ -1,4 +1,4 @@
-use Rattle.std.proofs.Common.{◌≡◌, ℕ, ◌<◌, ◌∙◌, Bool, false, List, length, map, replicate, rules}
+use Rattle.std.proofs.Common.{◌≡◌, ℕ, ◌<◌, ◌∙◌, false, List, length, map, replicate, rules}
 use Rattle.std.proofs.Common.{arith}
 use Rattle.std.proofs.Common.{refl, sym, ap, subst}
 use Rattle.plane.specs.Rule.Plans.{object, plan}

@@ -1,4 +1,4 @@
-use Rattle.std.proofs.Common.{sym, ap, subst, ◌∙◌, ◌+◌, ◌<◌, ℕ, List, length, arith}
+use Rattle.std.proofs.Common.{sym, ap, subst, ◌∙◌, ◌+◌, ℕ, List, length, arith}
 use Rattle.std.proofs.lemmas.List.{with_items_is}
 use Rattle.area_search.specs.Settled.NextSides.{AreNextSides}
 use Rattle.area_search.proofs.settled.next_sides.next_sides.Goals as goal

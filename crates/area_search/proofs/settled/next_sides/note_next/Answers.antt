@@ -1,7 +1,6 @@
-use Rattle.std.proofs.Common.{refl, sym, ap, subst, ◌∙◌, ◌<◌, ◌≡◌, ◌*◌, ℕ, length, arith, slice_set}
+use Rattle.std.proofs.Common.{subst, ◌≡◌, ℕ, arith, slice_set}
 use Rattle.plane.specs.Rule.Plans.{plan}
 use Rattle.fault_lists.specs.FaceLists.{side_number}
-use Rattle.half_edges.specs.HalfEdges.{next_of}
 use Rattle.area_search.specs.Settled.Cases.{edges_of}
 use Rattle.area_search.specs.Settled.NextSides.{IsHalfOfSide, IsHalfWithin}
 use Rattle.area_search.proofs.SettledLemmas.SettledSides.{both_noted, first_faces, next_faces}
