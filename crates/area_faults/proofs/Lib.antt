@@ -30,3 +30,4 @@ pub mod WholeRest
 pub mod Firsts
 pub mod FirstFaults
 pub mod NoFaults
+pub mod ToldRings

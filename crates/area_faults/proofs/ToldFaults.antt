@@ -8,13 +8,13 @@ use Rattle.plane.specs.Rule.Plans.{Plan}
 use Rattle.near_pairs.specs.Boxes.{mark_of}
 use Rattle.tubes.specs.DrawnEdges.{AreStraights}
 use Rattle.tubes.specs.Settled.{IsSettledAt}
-use Rattle.area_search.specs.Answers.{HasNoBadPair, IsSettled}
+use Rattle.area_search.specs.Answers.{HasNoBadPair, IsSettled, IsUnsettled}
 use Rattle.area_search.specs.Unsettled.MarkedPoints.{ArePairsOn}
 use Rattle.fault_lists.specs.FaultLists.{AreMeetings}
 use Rattle.fault_lists.specs.declared.kinds.Faults.{Faults}
 use Rattle.fault_lists.specs.declared.kinds.MeetingAt.{MeetingAt}
 use Rattle.fault_lists.specs.declared.kinds.OnAt.{OnAt}
-use Rattle.area_faults.specs.Answers.{AreAllFaults, AreBelow, AreLeftOut, IsToldWith}
+use Rattle.area_faults.specs.Answers.{AreAllFaults, AreBelow, AreLeftOut, HaveRings, IsToldWith}
 use Rattle.area_faults.specs.Meetings.{AreSomeMeetings}
 use Rattle.area_faults.specs.PointLists.{ArePairsFor, HasPointBelow}
 
@@ -135,8 +135,19 @@ no_meetings d ms e clear = subst (AreMeetings d) (sym e) (record {
     none m (k, h, q) = omega (arith, h)
 
 pub all_faults : (d : Plan) (f : Faults) → IsToldWith d false f
-    → (f.meetings.items ≡ [] → IsSettled d) → AreAllFaults d f
-all_faults d f h s = record { told = h.told; least = h.least; kept = h.out; settled = s }
+    → (f.meetings.items ≡ [] → IsSettled d) → (f.meetings.items ≡ [] → HaveRings f.empty.items)
+    → AreAllFaults d f
+all_faults d f h s r = record {
+  told = h.told;
+  least = h.least;
+  kept = h.out;
+  settled = s;
+  rings = r;
+}
+
+-- no level settles a drawing that is not settled
+pub never_both : {P : Type 0} (d : Plan) → IsUnsettled d → IsSettled d → P
+never_both d u (level, l) = absurd (u level l.low l.settled)
 
 abbrev StraightsAreSettled : Type 0
 StraightsAreSettled =

@@ -1,6 +1,7 @@
 -- What is told of a drawing.
 use Rattle.std.specs.Prelude.{◌≡◌, ◌↔◌, ◌⊎◌, ℕ, ◌<◌, ◌≤◌, ℤ, Bool, List, [], false, true}
 use Rattle.std.specs.List.{Contains}
+use Rattle.plane.specs.Lists.{Has}
 use Rattle.plane.specs.Rule.LeftOut.{IsRestOf}
 use Rattle.plane.specs.Rule.Places.{Place, Vector}
 use Rattle.plane.specs.Rule.Plans.{Plan}
@@ -12,6 +13,7 @@ use Rattle.area_search.specs.Grounds.{IsAnswerBy}
 use Rattle.area_search.specs.declared.kinds.AreaAnswer.{AreaAnswer}
 use Rattle.fault_lists.specs.declared.kinds.Faults.{Faults}
 use Rattle.fault_lists.specs.declared.kinds.MeetingAt.{MeetingAt}
+use Rattle.fault_lists.specs.declared.kinds.Region.{Region}
 use Rattle.fault_lists.specs.declared.kinds.SideAt.{SideAt}
 use Rattle.fault_lists.specs.FaceLists.{side_number}
 use Rattle.fault_lists.specs.FaultLists.{AreFaults, IsBeside, IsMet}
@@ -38,13 +40,18 @@ pub record IsToldWith (d : Plan) (all_out : Bool) (f : Faults) : Type 0 where
   pub least : AreLeastSides d told.r told.out told.rest f.faces.empty.items
   pub out : f.all_out ≡ all_out
 
+-- Each of these faces is told with its rings.
+abbrev pub HaveRings : List Region → Type 0
+HaveRings regions = (x : Region) → Has x regions → x.rings.items ≡ [] → ⊥
+
 -- All faults, where curves are left out that meet badly, and no others; where none do, some level
--- settles the drawing.
+-- settles the drawing, and each face without a point is told with its rings.
 pub record AreAllFaults (d : Plan) (f : Faults) : Type 0 where
   pub told : AreFaults d f
   pub least : AreLeastSides d told.r told.out told.rest f.faces.empty.items
   pub kept : f.all_out ≡ false
   pub settled : f.meetings.items ≡ [] → IsSettled d
+  pub rings : f.meetings.items ≡ [] → HaveRings f.empty.items
 
 -- Pairs that meet badly and points on curves, with all curves left out; where no two curves meet
 -- badly no level settles the drawing. And the answer of the search.

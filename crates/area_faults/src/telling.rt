@@ -8,7 +8,8 @@ ghost use Rattle.area_search.specs.Answers.{IsUnsettled};
 ghost use Rattle.area_search.specs.Level.LevelAnswers.{AreFacesOf};
 ghost use Rattle.fault_lists.specs.DrawingFaces.{HasFaces, IsNumbered};
 ghost use Rattle.fault_lists.specs.FaultLists.{AreMeetings};
-ghost use Rattle.area_faults.specs.Answers.{AreLeftOut, IsToldOf, IsToldWith};
+ghost use Rattle.fault_lists.specs.Rings.{GoRound};
+ghost use Rattle.area_faults.specs.Answers.{AreLeftOut, HaveRings, IsToldOf, IsToldWith};
 ghost use Rattle.area_faults.specs.PointLists.{ArePairsFor, HasPointBelow};
 
 use crate::kinds::AreaFaults;
@@ -28,8 +29,9 @@ use std::alloc::Global;
 // The most pairs of a point and a curve that is left out.
 const MOST: usize = 4_000_000;
 
-/// All faults of a drawing of at most 16,000,000 curves. The only error is out of memory. For the
-/// costs see the head of the crate.
+/// All faults of a drawing of at most 16,000,000 curves. Where no two of them meet badly, each face
+/// without a point is told with its rings. The only error is out of memory. For the costs see the
+/// head of the crate.
 pub fn all_faults(alloc: Global, drawing: &Drawing) -> Result<AreaFaults, Memory>
     requires curves { length (plan drawing.now).curves ≤ 16000000 }
     ensures { IfOk result (IsToldOf drawing.now.tolerance (plan drawing.now)) }
@@ -79,6 +81,7 @@ fn faults_of_unsettled(
 }
 
 // The faults of a drawing without some curves, by the faces of the others and the points on those.
+// Where sides go round the faces, those without a point are told with their rings.
 fn told(
     alloc: Global,
     drawing: &Drawing,
@@ -97,6 +100,8 @@ fn told(
         → AreLeftOut (length (plan drawing.now).curves) meetings.items all_out out
         → HasFaces (plan drawing.now) out faces.now → ArePairsFor (plan drawing.now) out pairs.now
         → IfOk result (IsToldWith (plan drawing.now) all_out) }
+    ensures rings { IfOk result (λ f. GoRound (plan drawing.now) faces.now
+        → HaveRings f.empty.items) }
 {
     numbers_tell_faults();
     numbers_tell_rings();

@@ -33,3 +33,12 @@ pub mod FacePlaces
 pub mod FaceNumberLists
 pub mod NumberedPlaces
 pub mod NumberedFaces
+pub mod ChainLaws
+pub mod SideHalves
+pub mod SidesRound
+pub mod ArcChains
+pub mod CurveEdges
+pub mod CurveChains
+pub mod TubeHalves
+pub mod SettledSides
+pub mod RoundFaces

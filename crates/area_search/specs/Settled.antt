@@ -11,5 +11,6 @@ pub mod Meshing
 pub mod Spots
 pub mod Owners
 pub mod Sides
+pub mod NextSides
 pub mod PointFaces
 pub mod SpotRegions

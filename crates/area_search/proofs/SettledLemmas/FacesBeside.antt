@@ -77,7 +77,7 @@ module _ (d : Plan) (level : ℕ) (edges : List Edge) (owners : List Owner) (fac
     rises : Before (E x).low (E x).high
     rises = is.settled.run.run.edges x there
 
-    two_ends : (curve d i).from ≡ (curve d i).to → ⊥
+    pub two_ends : (curve d i).from ≡ (curve d i).to → ⊥
     two_ends e = elim ends [
       | inl p ↦ never (E x).low
           (subst (λ (v : Point). Before (E x).low v) (p.1 ∙ sym e ∙ sym p.0) rises)
@@ -152,7 +152,7 @@ module _ (d : Plan) (level : ℕ) (edges : List Edge) (owners : List Owner) (fac
       subst (λ (t : CurveKind). IsBesideKind t d level mesh.face i (beside i)) h.kind
       (are.each i h.there)
 
-  tube_faces : AreFacesOfTubes d (drawn_bays d level) m E face
+  pub tube_faces : AreFacesOfTubes d (drawn_bays d level) m E face
   tube_faces =
       let u = run_weight m E (steps_from [] vs) [] is.settled.run.run in
       run_faces d (drawn_bays d level) m E (steps_from [] vs) is.settled.run is.settled.wide
@@ -177,14 +177,14 @@ module _ (d : Plan) (level : ℕ) (edges : List Edge) (owners : List Owner) (fac
       let e = first_at d level i + length (drawn_bays d level i) in
       face_known (twin (within e)) (twin_there e (chains i h).outer_there)
 
-  inner_same : (i : ℕ) → IsHalfArc d i → (e : ℕ) → e < m → (owned_at d level e).curve ≡ i
+  pub inner_same : (i : ℕ) → IsHalfArc d i → (e : ℕ) → e < m → (owned_at d level e).curve ≡ i
       → (owned_at d level e).part ≡ inner → face (twin (within e)) ≡ inner_face i
   inner_same i h e l o p =
       let a = chains i h in
       tube_faces.inner_chain e (first_at d level i) l a.inner_there p a.inner_part
       (o ∙ sym a.inner_curve)
 
-  outer_same : (i : ℕ) → IsHalfArc d i → (e : ℕ) → e < m → (owned_at d level e).curve ≡ i
+  pub outer_same : (i : ℕ) → IsHalfArc d i → (e : ℕ) → e < m → (owned_at d level e).curve ≡ i
       → (owned_at d level e).part ≡ outer → face (twin (within e)) ≡ outer_face i
   outer_same i h e l o p =
       let a = chains i h in

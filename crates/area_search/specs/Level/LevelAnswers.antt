@@ -1,6 +1,7 @@
 -- What is shown of one level.
 use Rattle.std.specs.Prelude.{◌≡◌, ℕ, ◌^◌, ◌<◌, Option, Some, None, List, false, length, ⊤}
 use Rattle.fault_lists.specs.DrawingFaces.{HasFaces, IsNumbered}
+use Rattle.fault_lists.specs.Rings.{GoRound}
 use Rattle.fault_lists.specs.declared.faces.DrawingFaces.{DrawingFaces}
 use Rattle.line_sweep.specs.Kinds.{gaps_of}
 use Rattle.line_sweep.specs.Sweeping.{HasTimetable}
@@ -62,12 +63,13 @@ AreShown d (levels.Settled found) = IsSettlingLevel d found
 AreShown d (levels.Unsettled bad) = IsUnsettled d × IsBadIfAny d bad
 
 -- The faces of a drawing that some level settles, so that no two of its curves meet badly, by
--- numbers; no curve is left out.
+-- numbers, with the sides that follow one another round them; no curve is left out.
 pub record AreFacesOf (d : Plan) (f : DrawingFaces) : Type 0 where
   pub settled : IsSettled d
   pub clear : HasNoBadPair d
   pub faces : HasFaces d (λ i. false) f
   pub numbered : IsNumbered f
+  pub rings : GoRound d f
 
 -- The same two curves, or none.
 abbrev pub pair_if_any : Option CurvePair → Option BadPair

@@ -1,6 +1,7 @@
 // The faces of a settled drawing by numbers: of its points, and beside its curves.
 ghost use Rattle.std.specs.Prelude.{◌≡◌, ℕ, ◌*◌, ◌^◌, ◌<◌, Some, false, IfOk, length, map};
 ghost use Rattle.fault_lists.specs.DrawingFaces.{HasFaces, IsNumbered};
+ghost use Rattle.fault_lists.specs.Rings.{GoRound};
 ghost use Rattle.half_edges.specs.HalfEdges.{size};
 ghost use Rattle.line_sweep.specs.Kinds.{gaps_of};
 ghost use Rattle.plane.specs.Rule.Plans.{plan};
@@ -24,9 +25,9 @@ use plane::{Curve, Edge};
 use ports::Memory;
 use std::alloc::Global;
 
-/// The faces of a drawing by a complete run of its edges at a level that settles it. The edges are
-/// freed when the points are placed, and the events and the cells when the mesh is made. The only
-/// error is out of memory.
+/// The faces of a drawing by a complete run of its edges at a level that settles it, and the sides
+/// that follow one another round them. The edges are freed when the points are placed, and the
+/// events and the cells when the mesh is made. The only error is out of memory.
 pub(crate) fn faces_of_drawing(
     alloc: Global,
     settled: &SettledDrawing,
@@ -39,6 +40,7 @@ pub(crate) fn faces_of_drawing(
     requires cells { gaps_of swept.cells.items ≡ closed_gaps swept.events }
     ensures faces { IfOk result (HasFaces (plan settled.now.drawing.now) (λ i. false)) }
     ensures numbered { IfOk result IsNumbered }
+    ensures rings { IfOk result (GoRound (plan settled.now.drawing.now)) }
 {
     tubes::laws::chains_have_edges();
     let spots = object_spots(alloc, settled, edges, &swept)?;
@@ -49,7 +51,7 @@ pub(crate) fn faces_of_drawing(
     let points = places_of(alloc, settled, mesh, &besides, &numbers.of_face, &spots)?;
     let curves = faces_of(alloc, &settled.drawing.curves, &besides, &numbers.of_face)?;
     let open = vec![in alloc; false; numbers.count as usize]?;
-    let next = next_sides(alloc, settled, &settled.drawing.curves, mesh)?;
+    let next = next_sides(alloc, settled, mesh)?;
     Ok(DrawingFaces {
         open,
         points,

@@ -1,7 +1,15 @@
 use Rattle.std.proofs.Common.{refl, rules}
 use Rattle.plane.specs.Rule.Plans.{plan}
+use Rattle.fault_lists.specs.FaceLists.{IsEmptyFace}
 use Rattle.area_faults.proofs.LeastTold.{least_sides}
+use Rattle.area_faults.proofs.ToldRings.{have_rings}
 use Rattle.area_faults.proofs.telling.told.Goals as goal
+
+pub returns-clause-rings : goal.returns-clause-rings
+returns-clause-rings c = λ go.
+    have_rings (plan c.args.drawing.now) c.args.faces.now (IsEmptyFace c.args.faces.now)
+    c.in_ok-found.found.empty.items c.in_ok-found.ensures.empty c.in_ok-empty.empty.items
+    (search rules) go
 
 pub returns-clause-faults : goal.returns-clause-faults
 returns-clause-faults c = λ out left faces pairs. record {

@@ -26,6 +26,7 @@ returns-in_ok-faces-in-Settled c =
           s.swept.events h.case;
       faces = c.in_ok-faces-in-Settled.ensures.faces;
       numbered = c.in_ok-faces-in-Settled.ensures.numbered;
+      rings = c.in_ok-faces-in-Settled.ensures.rings;
     }
 
 pub returns-in-Unsettled : goal.returns-in-Unsettled

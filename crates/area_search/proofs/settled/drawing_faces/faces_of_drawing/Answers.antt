@@ -1,4 +1,4 @@
-use Rattle.std.proofs.Common.{◌≡◌, ℕ, ◌<◌, ◌∙◌, Bool, false, List, length, map, replicate, rules}
+use Rattle.std.proofs.Common.{◌≡◌, ℕ, ◌<◌, ◌∙◌, false, List, length, map, replicate, rules}
 use Rattle.std.proofs.Common.{arith}
 use Rattle.std.proofs.Common.{refl, sym, ap, subst}
 use Rattle.plane.specs.Rule.Plans.{object, plan}
@@ -14,6 +14,7 @@ use Rattle.area_search.proofs.SettledLemmas.CaseSpots.{spot_has}
 use Rattle.area_search.proofs.SettledLemmas.FacesBeside.{besides_known, spot_known}
 use Rattle.area_search.proofs.SettledLemmas.NumberedFaces.{drawing_faces, faces_numbered, none_open}
 use Rattle.area_search.proofs.SettledLemmas.NumberedFaces.{replicate_length}
+use Rattle.area_search.proofs.SettledLemmas.RoundFaces.{faces_round}
 use Rattle.area_search.proofs.settled.drawing_faces.faces_of_drawing.Goals as goal
 
 pub faces_beside-requires-clause-settled : goal.faces_beside-requires-clause-settled
@@ -125,8 +126,32 @@ faces_of-requires-clause-close c =
 
 pub next_sides-requires : goal.next_sides-requires
 next_sides-requires c =
-    let w = c.args.settled.now.drawing.now in
-    curves_turn (plan w) w.window refl w.curves_drawn c.deref-8.result.now c.deref-8.ensures.value
+    (c.args.swept.events, c.requires.settled, c.in_ok-labelled.ensures.outline)
+
+pub returns-clause-rings : goal.returns-clause-rings
+returns-clause-rings c =
+    let s = c.args.settled.now in
+    let d = plan s.drawing.now in
+    let mesh = c.in_ok-labelled.labelled.mesh in
+    let count = c.in_ok-labelled.labelled.count in
+    let faces = c.in_ok-labelled.ensures.faces_are in
+    let besides = c.in_ok-besides.besides.items in
+    let beside = c.in_ok-besides.ensures in
+    let names = c.in_ok-numbers.numbers.of_face.items in
+    faces_round d s.level (edges_of s) s.owners.now s.facings.now c.args.swept.events
+    c.requires.settled mesh count faces
+    (λ i h. arc_first d s.level i
+    (c.chains_have_edges.ensures.inner d s.level i c.requires.settled.tubes h)
+    (c.chains_have_edges.ensures.outer d s.level i h))
+    besides beside c.in_ok-labelled.ensures.outline names _
+    (subst (λ (cs : List Curve). HaveFaces cs besides names (length cs) c.in_ok-curves.curves.items)
+    c.deref-5.ensures.value
+    (subst (λ (bs : List Beside). HaveFaces c.deref-5.result.now bs names
+    (length c.deref-5.result.now) c.in_ok-curves.curves.items) c.deref-6.ensures.value
+    (subst (λ (ns : List ℕ). HaveFaces c.deref-5.result.now c.deref-6.result.now ns
+    (length c.deref-5.result.now) c.in_ok-curves.curves.items) c.deref-7.ensures.value
+    c.in_ok-curves.ensures)))
+    c.in_ok-next.ensures
 
 pub returns-clause-faces : goal.returns-clause-faces
 returns-clause-faces c =
