@@ -34,7 +34,7 @@
 //! - **Faces.** `faces_of_straights` gives the mesh of a drawing of straights that is a partition,
 //!   with its faces and the face of each object's point, for whoever asks what bounds a region.
 //!   `settled_faces` gives the faces of any drawing that a level settles by numbers, of its points
-//!   and beside its curves, whatever is at fault in them.
+//!   and beside its curves, and the sides that follow one another round them, whatever is at fault.
 //! - **For `area_faults`:** `points_on_marked`, `numbers_with` and `mesh_of_run`.
 //! - **Degenerate cases.** No line, no point, several rings, holes, lines that end inside a region,
 //!   rings that touch in a vertex, equal points and points at vertices are all taken.
