@@ -27,7 +27,7 @@ pub struct DrawingFaces {
     /// Of each curve the faces on its sides; None where it is left out.
     pub curves: Vec<Option<CurveFaces>>,
     /// Of each side of a curve, by its number, the number of the side that is said to follow it
-    /// on the way round its face. Nothing is known of it: `regions` tests what it takes from it,
-    /// and gives rings where these sides go round the faces.
+    /// on the way round its face. This type does not ask that it does: `regions` tests what it
+    /// takes from it, and gives rings where these sides go round the faces.
     pub next: Vec<u32>,
 }

@@ -2,7 +2,8 @@
 //
 // - **The text.** `fault_text` has one area after another: its names, a line for each fault, and
 //   eight counts. Curves and objects are named by their lines of the transfer, and places have the
-//   decimals of the model. `specs/Text` spells each line; docs/faults.md says what they mean.
+//   decimals of the model. `specs/FaultText/Text` spells each line; docs/faults.md says what they
+//   mean.
 // - **A transfer that is rejected** before its areas are drawn has a text too: `rejected_text` has
 //   the lines of the report on it, which come as a text, and before them how many findings it has.
 // - **The report.** `fault_report` has a line for each area: its names, the eight counts, and a
