@@ -4,7 +4,6 @@ use Rattle.std.proofs.Common.{◌≡◌, ◌⊎◌, Bool, true, false, ℕ, zero
 use Rattle.std.proofs.Common.{Some, List, [], length, map, take, slice_index, slice_index_or, pos}
 use Rattle.std.proofs.Common.{arith, refl, inl, inr, sym, ◌∙◌, subst, ap, All}
 use Rattle.std.proofs.lemmas.Bool.{cases_lt}
-use Rattle.std.proofs.lemmas.Int.{ints}
 use Rattle.std.proofs.lemmas.List.{get_or-map, get_or-take, length-map, length-take-le}
 use Rattle.area_search.specs.Settled.Cases.{face_over}
 use Rattle.area_search.proofs.SettledLemmas.TurnedCrossings.{crosses_forth, crosses_turned}
@@ -65,7 +64,7 @@ use Rattle.area_faults.specs.RestFaces.{AreCurveFacesTo, AreMendable, AreOpenTo,
 use Rattle.area_faults.specs.RestFaces.{AreRunFaces, AreSidesOf, HasSizes, half_edges, half_plan}
 use Rattle.area_faults.specs.RestFaces.{half_points, place_at, place_face, point_place, rest_plan}
 use Rattle.area_faults.specs.RestFaces.{sides_at}
-use Rattle.area_faults.proofs.HalfUnits.{before_twice}
+use Rattle.area_faults.proofs.HalfUnits.{before_once, before_twice}
 use Rattle.area_faults.proofs.LeftPlaces.{IsRightOf}
 use Rattle.area_faults.proofs.PlacedFaces.{cell_below, cell_number, curves_count, edges_are}
 use Rattle.area_faults.proofs.PlacedFaces.{edges_count, face_below, face_used, faces_there, is_run}
@@ -86,13 +85,6 @@ some_face m n e = cc
 
 not_arc : (c : Curve) → c.kind ≡ kind.Straight → c.kind ≡ kind.HalfArc → ⊥
 not_arc c s h = absurd cc
-
--- of two points one comes first
-before_once : (p q : Point) → Before p q → Before q p → ⊥
-before_once p q (inl a) (inl b) = absurd (omega (arith, ints, a, b))
-before_once p q (inl a) (inr (e, b)) = absurd (omega (arith, ints, a, e))
-before_once p q (inr (e, a)) (inl b) = absurd (omega (arith, ints, e, b))
-before_once p q (inr (e, a)) (inr (f, b)) = absurd (omega (arith, ints, a, b))
 
 -- the ends of a segment beside a straight
 side_left : (c : Curve) (p q : Vector) → c.kind ≡ kind.Straight → side_end c true p q ≡ p

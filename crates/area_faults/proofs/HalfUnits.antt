@@ -90,3 +90,10 @@ twice_once p q e =
   where
     once : (a b : ℤ) → pos 2 *ℤ a ≡ pos 2 *ℤ b → a ≡ b
     once a b e = omega (arith, ints, e)
+
+-- of two points one comes first
+pub before_once : (p q : Point) → Before p q → Before q p → ⊥
+before_once p q (inl a) (inl b) = absurd (omega (arith, ints, a, b))
+before_once p q (inl a) (inr (e, b)) = absurd (omega (arith, ints, a, e))
+before_once p q (inr (e, a)) (inl b) = absurd (omega (arith, ints, e, b))
+before_once p q (inr (e, a)) (inr (f, b)) = absurd (omega (arith, ints, a, b))

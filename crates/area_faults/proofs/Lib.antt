@@ -18,6 +18,8 @@ pub mod LeastCurves
 pub mod ChosenCurves
 pub mod PointLists
 pub mod RunFaces
+pub mod SidesOfRest
+pub mod RestRings
 pub mod PlacedFaces
 pub mod CloseEdges
 pub mod ReadFaces

@@ -1,19 +1,20 @@
 -- The faces of a mesh of a run: half-edges have numbers below their count, each of which is some
--- half-edge's or 0.
+-- half-edge's or 0, and begin where they did before.
 use Rattle.std.proofs.Common.{◌≡◌, ℕ, zero, suc, ◌*◌, ◌<◌, ◌≤◌, List, [], ◌∷◌, ◌++◌, length, max}
 use Rattle.std.proofs.Common.{take, get_or, slice_index, ℤ, arith, refl, inl, inr, sym, ◌∙◌, subst}
 use Rattle.std.proofs.Common.{ap, add-one}
 use Rattle.std.proofs.lemmas.Bool.{cases_lt}
 use Rattle.std.proofs.lemmas.List.{take_all, take_more}
 use Rattle.area_search.specs.Settled.Meshing.{HasEdges}
-use Rattle.event_mesh.specs.Turned.{IsTurned}
+use Rattle.event_mesh.specs.Turned.{IsEventAt, IsTurned}
 use Rattle.faces.specs.declared.labelled.Labelled.{Labelled}
 use Rattle.faces.specs.Joined.{AreKnown}
 use Rattle.faces.specs.Labels.{AreFaces, IsNumbered, greatest}
-use Rattle.half_edges.specs.HalfEdges.{HalfEdges, size}
-use Rattle.half_edges.specs.Meshes.{with_faces}
+use Rattle.half_edges.specs.HalfEdges.{HalfEdges, origin_of, size}
+use Rattle.half_edges.specs.Meshes.{IsMesh, with_faces}
 use Rattle.plane.specs.declared.kinds.Edge.{Edge}
 use Rattle.plane.specs.Faces.Classes.{IsFaces}
+use Rattle.plane.specs.Faces.Directions.{origin}
 use Rattle.plane.specs.Faces.Halves.{number}
 use Rattle.plane.specs.Faces.Replays.{replay}
 use Rattle.plane.specs.Lists.{Has}
@@ -89,9 +90,9 @@ module _ (m : ℕ) (vs : List Move) (fit : Fit [] vs) (edges : HasEdges m (steps
       → AreKnown (size mesh) (closed_gaps vs) → AreFaces mesh (closed_gaps vs) faces
       → IsFaces (replay w m E (steps_from [] vs)) (λ h. slice_index faces (number h)))
       → (cells : List Gap) → cells ≡ closed_gaps vs → (l : Labelled)
-      → l.mesh ≡ with_faces mesh l.mesh.face → AreFaces mesh cells l.mesh.face
+      → l.mesh ≡ with_faces mesh l.mesh.face → IsMesh l.mesh → AreFaces mesh cells l.mesh.face
       → l.count ≡ suc (greatest l.mesh.face) → AreRunFaces m vs l
-  run_faces law cells same l unchanged faces n =
+  run_faces law cells same l unchanged is faces n =
       let z = count in
       let s : size l.mesh ≡ size mesh = ap size unchanged in
       let f = faces.size_is in
@@ -108,4 +109,8 @@ module _ (m : ℕ) (vs : List Move) (fit : Fit [] vs) (edges : HasEdges m (steps
             let (h, k, e) = all_given l.mesh.face
             (λ h k. faces.numbered h (omega (arith, k, f))) i p (omega (arith, q, n)) in
             (h, omega (arith, k, s, f), e);
+        mesh_is = is;
+        begins = λ E run h k. subst
+            (λ (x : HalfEdges). IsEventAt (steps_from [] vs) (origin_of x (number h)) (origin E h))
+            (sym unchanged) ((turned E run).begins h k);
       }

@@ -8,7 +8,7 @@ use Rattle.plane.specs.Rule.Plans.{Plan}
 use Rattle.near_pairs.specs.Boxes.{mark_of}
 use Rattle.tubes.specs.DrawnEdges.{AreStraights}
 use Rattle.tubes.specs.Settled.{IsSettledAt}
-use Rattle.area_search.specs.Answers.{HasNoBadPair, IsSettled, IsUnsettled}
+use Rattle.area_search.specs.Answers.{HasNoBadPair, IsSettled}
 use Rattle.area_search.specs.Unsettled.MarkedPoints.{ArePairsOn}
 use Rattle.fault_lists.specs.FaultLists.{AreMeetings}
 use Rattle.fault_lists.specs.declared.kinds.Faults.{Faults}
@@ -135,19 +135,16 @@ no_meetings d ms e clear = subst (AreMeetings d) (sym e) (record {
     none m (k, h, q) = omega (arith, h)
 
 pub all_faults : (d : Plan) (f : Faults) → IsToldWith d false f
-    → (f.meetings.items ≡ [] → IsSettled d) → (f.meetings.items ≡ [] → HaveRings f.empty.items)
+    → (f.meetings.items ≡ [] → IsSettled d) → HaveRings f.empty.items → HaveRings f.open.items
     → AreAllFaults d f
-all_faults d f h s r = record {
+all_faults d f h s r o = record {
   told = h.told;
   least = h.least;
   kept = h.out;
   settled = s;
   rings = r;
+  open_rings = o;
 }
-
--- no level settles a drawing that is not settled
-pub never_both : {P : Type 0} (d : Plan) → IsUnsettled d → IsSettled d → P
-never_both d u (level, l) = absurd (u level l.low l.settled)
 
 abbrev StraightsAreSettled : Type 0
 StraightsAreSettled =

@@ -45,13 +45,14 @@ abbrev pub HaveRings : List Region → Type 0
 HaveRings regions = (x : Region) → Has x regions → x.rings.items ≡ [] → ⊥
 
 -- All faults, where curves are left out that meet badly, and no others; where none do, some level
--- settles the drawing, and each face without a point is told with its rings.
+-- settles the drawing. Each face that is told has its rings.
 pub record AreAllFaults (d : Plan) (f : Faults) : Type 0 where
   pub told : AreFaults d f
   pub least : AreLeastSides d told.r told.out told.rest f.faces.empty.items
   pub kept : f.all_out ≡ false
   pub settled : f.meetings.items ≡ [] → IsSettled d
-  pub rings : f.meetings.items ≡ [] → HaveRings f.empty.items
+  pub rings : HaveRings f.empty.items
+  pub open_rings : HaveRings f.open.items
 
 -- Pairs that meet badly and points on curves, with all curves left out; where no two curves meet
 -- badly no level settles the drawing. And the answer of the search.

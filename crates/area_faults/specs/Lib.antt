@@ -1,6 +1,7 @@
 pub mod Answers
 pub mod Firsts
 pub mod RestFaces
+pub mod NextSides
 pub mod Crossings
 pub mod MeetingMarks
 pub mod Meetings

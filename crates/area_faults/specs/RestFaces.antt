@@ -5,19 +5,22 @@ use Rattle.std.specs.Prelude.{List, [], ◌++◌, length, map, slice_index, slic
 use Rattle.area_search.specs.Faced.{IsAmong}
 use Rattle.area_search.specs.Settled.Cases.{face_over}
 use Rattle.area_search.specs.Unsettled.CurvePoints.{AreMarkedTo, AreNumbers}
+use Rattle.event_mesh.specs.Turned.{IsEventAt}
 use Rattle.faces.specs.declared.labelled.Labelled.{Labelled}
 use Rattle.fault_lists.specs.declared.faces.CurveFaces.{CurveFaces}
 use Rattle.fault_lists.specs.declared.faces.DrawingFaces.{DrawingFaces}
 use Rattle.fault_lists.specs.declared.faces.PointPlace.{PointPlace}
 use Rattle.fault_lists.specs.declared.faces.PointPlace.TheVariants.{InFace, OnCurve}
-use Rattle.half_edges.specs.HalfEdges.{over_of, size, under_of}
+use Rattle.half_edges.specs.HalfEdges.{origin_of, over_of, size, under_of}
+use Rattle.half_edges.specs.Meshes.{IsMesh}
 use Rattle.near_pairs.specs.Boxes.{mark_of}
 use Rattle.plane.specs.declared.kinds.Curve.{Curve}
 use Rattle.plane.specs.declared.kinds.Edge.{Edge}
 use Rattle.plane.specs.declared.kinds.Placed.{Placed}
 use Rattle.plane.specs.declared.kinds.Point.{Point}
 use Rattle.plane.specs.Faces.Classes.{IsFaces}
-use Rattle.plane.specs.Faces.Halves.{number}
+use Rattle.plane.specs.Faces.Directions.{origin}
+use Rattle.plane.specs.Faces.Halves.{Half, edge_of, number}
 use Rattle.plane.specs.Faces.Replays.{replay}
 use Rattle.plane.specs.Faces.RestRuns.{sum}
 use Rattle.plane.specs.Forms.Vectors.{Before}
@@ -74,8 +77,9 @@ pub record IsWritten (c : Curve) : Type 0 where
   pub distinct : c.from ≡ c.to → ⊥
 
 -- ---- the faces of its run
--- The half-edges have the face numbers of the run over so many edges, whichever edges these are;
--- each number below the count but 0 is that of some half-edge.
+-- The half-edges have the face numbers of the run over so many edges, whichever edges these are,
+-- and begin at the events of its edges' ends; each number below the count but 0 is that of some
+-- half-edge.
 pub record AreRunFaces (m : ℕ) (vs : List Move) (l : Labelled) : Type 0 where
   pub size_is : size l.mesh ≡ 2 * m
   pub entries : length l.mesh.face ≡ size l.mesh
@@ -85,6 +89,9 @@ pub record AreRunFaces (m : ℕ) (vs : List Move) (l : Labelled) : Type 0 where
   pub some : 0 < l.count
   pub used : (n : ℕ) → 0 < n → n < l.count
       → (h : ℕ) × (h < size l.mesh) × (slice_index l.mesh.face h ≡ n)
+  pub mesh_is : IsMesh l.mesh
+  pub begins : (E : ℕ → Edge) → Run m E (steps_from [] vs) → (h : Half) → edge_of h < m
+      → IsEventAt (steps_from [] vs) (origin_of l.mesh (number h)) (origin E h)
 
 -- ---- what is read off it
 -- The edge of the place, or the one under its cell, has its half-edges among so many.

@@ -29,9 +29,8 @@ use std::alloc::Global;
 // The most pairs of a point and a curve that is left out.
 const MOST: usize = 4_000_000;
 
-/// All faults of a drawing of at most 16,000,000 curves. Where no two of them meet badly, each face
-/// without a point is told with its rings. The only error is out of memory. For the costs see the
-/// head of the crate.
+/// All faults of a drawing of at most 16,000,000 curves. Each face that is told has its rings. The
+/// only error is out of memory. For the costs see the head of the crate.
 pub fn all_faults(alloc: Global, drawing: &Drawing) -> Result<AreaFaults, Memory>
     requires curves { length (plan drawing.now).curves ≤ 16000000 }
     ensures { IfOk result (IsToldOf drawing.now.tolerance (plan drawing.now)) }
@@ -81,7 +80,7 @@ fn faults_of_unsettled(
 }
 
 // The faults of a drawing without some curves, by the faces of the others and the points on those.
-// Where sides go round the faces, those without a point are told with their rings.
+// Where sides go round the faces, each that is told has its rings.
 fn told(
     alloc: Global,
     drawing: &Drawing,
@@ -102,6 +101,8 @@ fn told(
         → IfOk result (IsToldWith (plan drawing.now) all_out) }
     ensures rings { IfOk result (λ f. GoRound (plan drawing.now) faces.now
         → HaveRings f.empty.items) }
+    ensures open_rings { IfOk result (λ f. GoRound (plan drawing.now) faces.now
+        → HaveRings f.open.items) }
 {
     numbers_tell_faults();
     numbers_tell_rings();

@@ -1,6 +1,7 @@
 // The numbers of the faces, step by step.
 ghost use Rattle.std.specs.Prelude.{◌≡◌, ℕ, ◌≤◌, true, IfOk, [], length};
 ghost use Rattle.fault_lists.specs.DrawingFaces.{HasFaces, IsNumbered};
+ghost use Rattle.fault_lists.specs.Rings.{GoRound};
 ghost use Rattle.line_sweep.specs.Kinds.{gaps_of};
 ghost use Rattle.near_pairs.specs.Boxes.{mark_of};
 ghost use Rattle.plane.specs.Rule.BadPairs.{IsBadPair};
@@ -25,7 +26,8 @@ use ports::Memory;
 use std::alloc::Global;
 
 /// The faces of a drawing of at most 16,000,000 straights without those that are marked, by
-/// numbers. No two of the others meet badly. The only error is out of memory. It takes a sweep of
+/// numbers, and which side follows which round its face. No two of the others meet badly. The only
+/// error is out of memory. It takes a sweep of
 /// the curves that stay, a replay and the search of the faces; 20 bytes a curve, 8 a point and one
 /// a face stay.
 pub fn rest_faces(alloc: Global, drawing: &Drawing, out: &[bool]) -> Result<DrawingFaces, Memory>
@@ -37,6 +39,7 @@ pub fn rest_faces(alloc: Global, drawing: &Drawing, out: &[bool]) -> Result<Draw
     ensures faces { IfOk result (HasFaces (plan drawing.now) (mark_of out.now)) }
     ensures numbered { IfOk result IsNumbered }
     ensures sizes { IfOk result (HasSizes (plan drawing.now)) }
+    ensures rings { IfOk result (GoRound (plan drawing.now)) }
 {
     let kept = numbers_with(alloc, out, false)?;
     let left = numbers_with(alloc, out, true)?;
@@ -68,6 +71,7 @@ fn faces_of_run(
     ensures faces { IfOk result (HasFaces (plan drawing.now) (mark_of out.now)) }
     ensures numbered { IfOk result IsNumbered }
     ensures sizes { IfOk result (HasSizes (plan drawing.now)) }
+    ensures rings { IfOk result (GoRound (plan drawing.now)) }
 {
     let places = places_of(alloc, drawing, left, edges, &swept)?;
     let labelled = labelled_run(alloc, kept.len(), swept)?;
@@ -76,6 +80,6 @@ fn faces_of_run(
         open: open_faces(alloc, &labelled, &places, first)?,
         points: point_places(alloc, &labelled.mesh, kept, &places, first)?,
         curves: curve_faces(alloc, &drawing.curves, &labelled.mesh, kept)?,
-        next: next_sides(alloc, &drawing.curves, &labelled.mesh, kept)?,
+        next: next_sides(alloc, drawing, &labelled.mesh, kept)?,
     })
 }

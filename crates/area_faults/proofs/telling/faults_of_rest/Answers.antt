@@ -3,7 +3,7 @@ use Rattle.plane.specs.Rule.Plans.{plan}
 use Rattle.fault_lists.specs.DrawingFaces.{HasFaces}
 use Rattle.near_pairs.specs.Boxes.{mark_of}
 use Rattle.area_faults.proofs.ToldFaults.{all_faults, both_out, met_below, out_of_curves, pairs_for}
-use Rattle.area_faults.proofs.ToldFaults.{never_both, points_below, settled_straights, some_of_all}
+use Rattle.area_faults.proofs.ToldFaults.{points_below, settled_straights, some_of_all}
 use Rattle.area_faults.proofs.telling.faults_of_rest.Goals as goal
 
 pub left_out_marks-requires : goal.left_out_marks-requires
@@ -40,7 +40,8 @@ returns c =
     let s = settled_straights c.straights_are_settled.ensures d
     c.in_ok-faults-in-Some.faults.meetings.items c.requires.straights t.told.meetings in
     all_faults d c.in_ok-faults-in-Some.faults t s
-    (λ e. never_both d c.requires.unsettled (s e))
+    (c.in_ok-faults-in-Some.ensures.rings c.in_ok-faces-in-Some.ensures.rings)
+    (c.in_ok-faults-in-Some.ensures.open_rings c.in_ok-faces-in-Some.ensures.rings)
 
 pub returns-in-None : goal.returns-in-None
 returns-in-None c = record {

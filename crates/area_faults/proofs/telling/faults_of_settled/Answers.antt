@@ -21,4 +21,5 @@ returns c =
     (c.in_ok-faults.ensures.faults (λ i. false)
     (none_out d c.new-meetings.result.items c.new-meetings.ensures.items) c.requires.faces
     (no_pairs d _ refl)) (λ e. c.requires.settled)
-    (λ e. c.in_ok-faults.ensures.rings c.requires.rings)
+    (c.in_ok-faults.ensures.rings c.requires.rings)
+    (c.in_ok-faults.ensures.open_rings c.requires.rings)

@@ -1,6 +1,6 @@
 use Rattle.std.proofs.Common.{refl, rules}
 use Rattle.plane.specs.Rule.Plans.{plan}
-use Rattle.fault_lists.specs.FaceLists.{IsEmptyFace}
+use Rattle.fault_lists.specs.FaceLists.{IsBroken, IsEmptyFace}
 use Rattle.area_faults.proofs.LeastTold.{least_sides}
 use Rattle.area_faults.proofs.ToldRings.{have_rings}
 use Rattle.area_faults.proofs.telling.told.Goals as goal
@@ -9,6 +9,12 @@ pub returns-clause-rings : goal.returns-clause-rings
 returns-clause-rings c = λ go.
     have_rings (plan c.args.drawing.now) c.args.faces.now (IsEmptyFace c.args.faces.now)
     c.in_ok-found.found.empty.items c.in_ok-found.ensures.empty c.in_ok-empty.empty.items
+    (search rules) go
+
+pub returns-clause-open_rings : goal.returns-clause-open_rings
+returns-clause-open_rings c = λ go.
+    have_rings (plan c.args.drawing.now) c.args.faces.now (IsBroken c.args.faces.now)
+    c.in_ok-found.found.«open».items c.in_ok-found.ensures.broken c.in_ok-open.«open».items
     (search rules) go
 
 pub returns-clause-faults : goal.returns-clause-faults

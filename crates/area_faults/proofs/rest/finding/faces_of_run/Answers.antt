@@ -10,11 +10,12 @@ use Rattle.plane.specs.Runs.Steps.{Run}
 use Rattle.point_location.specs.declared.places.Place.{Place}
 use Rattle.point_location.specs.Places.{ArePlaces, no_place}
 use Rattle.straight_predicates.specs.EdgeLists.{edge_of}
-use Rattle.area_faults.specs.RestFaces.{AreCurveFacesTo, AreOpenTo, IsKnownPlace, half_points}
-use Rattle.area_faults.specs.RestFaces.{point_place}
+use Rattle.area_faults.specs.RestFaces.{AreCurveFacesTo, AreOpenTo, IsKnownPlace, half_edges}
+use Rattle.area_faults.specs.RestFaces.{half_points, point_place}
 use Rattle.area_faults.proofs.CallFacts.{edges_size, few_edges, known_places}
 use Rattle.area_faults.proofs.FoundFaces.{has_all, numbered, sizes}
 use Rattle.area_faults.proofs.PlacedFaces.{points_count}
+use Rattle.area_faults.proofs.RestRings.{rest_rounds}
 use Rattle.area_faults.proofs.rest.finding.faces_of_run.Goals as goal
 
 pub places_of-requires : goal.places_of-requires
@@ -114,6 +115,14 @@ curve_faces-requires c =
       size = c.in_ok-labelled.ensures.size_is;
     }
 
+pub next_sides-requires : goal.next_sides-requires
+next_sides-requires c = record {
+  kept = c.requires.parted.kept_are.known;
+  rising = c.requires.parted.kept_are.rising;
+  few = c.requires.mendable.few;
+  size = c.in_ok-labelled.ensures.size_is;
+}
+
 pub returns : goal.returns
 returns c =
     let w = c.args.drawing.now in
@@ -160,4 +169,11 @@ returns c =
       sizes = sizes d c.args.out.now kept left c.requires.parted c.requires.mendable w.window.low
           w.window.high w.curves_drawn vs run l c.in_ok-labelled.ensures places a f opened points
           curves;
+      rings = rest_rounds d c.args.out.now kept left c.requires.parted
+          (λ i k. (w.curves_drawn i _ k).distinct) l.mesh c.in_ok-labelled.ensures.mesh_is
+          c.in_ok-labelled.ensures.size_is (steps_from [] vs)
+          (c.in_ok-labelled.ensures.begins (edge_of (half_edges d kept))
+          (subst (λ (m : ℕ). Run m (edge_of (half_edges d kept)) (steps_from [] vs))
+          (edges_size d kept) run))
+          f curves c.in_ok-next_sides.ensures;
     }

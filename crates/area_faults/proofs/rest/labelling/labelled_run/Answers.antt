@@ -20,4 +20,5 @@ returns c =
     run_faces c.args.edges c.args.swept.events c.requires.fit c.requires.run c.in_ok-mesh.mesh
     c.in_ok-mesh.ensures.turned c.faces_of_runs.ensures
     (gaps_of c.deref.result.now) (ap gaps_of (c.deref.ensures.value ∙ c.cells_alone-cells.ensures)
-    ∙ c.requires.cells) c.in_ok-labelled.labelled l.unchanged l.faces l.count
+    ∙ c.requires.cells) c.in_ok-labelled.labelled l.unchanged
+    c.edges.ensures.kept l.faces l.count
