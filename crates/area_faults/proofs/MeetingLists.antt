@@ -4,7 +4,7 @@ use Rattle.std.proofs.Common.{List, [], ◌∷◌, ◌++◌, length, get_or, map
 use Rattle.std.proofs.Common.{◌∙◌, subst}
 use Rattle.std.specs.List.{Contains}
 use Rattle.std.specs.List.Sorted.{IsStrictlyIncreasing}
-use Rattle.std.proofs.lemmas.List.{length-append, get_or_append_left, map-append}
+use Rattle.std.proofs.lemmas.List.{length-append, length-map, get_or_append_left, map-append}
 use Rattle.std.proofs.Math.Seq.{get_or-append_seam}
 use Rattle.plane.specs.Forms.Boxes.{Box, HoldsCurve, InBox}
 use Rattle.plane.specs.Rule.BadPairs.{AreBad, IsBadPair}
@@ -22,7 +22,7 @@ use Rattle.meetings.specs.CurveBoxes.{AreReachesTo}
 use Rattle.fault_lists.specs.FaultLists.{AreMeetings}
 use Rattle.fault_lists.specs.declared.kinds.MeetingAt.{MeetingAt}
 use Rattle.area_faults.specs.MeetingMarks.{AreMeetingMarks}
-use Rattle.area_faults.specs.Meetings.{AreEntries, AreSomeMeetings, IsMeeting, entry_code}
+use Rattle.area_faults.specs.Meetings.{AreEntries, AreManyMeetings, IsMeeting, entry_code}
 
 -- ---- codes
 same_first : (i j k l : ℕ) → j < 2 ^ 32 → l < 2 ^ 32 → code i j ≡ code k l → i ≡ k
@@ -103,8 +103,12 @@ module _ (d : Plan) (small : length d.curves < 2 ^ 32) (n : ℕ) (size : n ≡ l
   rise : IsStrictlyIncreasing (map entry_code ms)
   rise = subst IsStrictlyIncreasing (sym of.codes_are) is.rising
 
-  pub some_meetings : AreSomeMeetings d ms
-  some_meetings = record { each = each; rise = rise }
+  pub many_meetings : 1000000 < length l.codes.items → AreManyMeetings d ms
+  many_meetings more = record {
+    some = record { each = each; rise = rise };
+    more = (let n = length-map ms entry_code in let e = ap length of.codes_are in
+        omega (arith, more, n, e));
+  }
 
   pub all_meetings : l.whole ≡ true → AreMeetings d ms
   all_meetings w = record {

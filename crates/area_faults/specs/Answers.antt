@@ -1,5 +1,5 @@
 -- What is told of a drawing.
-use Rattle.std.specs.Prelude.{◌≡◌, ◌↔◌, ◌⊎◌, ℕ, ◌<◌, ◌≤◌, ℤ, Bool, List, [], false, true}
+use Rattle.std.specs.Prelude.{◌≡◌, ◌↔◌, ◌⊎◌, ℕ, ◌<◌, ◌≤◌, ℤ, Bool, List, [], false, length, true}
 use Rattle.std.specs.List.{Contains}
 use Rattle.plane.specs.Lists.{Has}
 use Rattle.plane.specs.Rule.LeftOut.{IsRestOf}
@@ -10,6 +10,7 @@ use Rattle.area_faults.specs.declared.kinds.AreaFaults.TheVariants.{Many, Told, 
 use Rattle.area_faults.specs.Meetings.{AreSomeMeetings}
 use Rattle.area_search.specs.Answers.{IsSettled, IsUnsettled}
 use Rattle.area_search.specs.Grounds.{IsAnswerBy}
+use Rattle.area_search.specs.Unsettled.MarkedPoints.{HasManyOn}
 use Rattle.area_search.specs.declared.kinds.AreaAnswer.{AreaAnswer}
 use Rattle.fault_lists.specs.declared.kinds.Faults.{Faults}
 use Rattle.fault_lists.specs.declared.kinds.MeetingAt.{MeetingAt}
@@ -62,10 +63,12 @@ pub record AreUnsettled (t : ℤ) (d : Plan) (f : Faults) (a : AreaAnswer) : Typ
   pub unsettled : f.meetings.items ≡ [] → IsUnsettled d
   pub answer : IsAnswerBy t d a
 
--- Some pairs that meet badly, of a drawing that no level settles.
+-- Some pairs that meet badly, of a drawing that no level settles: more than 1,000,000, or there are
+-- more than 2,000,000 of points and curves on which they lie.
 pub record AreMany (d : Plan) (ms : List MeetingAt) : Type 0 where
   pub some : AreSomeMeetings d ms
   pub unsettled : IsUnsettled d
+  pub more : (1000000 < length ms) ⊎ HasManyOn d 2000000
 
 -- What is told of a drawing that permits that overlap.
 abbrev pub IsToldOf : ℤ → Plan → AreaFaults → Type 0

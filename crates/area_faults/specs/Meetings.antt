@@ -1,5 +1,5 @@
 -- Lists of pairs of curves that meet badly.
-use Rattle.std.specs.Prelude.{◌≡◌, ℕ, List, map}
+use Rattle.std.specs.Prelude.{◌≡◌, ℕ, ◌<◌, List, length, map}
 use Rattle.std.specs.List.{All, Contains}
 use Rattle.std.specs.List.Sorted.{IsStrictlyIncreasing}
 use Rattle.plane.specs.Rule.BadPairs.{IsBadPair}
@@ -24,10 +24,15 @@ pub record AreSomeMeetings (d : Plan) (ms : List MeetingAt) : Type 0 where
   pub each : (m : MeetingAt) → Contains ms m → IsMeeting d m
   pub rise : IsStrictlyIncreasing (map entry_code ms)
 
--- All pairs that meet badly, or some of them.
+-- More than 1,000,000 such entries.
+pub record AreManyMeetings (d : Plan) (ms : List MeetingAt) : Type 0 where
+  pub some : AreSomeMeetings d ms
+  pub more : 1000000 < length ms
+
+-- All pairs that meet badly, or some of very many.
 abbrev pub IsMeetingList : Plan → MeetingList → Type 0
 IsMeetingList d (list.All ms) = AreMeetings d ms.items
-IsMeetingList d (list.Many ms) = AreSomeMeetings d ms.items
+IsMeetingList d (list.Many ms) = AreManyMeetings d ms.items
 
 -- The entries of the pairs of these codes, in their order.
 pub record AreEntries (d : Plan) (codes : List ℕ) (ms : List MeetingAt) : Type 0 where

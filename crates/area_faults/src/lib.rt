@@ -10,15 +10,17 @@
 //!   to be open (`fault_lists::laws::each_fault_is_told`). The fault that `area_search` answers is
 //!   the first in the first list that has any, and it answers a certificate exactly where none has
 //!   one (`laws`).
-//! - **Too many.** Where a very great number of pairs meets badly, or of points lies on curves that
-//!   are left out, some of the pairs are told and nothing else. No level settles such a drawing.
+//! - **Too many.** Where more than 1,000,000 pairs meet badly, or there are more than 2,000,000
+//!   pairs of a point and a curve that is left out on which it lies, some of the pairs that meet
+//!   badly are told and nothing else. No level settles such a drawing.
 //! - **Degenerate cases.** No curve, no point, equal curves, curves that end within a face and
 //!   points at vertices are all taken.
 //! - **Not here:** lines of the transfer, coordinates in a model's decimals, and any text.
 //!
 //! Cost: the levels as in `area_search`. Where none settles: two sweeps of the straights, up to
 //! nine times; a test of each pair of a marked curve and another whose boxes share a place, up to
-//! 2,000,000 findings; the same for points and curves left out, up to 4,000,000. Then of straights
+//! 2,000,000 findings; the same for points and curves left out, up to 4,000,000. Each pair is found
+//! once or twice. Then of straights
 //! a sweep of the rest with its faces; with half arcs the search.
 #![tactic(auto)]
 

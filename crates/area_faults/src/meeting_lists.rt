@@ -15,11 +15,11 @@ use plane::Drawing;
 use ports::Memory;
 use std::alloc::Global;
 
-// So many findings of pairs, each from one of its curves or from both, are made at most.
-const MOST: usize = 2_000_000;
+// The most pairs of which all are told for certain.
+const MOST: usize = 1_000_000;
 
 /// Pairs of curves that meet badly, by their first curves, then by their second ones: all of them,
-/// or some, where there are many.
+/// or more than 1,000,000.
 #[derive(Drop)]
 pub enum MeetingList {
     All(Vec<MeetingAt>),
@@ -46,11 +46,11 @@ impl<'a> PairTest for MeetingTest<'a> {
     }
 }
 
-/// All pairs of curves that meet badly, each with a place; or some of them, where there are more
-/// than 1,000,000. Where two straights are known that meet badly and all curves are straights, a
-/// sweep is saved. The only error is out of memory. It takes the sweeps of `meeting_marks`, then
-/// the time of the marked curves times those that begin within their boxes along x, or the other
-/// way round; 36 bytes for each curve beside a sweep's, 65 bytes after it, and 40 for each pair.
+/// All pairs of curves that meet badly, each with a place; or more than 1,000,000 of them. Where
+/// two straights are known that meet badly and all curves are straights, a sweep is saved. The only
+/// error is out of memory. It takes the sweeps of `meeting_marks`, then the time of the marked
+/// curves times those that begin within their boxes along x, or the other way round; 36 bytes for
+/// each curve beside a sweep's, 65 bytes after it, and 40 for each pair.
 pub fn all_meetings(
     alloc: Global,
     drawing: &Drawing,

@@ -26,8 +26,8 @@ use plane::{Curve, CurveKind, Drawing};
 use ports::Memory;
 use std::alloc::Global;
 
-// The most pairs of a point and a curve that is left out.
-const MOST: usize = 4_000_000;
+// The most pairs of a point and a curve that is left out on which it lies.
+const MOST: usize = 2_000_000;
 
 /// All faults of a drawing of at most 16,000,000 curves. Each face that is told has its rings. The
 /// only error is out of memory. For the costs see the head of the crate.

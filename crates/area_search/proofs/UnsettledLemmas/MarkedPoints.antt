@@ -1,9 +1,12 @@
 -- All points on marked curves, by the codes of their pairs.
-use Rattle.std.proofs.Common.{◌≡◌, ℕ, ◌+◌, ◌-◌, ◌*◌, ◌^◌, ◌<◌, ◌≤◌, inl, inr, Bool, true, List, []}
-use Rattle.std.proofs.Common.{◌∷◌, ◌++◌, length, get_or, refl, sym, ◌∙◌, ap, subst, arith}
+use Rattle.std.proofs.Common.{◌≡◌, ℕ, ◌+◌, ◌-◌, ◌/◌, ◌%◌, ◌^◌, ◌<◌, ◌≤◌, inl, inr, Bool, true}
+use Rattle.std.proofs.Common.{List, [], ◌∷◌, ◌++◌, length, map, get_or, sym, ◌∙◌, ap, subst}
+use Rattle.std.proofs.Common.{arith}
+use Rattle.std.specs.List.Sorted.{IsStrictlyIncreasing}
 use Rattle.std.specs.List.{Contains}
 use Rattle.std.proofs.lemmas.Bool.{cases_lt}
-use Rattle.std.proofs.lemmas.List.{get_or_append_left, get_or_default, length-append}
+use Rattle.std.proofs.lemmas.List.{get_or-map, get_or_append_left, get_or_default, length-append}
+use Rattle.std.proofs.lemmas.List.{length-map}
 use Rattle.std.proofs.Math.Seq.{get_or-append_seam}
 use Rattle.std.proofs.lemmas.List.Elements.{All-get_or}
 use Rattle.plane.specs.Forms.Boxes.{Box, HoldsCurve, InBox}
@@ -17,11 +20,12 @@ use Rattle.fault_lists.specs.declared.kinds.OnAt.{OnAt}
 use Rattle.near_pairs.specs.Boxes.{AreMarkedFrom, AreNear}
 use Rattle.near_pairs.specs.PairLists.{AreCodes, IsCode, IsPairList, code}
 use Rattle.near_pairs.specs.declared.listing.PairList.{PairList}
-use Rattle.near_pairs.specs.declared.pairs.NearPair.{NearPair}
 use Rattle.near_pairs.specs.declared.reaches.Reach.{Reach}
 use Rattle.area_search.specs.Unsettled.CurvePoints.{AreCurveBoxes, AreMarkedTo, IsPointOnCurve}
 use Rattle.area_search.specs.Unsettled.CurvePoints.{LiesOnMarked}
-use Rattle.area_search.specs.Unsettled.MarkedPoints.{AreDecoded, ArePairsOn, IsDecoded, no_on}
+use Rattle.area_search.specs.Faults.{LiesOn}
+use Rattle.area_search.specs.Unsettled.MarkedPoints.{AreDecoded, ArePairsOn, HasManyOn, IsDecoded}
+use Rattle.area_search.specs.Unsettled.MarkedPoints.{no_on, on_code}
 use Rattle.area_search.proofs.UnsettledLemmas.PointsOnCurves.{lies_on, numbered, on_is_near}
 
 -- ---- the boxes and marks as they are lent
@@ -161,3 +165,126 @@ lent_pairs_on d marks numbers one two codes l ons size e f g a list few whole de
     list) whole (subst (λ (xs : List ℕ). length d.points + length xs < 2 ^ 32) e few)
     (subst (λ (xs : List ℕ). AreDecoded d xs l.codes.items (length l.codes.items) ons) f
     (subst (λ (xs : List ℕ). AreDecoded d two xs (length xs) ons) g decoded))
+
+-- ---- too many of them
+-- the pair of a code
+abbrev on_of_code : Plan → List ℕ → ℕ → OnAt
+on_of_code d numbers c = record {
+  point = c / 2 ^ 32;
+  curve = get_or numbers ((c % 2 ^ 32) - length d.points) 0;
+}
+
+module _ (d : Plan) (marks : List Bool) (numbers : List ℕ)
+    (a : AreMarkedTo marks true (length d.curves) numbers) (codes : List ℕ)
+    (all : AreCodes (IsPointOnCurve d numbers) (length d.points + length numbers) codes)
+    (few : length d.points + length numbers < 2 ^ 32) (curves : length d.curves < 2 ^ 32) where
+  code_is : (k : ℕ) → k < length codes
+      → IsCode (IsPointOnCurve d numbers) (length d.points + length numbers) (get_or codes k 0)
+  code_is k l = all k 0 l
+
+  -- the parts of a code
+  first_is : (c i j : ℕ) → c ≡ code i j → j < 2 ^ 32 → c / 2 ^ 32 ≡ i
+  first_is c i j e l = omega (arith, e, l)
+
+  second_is : (c i j : ℕ) → c ≡ code i j → j < 2 ^ 32 → c % 2 ^ 32 ≡ j
+  second_is c i j e l = omega (arith, e, l)
+
+  lies : (c : ℕ) → IsCode (IsPointOnCurve d numbers) (length d.points + length numbers) c
+      → LiesOn d (on_of_code d numbers c).point (on_of_code d numbers c).curve
+  lies c h =
+      let t = h.sought.there in
+      let j : h.pair.second < 2 ^ 32 = omega (arith, t, few) in
+      let o = lies_on d marks numbers a h.pair.first h.pair.second h.sought.sought in
+      subst (λ (i : ℕ). LiesOn d i (get_or numbers ((c % 2 ^ 32) - length d.points) 0))
+      (sym (first_is c h.pair.first h.pair.second h.is j))
+      (subst (λ (n : ℕ). LiesOn d h.pair.first (get_or numbers (n - length d.points) 0))
+      (sym (second_is c h.pair.first h.pair.second h.is j)) o.on)
+
+  on_each : (o : OnAt) → Contains (map (on_of_code d numbers) codes) o → LiesOn d o.point o.curve
+  on_each o (k, l, e) =
+      let n = length-map codes (on_of_code d numbers) in
+      let m : k < length codes = omega (arith, l, n) in
+      subst (λ (p : OnAt). LiesOn d p.point p.curve)
+      (sym (get_or-map (on_of_code d numbers) codes k 0 o m) ∙ e)
+      (lies (get_or codes k 0) (code_is k m))
+
+  -- pairs rise with their codes
+  rises : (b c : ℕ) → IsCode (IsPointOnCurve d numbers) (length d.points + length numbers) b
+      → IsCode (IsPointOnCurve d numbers) (length d.points + length numbers) c → b < c
+      → on_code (on_of_code d numbers b) < on_code (on_of_code d numbers c)
+  rises b c h k l =
+      let i = h.pair.first in
+      let j = h.pair.second - length d.points in
+      let s = k.pair.first in
+      let t = k.pair.second - length d.points in
+      let hb = h.is in
+      let kc = k.is in
+      let ht = h.sought.there in
+      let kt = k.sought.there in
+      let ha = h.sought.sought.after in
+      let ka = k.sought.sought.after in
+      let x = a.known j h.sought.sought.within in
+      let y = a.known t k.sought.sought.within in
+      let goal : code i (get_or numbers j 0) < code s (get_or numbers t 0) =
+      elim (cases_lt i s) [
+        | inl f ↦ omega (arith, f, x, curves)
+        | inr f ↦ (
+            let q : i ≡ s = omega (arith, f, l, hb, kc, ht, kt, few) in
+            let r : j < t = omega (arith, q, l, hb, kc, ht, kt, few, ha, ka) in
+            let v = a.rising j t r k.sought.sought.within in
+            omega (arith, q, v))
+      ] in
+      subst (λ (m : ℕ). m < on_code (on_of_code d numbers c)) (coded b h)
+      (subst (λ (m : ℕ). code i (get_or numbers j 0) < m) (coded c k) goal)
+    where
+      coded : (c : ℕ)
+          → (h : IsCode (IsPointOnCurve d numbers) (length d.points + length numbers) c)
+          → code h.pair.first (get_or numbers (h.pair.second - length d.points) 0)
+          ≡ on_code (on_of_code d numbers c)
+      coded c h =
+          let t = h.sought.there in
+          let j : h.pair.second < 2 ^ 32 = omega (arith, t, few) in
+          ap (λ (i : ℕ). code i (get_or numbers (h.pair.second - length d.points) 0))
+          (sym (first_is c h.pair.first h.pair.second h.is j))
+          ∙ ap (λ (n : ℕ). code (c / 2 ^ 32) (get_or numbers (n - length d.points) 0))
+          (sym (second_is c h.pair.first h.pair.second h.is j))
+
+  pub has_many : (most : ℕ) → IsStrictlyIncreasing codes → most < length codes → HasManyOn d most
+  has_many most rise many = record {
+    pairs = map (on_of_code d numbers) codes;
+    on = on_each;
+    rise = λ k l.
+        let n = length-map (map (on_of_code d numbers) codes) on_code in
+        let m = length-map codes (on_of_code d numbers) in
+        let there : k + 1 < length codes = omega (arith, l, n, m) in
+        let here : k < length codes = omega (arith, there) in
+        subst (λ (x : ℕ). x < get_or (map on_code (map (on_of_code d numbers) codes)) (k + 1) 0)
+        (sym (entry k here))
+        (subst (λ (y : ℕ). on_code (on_of_code d numbers (get_or codes k 0)) < y)
+        (sym (entry (k + 1) there))
+        (rises (get_or codes k 0) (get_or codes (k + 1) 0) (code_is k here) (code_is (k + 1) there)
+        (rise k there)));
+    many = (let n = length-map codes (on_of_code d numbers) in omega (arith, many, n));
+  }
+    where
+      entry : (k : ℕ) → k < length codes
+          → get_or (map on_code (map (on_of_code d numbers) codes)) k 0
+          ≡ on_code (on_of_code d numbers (get_or codes k 0))
+      entry k l =
+          get_or-map on_code (map (on_of_code d numbers) codes) k no_on 0
+          (let n = length-map codes (on_of_code d numbers) in omega (arith, l, n))
+          ∙ ap on_code (get_or-map (on_of_code d numbers) codes k 0 no_on l)
+
+pub lent_many_on : (d : Plan) (marks : List Bool) (numbers one : List ℕ) (l : PairList) (most : ℕ)
+    → length marks ≡ length d.curves → one ≡ numbers
+    → AreMarkedTo marks true (length marks) numbers
+    → IsPairList (IsPointOnCurve d one) (length d.points + length one) l
+    → length d.points + length one < 2 ^ 32 → length d.curves < 2 ^ 32
+    → most < length l.codes.items → HasManyOn d most
+lent_many_on d marks numbers one l most size e a list few curves many =
+    has_many d marks numbers (subst (λ (n : ℕ). AreMarkedTo marks true n numbers) size a)
+    l.codes.items
+    (subst (λ (xs : List ℕ). AreCodes (IsPointOnCurve d xs) (length d.points + length xs)
+    l.codes.items) e list.pairs)
+    (subst (λ (xs : List ℕ). length d.points + length xs < 2 ^ 32) e few) curves most list.rising
+    many

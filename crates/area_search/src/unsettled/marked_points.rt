@@ -1,9 +1,11 @@
 // All objects' points on marked curves.
-ghost use Rattle.std.specs.Prelude.{◌≡◌, ◌+◌, ◌^◌, ◌<◌, ◌≤◌, ℕ, IfOk, IfSome, length, true};
+ghost use Rattle.std.specs.Prelude.{◌≡◌, ◌+◌, ◌^◌, ◌<◌, ◌≤◌, ℕ, None, IfOk, IfSome, false, length};
+ghost use Rattle.std.specs.Prelude.{true};
 ghost use Rattle.near_pairs.specs.PairLists.{AreCodes, IsCode, IsPairList};
 ghost use Rattle.plane.specs.Rule.Plans.{plan};
 ghost use Rattle.area_search.specs.Unsettled.CurvePoints.{AreMarkedTo, IsPointOnCurve};
-ghost use Rattle.area_search.specs.Unsettled.MarkedPoints.{AreDecoded, ArePairsOn, IsDecoded};
+ghost use Rattle.area_search.specs.Unsettled.MarkedPoints.{AreDecoded, ArePairsOn, HasManyOn};
+ghost use Rattle.area_search.specs.Unsettled.MarkedPoints.{IsDecoded};
 
 use super::on_curves::{OnTest, boxes};
 use crate::numbers::numbers_with;
@@ -14,8 +16,8 @@ use ports::Memory;
 use std::alloc::Global;
 
 /// All pairs of an object's point and a marked curve on which it lies, of half arcs those for which
-/// it has a side; None where more than `most` are found. The only error is out of memory. It takes
-/// the marked curves times the points that begin within their boxes along x, or the other way
+/// it has a side; None only where there are more than `most`. The only error is out of memory. It
+/// takes the marked curves times the points that begin within their boxes along x, or the other way
 /// round, 65 bytes for each of both, and 16 for each pair.
 pub fn points_on_marked(
     alloc: Global,
@@ -24,8 +26,9 @@ pub fn points_on_marked(
     most: usize,
 ) -> Result<Option<Vec<OnAt>>, Memory>
     requires { length marked.now ≡ length drawing.now.curves.items }
-    ensures { IfOk result (λ r. IfSome r (λ ons. ArePairsOn (plan drawing.now) marked.now
+    ensures some { IfOk result (λ r. IfSome r (λ ons. ArePairsOn (plan drawing.now) marked.now
         ons.items)) }
+    ensures none { IfOk result (λ r. r ≡ None → HasManyOn (plan drawing.now) most) }
 {
     let numbers = numbers_with(alloc, marked, true)?;
     let pairs = pairs_on(alloc, drawing, marked, &numbers, most)?;
@@ -47,6 +50,7 @@ fn pairs_on(
     requires { AreMarkedTo marked.now true (length drawing.now.curves.items) numbers.now }
     ensures pairs { IfOk result (IsPairList (IsPointOnCurve (plan drawing.now) numbers.now)
         (length drawing.now.points.items + length numbers.now)) }
+    ensures many { IfOk result (λ l. l.whole ≡ false → most < length l.codes.items) }
     ensures few { length drawing.now.points.items + length numbers.now < 2 ^ 32 }
 {
     plane::arcs::boxes_of_bad_curves_meet();

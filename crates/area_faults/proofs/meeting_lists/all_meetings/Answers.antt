@@ -4,7 +4,7 @@ use Rattle.plane.specs.declared.kinds.Curve.{Curve}
 use Rattle.meetings.specs.CurveBoxes.{AreReachesTo}
 use Rattle.area_faults.specs.MeetingMarks.{AreMeetingMarks}
 use Rattle.area_faults.specs.Meetings.{AreEntries}
-use Rattle.area_faults.proofs.MeetingLists.{all_meetings, bad_is_near, some_meetings}
+use Rattle.area_faults.proofs.MeetingLists.{all_meetings, bad_is_near, many_meetings}
 use Rattle.area_faults.proofs.meeting_lists.all_meetings.Goals as goal
 
 pub all-requires-clause-near : goal.all-requires-clause-near
@@ -28,7 +28,7 @@ returns-then-pairs c =
     let of = subst (λ (cs : List ℕ). AreEntries (plan w) cs c.in_ok-meetings.meetings.items)
     c.deref-4.ensures.value c.in_ok-meetings.ensures in
     all_meetings (plan w) small (length c.deref-2.result.now) size c.in_ok-pairs.pairs
-    c.in_ok-pairs.ensures c.in_ok-meetings.meetings.items of c.if-pairs.true
+    c.in_ok-pairs.ensures.pairs c.in_ok-meetings.meetings.items of c.if-pairs.true
 
 pub returns : goal.returns
 returns c =
@@ -39,5 +39,6 @@ returns c =
     ∙ ap length c.deref.ensures.value in
     let of = subst (λ (cs : List ℕ). AreEntries (plan w) cs c.in_ok-meetings.meetings.items)
     c.deref-4.ensures.value c.in_ok-meetings.ensures in
-    some_meetings (plan w) small (length c.deref-2.result.now) size c.in_ok-pairs.pairs
-    c.in_ok-pairs.ensures c.in_ok-meetings.meetings.items of
+    many_meetings (plan w) small (length c.deref-2.result.now) size c.in_ok-pairs.pairs
+    c.in_ok-pairs.ensures.pairs c.in_ok-meetings.meetings.items of
+    (c.in_ok-pairs.ensures.many c.if-pairs.false)

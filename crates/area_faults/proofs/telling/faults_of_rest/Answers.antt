@@ -1,4 +1,4 @@
-use Rattle.std.proofs.Common.{Bool, List, subst, ◌∙◌}
+use Rattle.std.proofs.Common.{Bool, List, inr, subst, ◌∙◌}
 use Rattle.plane.specs.Rule.Plans.{plan}
 use Rattle.fault_lists.specs.DrawingFaces.{HasFaces}
 use Rattle.near_pairs.specs.Boxes.{mark_of}
@@ -20,7 +20,7 @@ rest_faces-requires-clause-pairs c =
 
 pub told-requires-clause-below : goal.told-requires-clause-below
 told-requires-clause-below c =
-    let h = rw c.in-Some.is at c.in_ok-points_on_marked.ensures in
+    let h = rw c.in-Some.is at c.in_ok-points_on_marked.ensures.some in
     points_below (plan c.args.drawing.now) c.deref-2.result.now c.in-Some.pairs.items
     c.deref-in-Some-2.result.now _ c.deref-in-Some-2.ensures.value
     c.in_ok-faces-in-Some.ensures.sizes.points h
@@ -28,7 +28,7 @@ told-requires-clause-below c =
 pub returns : goal.returns
 returns c =
     let d = plan c.args.drawing.now in
-    let h = rw c.in-Some.is at c.in_ok-points_on_marked.ensures in
+    let h = rw c.in-Some.is at c.in_ok-points_on_marked.ensures.some in
     let t = (c.in_ok-faults-in-Some.ensures.faults (mark_of c.in_ok-out.out.items)
     (out_of_curves d c.args.meetings.items c.deref.result.now c.len.result c.in_ok-out.out.items
     c.deref.ensures.value (c.len.ensures
@@ -47,4 +47,5 @@ pub returns-in-None : goal.returns-in-None
 returns-in-None c = record {
   some = some_of_all (plan c.args.drawing.now) c.args.meetings.items c.requires.meetings;
   unsettled = c.requires.unsettled;
+  more = inr (c.in_ok-points_on_marked.ensures.none c.in-None.is);
 }
