@@ -7,13 +7,14 @@ usage: faults.py FAULTS geojson > OUT.geojson
 One feature or row for each fault: MEETING, ON, OUTSIDE, TWO and UNJUDGED as points, CUT as the
 straight between the two ends of its curve, EMPTY and OPEN as the polygon of the region, its outer
 ring first, without rings of lines that enclose nothing; or as that straight, where the file has no
-rings of it. A half arc is a polyline with steps of at most 5 degrees. Each has its kind, the topic,
-table and attribute of its area, the line of the transfer that it names first, the other line and
-the side; in the table the shape is text as GIS programs read it (WKT). Coordinates are those of the
-file. The reference system is named where all places lie within that of Switzerland: LV95, or LV03; a program
-that takes GeoJSON for WGS84 whatever it names has to be told. A line at fault and findings, of
-which a file tells where no area was drawn, have no place: they are in neither, and standard error says
-how many there are. It proves nothing.
+rings of it. Below BENT they are those of the bent lines. A half arc is a polyline with steps of at
+most 5 degrees. Each has its kind, the topic, table and attribute of its area, the line of the
+transfer that it names first, the other line and the side; in the table the shape is text as GIS
+programs read it (WKT). Coordinates are those of the file. The reference system is named where all
+places lie within that of Switzerland: LV95, or LV03; a program that takes GeoJSON for WGS84
+whatever it names has to be told. A line at fault and findings, of which a file tells where no area
+was drawn, have no place: they are in neither, and standard error says how many there are. It proves
+nothing.
 """
 import cmath
 import csv

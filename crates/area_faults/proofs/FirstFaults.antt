@@ -26,7 +26,7 @@ use Rattle.fault_lists.specs.declared.kinds.OnAt.{OnAt}
 use Rattle.fault_lists.specs.declared.kinds.PointPair.{PointPair}
 use Rattle.fault_lists.specs.declared.kinds.SideAt.{SideAt}
 use Rattle.fault_lists.specs.FaceLists.{side_number}
-use Rattle.fault_lists.specs.FaultLists.{AreToldTwo}
+use Rattle.fault_lists.specs.FaultLists.{ArePointsOn, AreToldTwo}
 use Rattle.fault_lists.specs.Faults.{AreTwo, LiesOn}
 use Rattle.fault_lists.specs.Sides.{side_end}
 use Rattle.area_faults.specs.Answers.{AreAllFaults}
@@ -72,7 +72,32 @@ curve_at_most : (c i : ℕ) (a b : Bool) → 2 * c + (if a then 0 else 1) ≤ 2 
     → c ≤ i
 curve_at_most c i a b l = let m = part_below b in omega (arith, l, m)
 
-module _ (d : Plan) (f : Faults) (all : AreAllFaults d f) where
+-- ---- points on curves
+pub first_on : (d : Plan) (ons : List OnAt) → ArePointsOn d ons → (j i : ℕ) → IsLeastOn d j i
+    → BeginsWith ons (on_at j i)
+first_on d ons points j i least =
+    let (o, c, e) = points.all j i least.on in
+    let is : o ≡ on_at j i = same o c (let l = e in omega (arith, l)) in
+    begins (λ (o : OnAt). o.point) ons (on_at j i) points.rise
+    (subst (λ (x : OnAt). Contains ons x) is c) same
+  where
+    same : (o : OnAt) → Contains ons o → o.point ≤ j → o ≡ on_at j i
+    same o c l = elim (cases_lt o.point j) [
+      | inl m ↦ absurd (least.no_point o.point o.curve m (points.on o c))
+      | inr m ↦
+          let p : o.point ≡ j = omega (arith, l, m) in
+          elim (cases_lt o.curve i) [
+            | inl k ↦ absurd
+                (least.no_curve o.curve k (subst (λ n. LiesOn d n o.curve) p (points.on o c)))
+            | inr k ↦ elim (cases_lt i o.curve) [
+              | inl g ↦ absurd
+                  (points.least o i c g (subst (λ n. LiesOn d n i) (sym p) least.on))
+              | inr g ↦ same_on o j i p (omega (arith, k, g))
+            ]
+          ]
+    ]
+
+module _ (d : Plan) (f : Faults) (all : AreAllFaults d d (λ i. i) f) where
   pub no_meetings : HasNoBadPair d → f.meetings.items ≡ []
   no_meetings clear =
       no_entry f.meetings.items (λ m c. clear m.first m.second (all.told.meetings.bad m c))
@@ -114,31 +139,6 @@ module _ (d : Plan) (f : Faults) (all : AreAllFaults d f) where
       unjudged = no_entry f.faces.unjudged.items (λ j c. let h = all.told.over.unjudged_is j c in
           kept h.i h.there h.left_out);
     }
-
-    -- ---- points on curves
-    pub first_on : (j i : ℕ) → IsLeastOn d j i → BeginsWith f.on.items (on_at j i)
-    first_on j i least =
-        let (o, c, e) = all.told.on.all j i least.on in
-        let is : o ≡ on_at j i = same o c (let l = e in omega (arith, l)) in
-        begins (λ (o : OnAt). o.point) f.on.items (on_at j i) all.told.on.rise
-        (subst (λ (x : OnAt). Contains f.on.items x) is c) same
-      where
-        same : (o : OnAt) → Contains f.on.items o → o.point ≤ j → o ≡ on_at j i
-        same o c l = elim (cases_lt o.point j) [
-          | inl m ↦ absurd (least.no_point o.point o.curve m (all.told.on.on o c))
-          | inr m ↦
-              let p : o.point ≡ j = omega (arith, l, m) in
-              elim (cases_lt o.curve i) [
-                | inl k ↦ absurd
-                    (least.no_curve o.curve k
-                    (subst (λ n. LiesOn d n o.curve) p (all.told.on.on o c)))
-                | inr k ↦ elim (cases_lt i o.curve) [
-                  | inl g ↦ absurd
-                      (all.told.on.least o i c g (subst (λ n. LiesOn d n i) (sym p) least.on))
-                  | inr g ↦ same_on o j i p (omega (arith, k, g))
-                ]
-              ]
-        ]
 
   -- ---- lists without an entry
   pub tells_clear : AreClear d → TellsClear f
@@ -308,7 +308,7 @@ module _ (d : Plan) (f : Faults) (all : AreAllFaults d f) where
       subst (λ k. IsFirstOf f (Meeting i k)) e.1
       (subst (λ k. IsFirstOf f (Meeting k m.second)) e.0 (first.meeting m c))
   own_first _ (answer.on j i clear least) =
-      first.on (on_at j i) (no_meetings clear) (first_on clear j i least)
+      first.on (on_at j i) (no_meetings clear) (first_on d f.on.items all.told.on j i least)
   own_first _ (answer.outside j clear s least) =
       first.outside j (tells_clear clear) (first_outside clear.pairs j least)
   own_first _ (answer.two i j inside s least) =

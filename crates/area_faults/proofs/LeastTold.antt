@@ -1,5 +1,5 @@
--- Each face without a point is told by its least side.
-use Rattle.std.proofs.Common.{◌≡◌, inl, inr, ℕ, ◌<◌, Bool, true, Option, Some, None, length}
+-- Each face of a list that has the least sides of some faces is told by its least side.
+use Rattle.std.proofs.Common.{◌≡◌, inl, inr, ℕ, ◌<◌, Bool, true, Option, Some, None, List, length}
 use Rattle.std.proofs.Common.{refl, sym, subst, arith}
 use Rattle.std.proofs.lemmas.Bool.{cases_lt}
 use Rattle.plane.specs.Rule.LeftOut.{IsRestOf}
@@ -7,19 +7,19 @@ use Rattle.plane.specs.Rule.Places.{Place, Vector}
 use Rattle.plane.specs.Rule.Plans.{Plan}
 use Rattle.fault_lists.specs.declared.faces.CurveFaces.{CurveFaces}
 use Rattle.fault_lists.specs.declared.faces.DrawingFaces.{DrawingFaces}
-use Rattle.fault_lists.specs.declared.kinds.FaceFaults.{FaceFaults}
 use Rattle.fault_lists.specs.declared.kinds.SideAt.{SideAt}
 use Rattle.fault_lists.specs.DrawingFaces.{AreCurveFaces, AreDrawingFaces, face_count, faces_of}
-use Rattle.fault_lists.specs.FaceLists.{AreFaceFaults, face_beside, IsEmptyFace, IsLeastSideOf}
+use Rattle.fault_lists.specs.FaceLists.{face_beside, HasExactly, IsLeastSideOf}
 use Rattle.fault_lists.specs.FaceLists.{IsSide, side_number}
 use Rattle.fault_lists.specs.FaultLists.{IsBeside}
 use Rattle.fault_lists.proofs.FacesOfRest as faces
 use Rattle.area_faults.specs.Answers.{AreLeastSides}
 
-module _ (d r : Plan) (out : ℕ → Bool) (rest : IsRestOf d r out) (f : DrawingFaces) (t : FaceFaults)
-    (D : AreDrawingFaces d r out rest f) (T : AreFaceFaults f t) where
+module _ (d r : Plan) (out : ℕ → Bool) (rest : IsRestOf d r out) (f : DrawingFaces)
+    (D : AreDrawingFaces d r out rest f) (Is : ℕ → Type 0) (sides : List SideAt)
+    (T : HasExactly (IsLeastSideOf f Is) side_number sides) where
   -- a side beside the same place is one of the same face
-  same_face : (s o : SideAt) (z : Vector) → IsLeastSideOf f (IsEmptyFace f) s
+  same_face : (s o : SideAt) (z : Vector) → IsLeastSideOf f Is s
       → (out o.curve ≡ true → ⊥) → Place z → IsBeside d r out rest s z → IsBeside d r out rest o z
       → (n : ℕ) × IsSide f n o × ((m : ℕ) → IsSide f m s → m ≡ n)
   same_face s o z h kept Z b e = by (faces_of f o.curve) refl
@@ -46,9 +46,9 @@ module _ (d r : Plan) (out : ℕ → Bool) (rest : IsRestOf d r out) (f : Drawin
                 (faces.in_one d r out rest f D z z m Z Z i i)),
           )
 
-  pub least_sides : AreLeastSides d r out rest t.empty.items
+  pub least_sides : AreLeastSides d r out rest sides
   least_sides s o z c kept Z b e =
-      let h = (T.empty.is s).0 c in
+      let h = (T.is s).0 c in
       let (n, side, same) = same_face s o z h kept Z b e in
       elim (cases_lt (side_number o) (side_number s)) [
         | inl l ↦ absurd

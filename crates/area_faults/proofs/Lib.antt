@@ -33,3 +33,4 @@ pub mod Firsts
 pub mod FirstFaults
 pub mod NoFaults
 pub mod ToldRings
+pub mod BentFirsts

@@ -59,7 +59,23 @@ no_such_cut d i l c =
     (λ (b : Point). pos 0 <ℤ turn a (point b) c.p) ends x.above in
     not_positive (turn a a c.p) (no_turn a c.p) above
 
-module _ (d : Plan) (f : Faults) (all : AreAllFaults d f) where
+abbrev pub ProvedAreRight : Type 0
+ProvedAreRight =
+    (t : ℤ) (d : Plan) (c : Certificate) → IsAnswerBy t d (Proved c)
+    → ProvesGround t d c.bent (claims c)
+
+-- ---- where there is no fault none is first
+pub no_first : (f : Faults) (x : AreaFinding) → IsFirstOf f x → TellsNoFault f → ⊥
+no_first f _ (first.meeting m c) n =
+    none_in f.meetings.items m n.filled.alone.inside.clear.meetings c
+no_first f _ (first.on o h b) n = no_begin f.on.items o n.filled.alone.inside.clear.on b
+no_first f _ (first.outside j h b) n =
+    no_begin f.faces.outside.items j n.filled.alone.inside.outside b
+no_first f _ (first.two p h b) n = none_in f.faces.shared.items p n.filled.alone.shared b.told
+no_first f _ (first.empty s h b) n = no_begin f.faces.empty.items s n.filled.empty b
+no_first f _ (first.cut i h b) n = no_begin f.faces.cuts.items i n.cuts b
+
+module _ (d : Plan) (f : Faults) (all : AreAllFaults d d (λ i. i) f) where
   -- ---- an area has no fault
   module _ (area : IsArea d) (clear : AreClear d) where
     are_inside : AreInside d
@@ -95,11 +111,6 @@ module _ (d : Plan) (f : Faults) (all : AreAllFaults d f) where
       cuts = no_entry f.faces.cuts.items no_cut;
     }
 
-  abbrev ProvedAreRight : Type 0
-  ProvedAreRight =
-      (t : ℤ) (d : Plan) (c : Certificate) → IsAnswerBy t d (Proved c)
-      → ProvesGround t d c.bent (claims c)
-
   own_area : (t : ℤ) (is_bent : Bool) (c : Certificate) → ProvesGround t d is_bent (claims c)
       → IsArea d
   own_area t is_bent c p = by_ground p.right.is_ground
@@ -116,16 +127,6 @@ module _ (d : Plan) (f : Faults) (all : AreAllFaults d f) where
   proved_has_none law t (Undecided j k) h i = absurd i
 
   -- ---- where there is no fault the answer is a certificate
-  no_first : (x : AreaFinding) → IsFirstOf f x → TellsNoFault f → ⊥
-  no_first _ (first.meeting m c) n =
-      none_in f.meetings.items m n.filled.alone.inside.clear.meetings c
-  no_first _ (first.on o h b) n = no_begin f.on.items o n.filled.alone.inside.clear.on b
-  no_first _ (first.outside j h b) n =
-      no_begin f.faces.outside.items j n.filled.alone.inside.outside b
-  no_first _ (first.two p h b) n = none_in f.faces.shared.items p n.filled.alone.shared b.told
-  no_first _ (first.empty s h b) n = no_begin f.faces.empty.items s n.filled.empty b
-  no_first _ (first.cut i h b) n = no_begin f.faces.cuts.items i n.cuts b
-
   not_undecided : (t : ℤ) (i j : ℕ) → IsAnswerBy t d (Undecided i j) → ⊥
   not_undecided t i j (by.own h n) = absurd n
   not_undecided t i j (by.bent g os b clear u bo cg s h e) = not_unsettled d f all clear.pairs u
@@ -134,5 +135,5 @@ module _ (d : Plan) (f : Faults) (all : AreAllFaults d f) where
 
   pub none_are_proved : (t : ℤ) (a : AreaAnswer) → IsAnswerBy t d a → TellsNoFault f → IsProved a
   none_are_proved t (Proved c) h n = tt
-  none_are_proved t (Fault x) h n = absurd (no_first x (is_first d f all t x h) n)
+  none_are_proved t (Fault x) h n = absurd (no_first f x (is_first d f all t x h) n)
   none_are_proved t (Undecided i j) h n = absurd (not_undecided t i j h)

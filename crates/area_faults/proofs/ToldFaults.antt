@@ -1,5 +1,6 @@
 -- What is told by marks, pairs and faces.
-use Rattle.std.proofs.Common.{◌≡◌, inl, inr, ℕ, ◌<◌, Bool, true, false, List, [], length, get_or}
+use Rattle.std.proofs.Common.{◌≡◌, inl, inr, ℕ, ◌<◌, ℤ, Bool, true, false, List, [], ◌∷◌, length}
+use Rattle.std.proofs.Common.{get_or}
 use Rattle.std.proofs.Common.{refl, sym, ◌∙◌, ap, subst, arith}
 use Rattle.std.specs.List.{Contains}
 use Rattle.std.proofs.lemmas.List.Elements.{Contains-get_or}
@@ -8,13 +9,16 @@ use Rattle.plane.specs.Rule.Plans.{Plan}
 use Rattle.near_pairs.specs.Boxes.{mark_of}
 use Rattle.tubes.specs.DrawnEdges.{AreStraights}
 use Rattle.tubes.specs.Settled.{IsSettledAt}
-use Rattle.area_search.specs.Answers.{HasNoBadPair, IsSettled}
+use Rattle.area_search.specs.Answers.{HasNoBadPair, IsSettled, IsUnsettled}
+use Rattle.forks.specs.Bent.{IsBentOf}
+use Rattle.forks.specs.Grounds as grounds
 use Rattle.area_search.specs.Unsettled.MarkedPoints.{ArePairsOn}
 use Rattle.fault_lists.specs.FaultLists.{AreMeetings}
 use Rattle.fault_lists.specs.declared.kinds.Faults.{Faults}
 use Rattle.fault_lists.specs.declared.kinds.MeetingAt.{MeetingAt}
 use Rattle.fault_lists.specs.declared.kinds.OnAt.{OnAt}
-use Rattle.area_faults.specs.Answers.{AreAllFaults, AreBelow, AreLeftOut, HaveRings, IsToldWith}
+use Rattle.area_faults.specs.Answers.{AreAllFaults, AreBelow, AreBentFaults, AreLeftOut, HaveRings}
+use Rattle.area_faults.specs.Answers.{IsToldWith, root}
 use Rattle.area_faults.specs.Meetings.{AreSomeMeetings}
 use Rattle.area_faults.specs.PointLists.{ArePairsFor, HasPointBelow}
 
@@ -35,7 +39,7 @@ met_below d ms lent n e f a k x l =
 
 pub both_out : (d : Plan) (ms lent : List MeetingAt) (n : ℕ) (marks seen : List Bool) → lent ≡ ms
     → n ≡ length d.curves → seen ≡ marks → AreMeetings d ms
-    → AreLeftOut n lent false (mark_of marks) → (i j : ℕ) → IsBadPair d i j
+    → AreLeftOut n (λ i. i) lent false (mark_of marks) → (i j : ℕ) → IsBadPair d i j
     → (mark_of seen i ≡ true) × (mark_of seen j ≡ true)
 both_out d ms lent n marks seen e f g a out i j p =
     let (m, c, q) = a.all i j p in
@@ -49,11 +53,11 @@ both_out d ms lent n marks seen e f g a out i j p =
     )
 
 pub out_of_curves : (d : Plan) (ms lent : List MeetingAt) (n : ℕ) (marks : List Bool) → lent ≡ ms
-    → n ≡ length d.curves → AreLeftOut n lent false (mark_of marks)
-    → AreLeftOut (length d.curves) ms false (mark_of marks)
+    → n ≡ length d.curves → AreLeftOut n (λ i. i) lent false (mark_of marks)
+    → AreLeftOut (length d.curves) (λ i. i) ms false (mark_of marks)
 out_of_curves d ms lent n marks e f h =
-    subst (λ (k : ℕ). AreLeftOut k ms false (mark_of marks)) f
-    (subst (λ (xs : List MeetingAt). AreLeftOut n xs false (mark_of marks)) e h)
+    subst (λ (k : ℕ). AreLeftOut k (λ i. i) ms false (mark_of marks)) f
+    (subst (λ (xs : List MeetingAt). AreLeftOut n (λ i. i) xs false (mark_of marks)) e h)
 
 pub some_of_all : (d : Plan) (ms : List MeetingAt) → AreMeetings d ms → AreSomeMeetings d ms
 some_of_all d ms a = record {
@@ -106,12 +110,13 @@ no_pairs d pairs e = record {
     none o (k, l, q) = omega (arith, l)
 
 -- ---- what is left out
-pub all_out : (d : Plan) (ms : List MeetingAt) → AreLeftOut (length d.curves) ms true (λ i. true)
+pub all_out : (d : Plan) (ms : List MeetingAt)
+    → AreLeftOut (length d.curves) (λ i. i) ms true (λ i. true)
 all_out d ms i l = ((λ e. inr refl), (λ e. refl))
 
-pub none_out : (d : Plan) (ms : List MeetingAt) → ms ≡ []
-    → AreLeftOut (length d.curves) ms false (λ i. false)
-none_out d ms e i l = (
+pub none_out : (g : Plan) (origin : ℕ → ℕ) (ms : List MeetingAt) → ms ≡ []
+    → AreLeftOut (length g.curves) origin ms false (λ i. false)
+none_out g origin ms e i l = (
   (λ q. clash q),
   (λ q. elim q [
     | inl m ↦ absurd (none m.0 (subst (λ (xs : List MeetingAt). Contains xs m.0) e m.1))
@@ -134,12 +139,13 @@ no_meetings d ms e clear = subst (AreMeetings d) (sym e) (record {
     none : (m : MeetingAt) → Contains [] m → ⊥
     none m (k, h, q) = omega (arith, h)
 
-pub all_faults : (d : Plan) (f : Faults) → IsToldWith d false f
-    → (f.meetings.items ≡ [] → IsSettled d) → HaveRings f.empty.items → HaveRings f.open.items
-    → AreAllFaults d f
-all_faults d f h s r o = record {
+pub all_faults : (d g : Plan) (origin : ℕ → ℕ) (f : Faults) → IsToldWith d g origin false f
+    → (f.meetings.items ≡ [] → IsSettled g) → HaveRings f.empty.items → HaveRings f.open.items
+    → AreAllFaults d g origin f
+all_faults d g origin f h s r o = record {
   told = h.told;
   least = h.least;
+  open_least = h.open_least;
   kept = h.out;
   settled = s;
   rings = r;
@@ -148,7 +154,7 @@ all_faults d f h s r o = record {
 
 abbrev StraightsAreSettled : Type 0
 StraightsAreSettled =
-    (d : Plan) → AreStraights d → ((k l : ℕ) → IsBadPair d k l → ⊥) → IsSettledAt d 0
+    (d : Plan) → AreStraights d → ((k l : ℕ) → IsBadPair d k l → ⊥) → IsSettledAt d (λ n. 0)
 
 -- straights of which no two meet badly
 pub settled_straights : StraightsAreSettled → (d : Plan) (ms : List MeetingAt) → AreStraights d
@@ -169,3 +175,36 @@ settled_straights law d ms s a e = (
     none k l bad =
         let (m, c, q) = a.all k l bad in
         no_one m (subst (λ (xs : List MeetingAt). Contains xs m) e c)
+
+-- ---- the ground
+pub no_bad_pair : (d : Plan) (ms : List MeetingAt) → AreMeetings d ms → ms ≡ [] → HasNoBadPair d
+no_bad_pair d ms a e k l bad =
+    let (m, c, q) = a.all k l bad in
+    no_one m (subst (λ (xs : List MeetingAt). Contains xs m) e c)
+  where
+    no_one : (m : MeetingAt) → Contains [] m → ⊥
+    no_one m (k, l, q) = omega (arith, l)
+
+none_left : (ms : List MeetingAt) → length ms ≡ 0 → ms ≡ []
+none_left [] h = refl
+none_left (m ∷ ms) h = absurd (omega (arith, h))
+
+pub none_of : (ms lent : List MeetingAt) → lent ≡ ms → length lent ≡ 0 → ms ≡ []
+none_of ms lent e h = none_left ms (subst (λ (xs : List MeetingAt). length xs ≡ 0) e h)
+
+pub some_of : (ms lent : List MeetingAt) → lent ≡ ms → 0 < length lent → ms ≡ [] → ⊥
+some_of ms lent e h n = let k = ap length (e ∙ n) in omega (arith, h, k)
+
+-- on a bent drawing that some level settles
+pub bent_faults : (t : ℤ) (d g : Plan) (os : List ℕ) (f : Faults) → IsUnsettled d
+    → IsBentOf t d g os → IsSettled g → f.meetings.items ≡ [] → IsToldWith d g (root os) false f
+    → HaveRings f.empty.items → HaveRings f.open.items → AreBentFaults t d g os f
+bent_faults t d g os f u b s e h r o = record {
+  right = record {
+    is_ground = grounds.bent refl b;
+    own = λ q. clash (sym q);
+    bent = λ q. u;
+  };
+  clear = e;
+  all = all_faults d g (root os) f h (λ q. s) r o;
+}

@@ -1,6 +1,7 @@
 -- The first of all faults that are told, in the order in which a search answers them.
 use Rattle.std.specs.Prelude.{◌≡◌, ◌⊎◌, ℕ, ◌<◌, ◌≤◌, false, List, [], ◌∷◌, ⊤}
 use Rattle.std.specs.List.{Contains}
+use Rattle.area_search.specs.Grounds.{named_finding}
 use Rattle.area_search.specs.declared.kinds.AreaAnswer.{AreaAnswer}
 use Rattle.area_search.specs.declared.kinds.AreaAnswer.TheVariants.{Proved, Fault, Undecided}
 use Rattle.area_search.specs.declared.kinds.AreaFinding.{AreaFinding}
@@ -74,6 +75,10 @@ pub data IsFirstOf (f : Faults) : AreaFinding → Type 0 where
       → IsFirstOf f (Empty s.curve s.left)
   -- else the first curve with one face on both sides
   cut : (i : ℕ) → TellsFilled f → BeginsWith f.faces.cuts.items i → IsFirstOf f (Cut i)
+
+-- The fault is the first, with the curve of which the bent one is a part for that one.
+abbrev pub IsFirstBy : List ℕ → Faults → AreaFinding → Type 0
+IsFirstBy origin f x = (y : AreaFinding) × IsFirstOf f y × (x ≡ named_finding origin y)
 
 -- The answer is a certificate.
 abbrev pub IsProved : AreaAnswer → Type 0

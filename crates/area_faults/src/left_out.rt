@@ -17,7 +17,7 @@ pub fn left_out_marks(
 ) -> Result<Vec<bool>, Memory>
     requires { All (AreBelow count) meetings.now }
     ensures size { IfOk result (λ marks. length marks.items ≡ count) }
-    ensures marked { IfOk result (λ marks. AreLeftOut count meetings.now false
+    ensures marked { IfOk result (λ marks. AreLeftOut count (λ i. i) meetings.now false
         (mark_of marks.items)) }
 {
     let mut marks = vec![in alloc; false; count]?;

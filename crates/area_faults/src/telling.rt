@@ -1,15 +1,16 @@
 // All faults of a drawing.
-ghost use Rattle.std.specs.Prelude.{◌≡◌, ◌≤◌, ◌<◌, ℕ, Bool, IfOk, false, length, true, []};
+ghost use Rattle.std.specs.Prelude.{◌≡◌, ◌≢◌, ◌<◌, ◌≤◌, ℕ, Bool, IfOk, false, length, true, []};
 ghost use Rattle.std.specs.List.{All};
-ghost use Rattle.plane.specs.Rule.Plans.{plan};
+ghost use Rattle.plane.specs.Rule.Plans.{Plan, plan};
 ghost use Rattle.plane.specs.declared.kinds.CurveKind.TheVariants as kind;
-ghost use Rattle.tubes.specs.DrawnEdges.{AreStraights, nth_curve};
-ghost use Rattle.area_search.specs.Answers.{IsUnsettled};
+ghost use Rattle.tubes.specs.DrawnEdges.{AreAllStraight, AreStraights};
+ghost use Rattle.area_search.specs.Answers.{HasNoBadPair, IsUnsettled};
 ghost use Rattle.area_search.specs.Level.LevelAnswers.{AreFacesOf};
 ghost use Rattle.fault_lists.specs.DrawingFaces.{HasFaces, IsNumbered};
-ghost use Rattle.fault_lists.specs.FaultLists.{AreMeetings};
+ghost use Rattle.fault_lists.specs.FaultLists.{AreMeetings, ArePointsOn};
 ghost use Rattle.fault_lists.specs.Rings.{GoRound};
-ghost use Rattle.area_faults.specs.Answers.{AreLeftOut, HaveRings, IsToldOf, IsToldWith};
+ghost use Rattle.area_faults.specs.Answers.{AreBentIfAny, AreLeftOut, HaveRings, IsToldOf};
+ghost use Rattle.area_faults.specs.Answers.{IsToldWith};
 ghost use Rattle.area_faults.specs.PointLists.{ArePairsFor, HasPointBelow};
 
 use crate::kinds::AreaFaults;
@@ -21,6 +22,7 @@ use crate::rest::rest_faces;
 use area_search::{SettledFaces, find_area, points_on_marked, settled_faces};
 use fault_lists::laws::{numbers_tell_faults, numbers_tell_rings};
 use fault_lists::{DrawingFaces, Faults, MeetingAt, OnAt, face_faults, regions};
+use forks::{Bent, bent};
 use meetings::BadPair;
 use plane::{Curve, CurveKind, Drawing};
 use ports::Memory;
@@ -35,6 +37,7 @@ pub fn all_faults(alloc: Global, drawing: &Drawing) -> Result<AreaFaults, Memory
     requires curves { length (plan drawing.now).curves ≤ 16000000 }
     ensures { IfOk result (IsToldOf drawing.now.tolerance (plan drawing.now)) }
 {
+    tubes::laws::few_curves_have_few_edges();
     match settled_faces(alloc, drawing)? {
         SettledFaces::Settled(faces) => faults_of_settled(alloc, drawing, &faces),
         SettledFaces::Unsettled(bad) => faults_of_unsettled(alloc, drawing, bad),
@@ -73,7 +76,7 @@ fn faults_of_unsettled(
             if are_straights(&drawing.curves) {
                 faults_of_rest(alloc, drawing, meetings)
             } else {
-                faults_without_faces(alloc, drawing, meetings)
+                faults_with_arcs(alloc, drawing, meetings)
             }
         }
     }
@@ -96,20 +99,49 @@ fn told(
     requires below { All (HasPointBelow (length faces.now.points.items)) pairs.now }
     ensures meetings { IfOk result (λ f. f.meetings ≡ meetings) }
     ensures faults { (out : ℕ → Bool)
-        → AreLeftOut (length (plan drawing.now).curves) meetings.items all_out out
+        → AreLeftOut (length (plan drawing.now).curves) (λ i. i) meetings.items all_out out
         → HasFaces (plan drawing.now) out faces.now → ArePairsFor (plan drawing.now) out pairs.now
-        → IfOk result (IsToldWith (plan drawing.now) all_out) }
+        → IfOk result (IsToldWith (plan drawing.now) (plan drawing.now) (λ i. i) all_out) }
     ensures rings { IfOk result (λ f. GoRound (plan drawing.now) faces.now
         → HaveRings f.empty.items) }
     ensures open_rings { IfOk result (λ f. GoRound (plan drawing.now) faces.now
         → HaveRings f.open.items) }
 {
+    let on = all_on(alloc, faces, pairs)?;
+    let faults = told_on(alloc, drawing, meetings, on, faces, all_out)?;
+    Ok(faults)
+}
+
+// The faults of a drawing on a ground without some curves: these pairs that meet badly, these
+// points on curves, and what the faces of the others tell. Where sides go round the faces, each
+// that is told has its rings.
+fn told_on(
+    alloc: Global,
+    ground: &Drawing,
+    meetings: Vec<MeetingAt>,
+    on: Vec<OnAt>,
+    faces: &DrawingFaces,
+    all_out: bool,
+) -> Result<Faults, Memory>
+    requires numbered { IsNumbered faces.now }
+    requires points { length faces.now.points.items ≡ length (plan ground.now).points }
+    requires curves { length faces.now.curves.items ≡ length (plan ground.now).curves }
+    ensures meetings { IfOk result (λ f. f.meetings ≡ meetings) }
+    ensures faults { (d : Plan) (origin : ℕ → ℕ) (out : ℕ → Bool)
+        → AreMeetings d meetings.items → ArePointsOn d on.items
+        → AreLeftOut (length (plan ground.now).curves) origin meetings.items all_out out
+        → HasFaces (plan ground.now) out faces.now
+        → IfOk result (IsToldWith d (plan ground.now) origin all_out) }
+    ensures rings { IfOk result (λ f. GoRound (plan ground.now) faces.now
+        → HaveRings f.empty.items) }
+    ensures open_rings { IfOk result (λ f. GoRound (plan ground.now) faces.now
+        → HaveRings f.open.items) }
+{
     numbers_tell_faults();
     numbers_tell_rings();
-    let on = all_on(alloc, faces, pairs)?;
     let found = face_faults(alloc, faces)?;
-    let empty = regions(alloc, drawing, faces, &found.empty)?;
-    let open = regions(alloc, drawing, faces, &found.open)?;
+    let empty = regions(alloc, ground, faces, &found.empty)?;
+    let open = regions(alloc, ground, faces, &found.open)?;
     Ok(Faults {
         meetings,
         on,
@@ -144,14 +176,16 @@ fn faults_of_rest(
     }
 }
 
-// The pairs that meet badly and the points on curves, where all curves are left out; and the answer
-// of the search.
-fn faults_without_faces(
+// The faults of a drawing with a half arc: those on the bent drawing, where no two curves meet
+// badly and some level settles that; else the pairs that meet badly and the points on curves, where
+// all curves are left out, and the answer of the search.
+fn faults_with_arcs(
     alloc: Global,
     drawing: &Drawing,
     meetings: Vec<MeetingAt>,
 ) -> Result<AreaFaults, Memory>
     requires curves { length (plan drawing.now).curves ≤ 16000000 }
+    requires bent { AreStraights (plan drawing.now) → ⊥ }
     requires unsettled { IsUnsettled (plan drawing.now) }
     requires meetings { AreMeetings (plan drawing.now) meetings.items }
     ensures { IfOk result (IsToldOf drawing.now.tolerance (plan drawing.now)) }
@@ -162,16 +196,73 @@ fn faults_without_faces(
         Some(pairs) => {
             let faces = one_open_face(alloc, drawing)?;
             let faults = told(alloc, drawing, meetings, &faces, &pairs, true)?;
+            faults_by_ground(alloc, drawing, faults)
+        }
+    }
+}
+
+// The same by these faults without faces.
+fn faults_by_ground(alloc: Global, drawing: &Drawing, faults: Faults) -> Result<AreaFaults, Memory>
+    requires curves { length (plan drawing.now).curves ≤ 16000000 }
+    requires bent { AreStraights (plan drawing.now) → ⊥ }
+    requires unsettled { IsUnsettled (plan drawing.now) }
+    requires told { IsToldWith (plan drawing.now) (plan drawing.now) (λ i. i) true faults }
+    ensures { IfOk result (IsToldOf drawing.now.tolerance (plan drawing.now)) }
+{
+    if has_meeting(&faults.meetings) {
+        let answer = find_area(alloc, drawing)?;
+        return Ok(AreaFaults::Unsettled(faults, answer));
+    }
+    match bent_faults(alloc, drawing, &faults.on)? {
+        Some((faults, copy)) => Ok(AreaFaults::Bent(faults, copy)),
+        None => {
             let answer = find_area(alloc, drawing)?;
             Ok(AreaFaults::Unsettled(faults, answer))
         }
     }
 }
 
+fn has_meeting(meetings: &[MeetingAt]) -> bool
+    ensures yes { result ≡ true → 0 < length meetings.now }
+    ensures no { result ≡ false → length meetings.now ≡ 0 }
+{
+    !meetings.is_empty()
+}
+
+// The faults of a drawing no two curves of which meet badly, by what becomes of it when its forks
+// are bent, with that; none where no level settles it. These are the points on curves.
+fn bent_faults(
+    alloc: Global,
+    drawing: &Drawing,
+    on: &[OnAt],
+) -> Result<Option<(Faults, Bent)>, Memory>
+    requires curves { length (plan drawing.now).curves ≤ 16000000 }
+    requires unsettled { IsUnsettled (plan drawing.now) }
+    requires clear { HasNoBadPair (plan drawing.now) }
+    requires on { ArePointsOn (plan drawing.now) on.now }
+    ensures { IfOk result (AreBentIfAny drawing.now.tolerance (plan drawing.now)) }
+{
+    forks::laws::nothing_bent();
+    certificate_checker::laws::bent_has_few_edges();
+    let copy = bent(alloc, drawing)?;
+    if copy.drawing.curves.len() == drawing.curves.len() {
+        return Ok(None);
+    }
+    match settled_faces(alloc, &copy.drawing)? {
+        SettledFaces::Unsettled(_) => Ok(None),
+        SettledFaces::Settled(faces) => {
+            let on = Vec::from_slice(alloc, on)?;
+            let meetings = Vec::new(alloc);
+            let faults = told_on(alloc, &copy.drawing, meetings, on, &faces, false)?;
+            Ok(Some((faults, copy)))
+        }
+    }
+}
+
 // Whether all curves are straights.
 fn are_straights(curves: &[Curve]) -> bool
-    ensures { result ≡ true → (i : ℕ) → i < length curves.now
-        → (nth_curve curves.now i).kind ≡ kind.Straight }
+    ensures straights { result ≡ true → AreAllStraight curves.now }
+    ensures bent { result ≡ false → AreAllStraight curves.now → ⊥ }
 {
     for number in 0..curves.len() {
         if is_half_arc(&curves[number]) {
@@ -182,7 +273,8 @@ fn are_straights(curves: &[Curve]) -> bool
 }
 
 fn is_half_arc(curve: &Curve) -> bool
-    ensures { result ≡ false → curve.now.kind ≡ kind.Straight }
+    ensures straight { result ≡ false → curve.now.kind ≡ kind.Straight }
+    ensures arc { result ≡ true → curve.now.kind ≢ kind.Straight }
 {
     match curve.kind {
         CurveKind::HalfArc => true,

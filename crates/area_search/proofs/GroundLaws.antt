@@ -294,13 +294,13 @@ module _ (laws : Laws) where
 -- ---- the pair of an undecided drawing
 -- it comes from no level that settles
 undecided_is : (t : ℤ) (d : Plan) (i j : ℕ) → IsAnswerBy t d (Undecided i j)
-    → AreClear d × IsUnsettled d × IsFirstBreak d 5 i j
+    → AreClear d × IsUnsettled d × IsFirstBreak d (λ n. 5) i j
 undecided_is t d i j (by.own h n) = absurd n
 undecided_is t d i j (by.bent g os b c u bo cg s h e) =
     absurd (never_undecided g i j s (subst (IsAnswer g) (was_undecided os i j b e) h))
 undecided_is t d i j (by.undecided g os k l c u bo ug br e) =
     let (p, q) = same_numbers i j k l e in
-    (c, u, subst (λ (x : ℕ). IsFirstBreak d 5 x j) (sym p) (subst (IsFirstBreak d 5 k) (sym q) br))
+    (c, u, subst (λ (x : ℕ). IsFirstBreak d (λ n. 5) x j) (sym p) (subst (IsFirstBreak d (λ n. 5) k) (sym q) br))
   where
     same_numbers : (i j k l : ℕ) → Undecided i j ≡ Undecided k l → (i ≡ k) × (j ≡ l)
     same_numbers i j k l e = (cc, cc)

@@ -49,7 +49,7 @@ own_meeting t d i j b = by.own (meeting i j b) tt
 -- ---- no level settles the drawing
 -- where the drawing is clear and not settled, its own answer is the pair that breaks the last level
 pub own_undecided : (d : Plan) (a : AreaAnswer) → AreClear d → IsUnsettled d → IsAnswer d a
-    → (i : ℕ) × (j : ℕ) × (a ≡ Undecided i j) × IsFirstBreak d 5 i j
+    → (i : ℕ) × (j : ℕ) × (a ≡ Undecided i j) × IsFirstBreak d (λ n. 5) i j
 own_undecided d _ c u (meeting i j b) = absurd (c.pairs i j b)
 own_undecided d _ c u (on j i n l) = absurd (c.points j i l.on)
 own_undecided d _ c u (undecided i j n w b) = (i, j, refl, b)
@@ -188,6 +188,6 @@ undecided_ok t d c u b (Err e) h = h
 -- ---- level by level
 -- no level below the next one settles the drawing
 pub none_below_next : (d : Plan) (level : ℕ) → SettlesNoneBelow d level
-    → (IsSettledAt d level → ⊥) → SettlesNoneBelow d (level + 1)
+    → (IsSettledAt d (λ n. level) → ⊥) → SettlesNoneBelow d (level + 1)
 none_below_next d level none not_here l low s =
-    less_or l level ⊥ low (λ m. none l m s) (λ e. not_here (subst (IsSettledAt d) e s))
+    less_or l level ⊥ low (λ m. none l m s) (λ e. not_here (subst (λ (k : ℕ). IsSettledAt d (λ n. k)) e s))

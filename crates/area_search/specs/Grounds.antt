@@ -62,7 +62,7 @@ pub data IsAnswerBy (t : ℤ) (d : Plan) (a : AreaAnswer) : Type 0 where
       → IsAnswerBy t d a
   -- else the least pair of the drawing that breaks the last level
   undecided : (g : Plan) (origin : List ℕ) (i j : ℕ) → AreClear d → IsUnsettled d
-      → IsBentOf t d g origin → IsUnsettled g → IsFirstBreak d 5 i j → a ≡ Undecided i j
+      → IsBentOf t d g origin → IsUnsettled g → IsFirstBreak d (λ n. 5) i j → a ≡ Undecided i j
       → IsAnswerBy t d a
 
 -- ---- what the parts of the search answer

@@ -151,7 +151,7 @@ fn answer_bent(
 fn first_undecided(alloc: Global, drawing: &Drawing, marks: &[bool]) -> Result<AreaAnswer, Memory>
     requires few { length (plan drawing.now).curves ≤ 16000000 }
     requires size { length marks.now ≡ length drawing.now.curves.items }
-    requires marked { AreBreaksMarked (plan drawing.now) 5 marks.now }
+    requires marked { AreBreaksMarked (plan drawing.now) (λ n. 5) marks.now }
     requires clear { AreClear (plan drawing.now) }
     requires unsettled { IsUnsettled (plan drawing.now) }
     ensures { IfOk result (IsAnswer (plan drawing.now)) }

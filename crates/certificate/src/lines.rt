@@ -30,6 +30,10 @@ fn put_digits<S: Shelf>(shelf: &mut S, name: &str, page: &mut Page, number: u64)
         (sight (S.held shelf.new) (S.space shelf.new name.now) (S.read_faults shelf.new)
         (S.write_faults shelf.new)) page.new }
 {
+    if number < 10 {
+        put_byte(shelf, name, page, b'0' + number as u8);
+        return;
+    }
     let mut digits = Buffer::new();
     put(shelf, name, page, digits.format(number).as_bytes());
 }

@@ -133,13 +133,13 @@ module _ (c : Case) (fit : IsFit c) where
   abbrev level : ℕ
   level = s.claims.level
 
-  pub edges_count : length s.edges ≡ length (edges_at d level)
+  pub edges_count : length s.edges ≡ length (edges_at d (λ n. level))
   edges_count = ap length fit.edges_are
 
   pub owners_count : length c.owners.now ≡ length s.edges
   owners_count = ap length fit.owners
-      ∙ length-map (runs.edge_list (drawn_bays d level) 0 d.curves) owner_as
-      ∙ sym (edge_count d level) ∙ sym edges_count
+      ∙ length-map (runs.edge_list (drawn_bays d (λ n. level)) 0 d.curves) owner_as
+      ∙ sym (edge_count d (λ n. level)) ∙ sym edges_count
 
   pub facings_count : length c.facings.now ≡ length s.edges
   facings_count = fit.facings.count ∙ sym edges_count
@@ -148,8 +148,8 @@ module _ (c : Case) (fit : IsFit c) where
       → get_or c.owners.now e z ≡ owner_as (owned_of s e)
   owner_at e z l =
       ap (λ (os : List Owner). get_or os e z) fit.owners
-      ∙ mapped (runs.edge_list (drawn_bays d level) 0 d.curves) e (let a = edges_count in
-      let b = edge_count d level in omega (arith, l, a, b))
+      ∙ mapped (runs.edge_list (drawn_bays d (λ n. level)) 0 d.curves) e (let a = edges_count in
+      let b = edge_count d (λ n. level) in omega (arith, l, a, b))
     where
       mapped : (os : List runs.Owned) (k : ℕ) → k < length os
           → get_or (map owner_as os) k z ≡ owner_as (get_or os k runs.no_edge)
@@ -166,7 +166,7 @@ module _ (c : Case) (fit : IsFit c) where
       → (owned_of s e).part ≡ side_part inside → IsHalfArc d i
   chain_arc e i inside l q p =
       subst (IsHalfArc d) (sym q)
-      ((of_half_arc d level e (let a = edges_count in omega (arith, l, a))).0
+      ((of_half_arc d (λ n. level) e (let a = edges_count in omega (arith, l, a))).0
       (chain_tube e inside p))
 
   within_edge : (e : ℕ) → edge_of (within s e) ≡ e
@@ -258,7 +258,7 @@ module _ (c : Case) (fit : IsFit c) where
   pub first_inside : (i : ℕ) → IsHalfArc d i
       → IsFirstOf s true i (runs.first_edge (bays_of s) 0 d.curves i)
   first_inside i h =
-      let o = first_inner d level i h (fit.counts.edges.tubes i h) in
+      let o = first_inner d (λ n. level) i h (fit.counts.edges.tubes i h) in
       record {
         there = (let a = o.there in let b = edges_count in omega (arith, a, b));
         of_tube = subst runs.IsOfTube (sym o.part) tt;
@@ -268,7 +268,7 @@ module _ (c : Case) (fit : IsFit c) where
   pub first_outside : (i : ℕ) → IsHalfArc d i
       → IsFirstOf s false i (runs.first_edge (bays_of s) 0 d.curves i + length (bays_of s i))
   first_outside i h =
-      let o = first_outer d level i h in
+      let o = first_outer d (λ n. level) i h in
       record {
         there = (let a = o.there in let b = edges_count in omega (arith, a, b));
         of_tube = subst runs.IsOfTube (sym o.part) tt;
@@ -276,7 +276,7 @@ module _ (c : Case) (fit : IsFit c) where
       }
 
   pub bays_count : (i : ℕ) → IsHalfArc d i → length (bays_of s i) ≡ 2 ^ (level + 1)
-  bays_count i h = bay_count d level i (fit.counts.edges.tubes i h)
+  bays_count i h = bay_count d (λ n. level) i (fit.counts.edges.tubes i h)
 
   pub first_at : (i z : ℕ) → IsHalfArc d i
       → get_or c.firsts.now i z ≡ runs.first_edge (bays_of s) 0 d.curves i

@@ -45,7 +45,7 @@ module _ (t : ℤ) (d : Plan) (is_bent : Bool) (c : Claims) where
     pub uncut : ProvesBy t d is_bent c → HasNoCut g
     uncut p = proves_uncut g c (proves_it p)
 
-    pub settled : ProvesBy t d is_bent c → IsSettledAt g c.level
+    pub settled : ProvesBy t d is_bent c → IsSettledAt g (λ n. c.level)
     settled p = proves_settled g c (proves_it p)
 
 -- ---- what they prove and break is one thing

@@ -25,33 +25,33 @@ subject_with d c table edges points =
 
 to_lists : (P : Subject → Type 0) (d : Plan) (c : Claims) (table : List Timed) (edges : List Edge)
     (points : List Placed)
-    → edges ≡ edges_at d c.level → points ≡ d.points → P (subject_of d c table)
+    → edges ≡ edges_at d (λ n. c.level) → points ≡ d.points → P (subject_of d c table)
     → P (subject_with d c table edges points)
 to_lists P d c table edges points e q x =
     subst (λ es. P (subject_with d c table es points)) (sym e)
-    (subst (λ ps. P (subject_with d c table (edges_at d c.level) ps)) (sym q) x)
+    (subst (λ ps. P (subject_with d c table (edges_at d (λ n. c.level)) ps)) (sym q) x)
 
 from_lists : (P : Subject → Type 0) (d : Plan) (c : Claims) (table : List Timed) (edges : List Edge)
     (points : List Placed)
-    → edges ≡ edges_at d c.level → points ≡ d.points → P (subject_with d c table edges points)
+    → edges ≡ edges_at d (λ n. c.level) → points ≡ d.points → P (subject_with d c table edges points)
     → P (subject_of d c table)
 from_lists P d c table edges points e q x =
-    subst (λ ps. P (subject_with d c table (edges_at d c.level) ps)) q
+    subst (λ ps. P (subject_with d c table (edges_at d (λ n. c.level)) ps)) q
     (subst (λ es. P (subject_with d c table es points)) e x)
 
 -- ---- rules 2 and 3
 pub table_at : (d : Plan) (level : ℕ) (edges : List Edge) (table : List Timed)
-    → edges ≡ edges_at d level → IsTimetable (length edges) (edge_of edges) table
+    → edges ≡ edges_at d (λ n. level) → IsTimetable (length edges) (edge_of edges) table
     → IsTableOf d level table
 table_at d level edges table e t = subst (λ es. IsTimetable (length es) (edge_of es) table) e t
 
 pub counts_at : (d : Plan) (c : Claims) (table : List Timed) (edges : List Edge)
-    → edges ≡ edges_at d c.level → HasCounts (subject_with d c table edges d.points)
+    → edges ≡ edges_at d (λ n. c.level) → HasCounts (subject_with d c table edges d.points)
     → HasCounts (subject_of d c table)
 counts_at d c table edges e x = from_lists HasCounts d c table edges d.points e refl x
 
 pub miscounted : (d : Plan) (c : Claims) (table : List Timed) (edges : List Edge)
-    → HasEdges d c.level → edges ≡ edges_at d c.level → IsTableOf d c.level table
+    → HasEdges d c.level → edges ≡ edges_at d (λ n. c.level) → IsTableOf d c.level table
     → (HasCounts (subject_with d c table edges d.points) → ⊥) → IsBroken d c 2 0
 miscounted d c table edges h e t n =
     first h table t
@@ -59,22 +59,22 @@ miscounted d c table edges h e t n =
 
 pub foreign : (d : Plan) (c : Claims) (table : List Timed) (k : ℕ) → HasEdges d c.level
     → IsTableOf d c.level table → HasCounts (subject_of d c table)
-    → IsFirstForeign d c.level table (Some k) → IsBroken d c 3 k
+    → IsFirstForeign d (λ n. c.level) table (Some k) → IsBroken d c 3 k
 foreign d c table k h t n x =
     first h table t (corner refl x.0 (record { counts = n; corners = x.2 }) x.1)
 
 pub found_is : (d : Plan) (level : ℕ) (list : EdgeList) (table : List Timed) (es fs : List Edge)
     (low high lows highs : List ℕ) (events : ℕ) (found : Option ℕ)
-    → IsTubedList d level list
-    → ((level : ℕ) (table : List Timed) → IsTubedList d level list
+    → IsTubedList d (λ n. level) list
+    → ((level : ℕ → ℕ) (table : List Timed) → IsTubedList d level list
     → IsTimetable (length list.edges.items) (edge_of list.edges.items) table
     → AreEventsOf list.edges.items table lows highs → length table ≡ events
     → IsFirstForeign d level table found)
     → es ≡ list.edges.items → IsTimetable (length es) (edge_of es) table → fs ≡ list.edges.items
     → AreEventsOf fs table low high → lows ≡ low → highs ≡ high → events ≡ length table
-    → IsFirstForeign d level table found
+    → IsFirstForeign d (λ n. level) table found
 found_is d level list table es fs low high lows highs events found l f e t g a p q n =
-    f level table l (subst (λ es. IsTimetable (length es) (edge_of es) table) e t)
+    f (λ n. level) table l (subst (λ es. IsTimetable (length es) (edge_of es) table) e t)
     (subst (λ ls. AreEventsOf list.edges.items table ls highs) (sym p)
     (subst (λ hs. AreEventsOf list.edges.items table low hs) (sym q)
     (subst (λ es. AreEventsOf es table low high) g a))) (sym n)
@@ -84,7 +84,7 @@ pub fits : (k : Case) (list : EdgeList)
     → IsListed (plan k.drawing.now) (claims k.certificate.now) list (table_of k.table.now)
     → k.edges.now ≡ list.edges.items → k.owners.now ≡ list.owners.items
     → k.points.now ≡ (plan k.drawing.now).points → length (plan k.drawing.now).points < 2 ^ 30
-    → AreFacings (plan k.drawing.now) (claims k.certificate.now).level k.facings.now
+    → AreFacings (plan k.drawing.now) (λ n. (claims k.certificate.now).level) k.facings.now
     → AreFirsts (plan k.drawing.now) (claims k.certificate.now).level k.firsts.now
     → AreHeld (plan k.drawing.now) (claims k.certificate.now).level
     (claims k.certificate.now).places k.held.now → IsFit k
@@ -92,7 +92,7 @@ fits k list l e o p few facings firsts held =
     let d = plan k.drawing.now in
     let c = claims k.certificate.now in
     let table = table_of k.table.now in
-    let at : k.edges.now ≡ edges_at d c.level = e ∙ l.edges.edges in record {
+    let at : k.edges.now ≡ edges_at d (λ n. c.level) = e ∙ l.edges.edges in record {
       few_edges = subst (λ es. length es < 2 ^ 31) (sym e) l.few_edges;
       few_points = subst (λ ps. length ps < 2 ^ 30) (sym p) few;
       sorted = subst AreSorted (sym e) l.usable.sorted;

@@ -83,8 +83,8 @@ two_an_edge m E table t =
 
 -- ---- the counts of claims that prove a drawing of few edges
 module _ (d : Plan) (c : Claims) (h : Proves d c) (few : HasFewEdges d) where
-  edges_fit : length (edges_at d c.level) < 2 ^ 31
-  edges_fit = few c.level h.rules.counts.edges.low h.rules.counts.edges.tubes
+  edges_fit : length (edges_at d (λ n. c.level)) < 2 ^ 31
+  edges_fit = few (λ n. c.level) (λ n. h.rules.counts.edges.low) h.rules.counts.edges.tubes
 
   pub positions_fit : length c.positions < 2 ^ 32
   positions_fit =

@@ -24,7 +24,7 @@ judged c =
 pub record AreFirsts (d : Plan) (level : ℕ) (firsts : List ℕ) : Type 0 where
   pub count : length firsts ≡ length d.curves
   pub each : (i : ℕ) → i < length d.curves
-      → get_or firsts i 0 ≡ runs.first_edge (drawn_bays d level) 0 d.curves i
+      → get_or firsts i 0 ≡ runs.first_edge (drawn_bays d (λ n. level)) 0 d.curves i
 
 -- The place is in a tube that holds the point, on that side of its circle.
 abbrev pub IsHeldAt : Plan → ℕ → PointPlace → Point → Type 0
@@ -42,7 +42,7 @@ pub record AreHeld (d : Plan) (level : ℕ) (places : List PointPlace)
 -- The edges of a drawing at the claimed level with their timetable. Rules 2 and 3 hold.
 pub record IsListed (d : Plan) (c : Claims) (list : EdgeList) (table : List Timed) : Type 0 where
   pub few_edges : length list.edges.items < 2 ^ 31
-  pub edges : IsTubedList d c.level list
+  pub edges : IsTubedList d (λ n. c.level) list
   pub usable : AreUsable d list.edges.items
   pub is_table : IsTableOf d c.level table
   pub counts : HasCounts (subject_of d c table)
@@ -60,12 +60,12 @@ pub record IsFit (c : Case) : Type 0 where
   pub table : IsTimetable (length (judged c).edges) (edge_of (judged c).edges) (judged c).table
   pub counts : HasCounts (judged c)
   pub corners : (k : ℕ) → k < length (judged c).table → CornerAt (judged c) k
-  pub edges_are : (judged c).edges ≡ edges_at (judged c).drawing (judged c).claims.level
+  pub edges_are : (judged c).edges ≡ edges_at (judged c).drawing (λ n. (judged c).claims.level)
   pub points_are : (judged c).points ≡ (judged c).drawing.points
   pub owners : c.owners.now
       ≡ map owner_as
       (runs.edge_list
-      (drawn_bays (judged c).drawing (judged c).claims.level) 0 (judged c).drawing.curves)
-  pub facings : AreFacings (judged c).drawing (judged c).claims.level c.facings.now
+      (drawn_bays (judged c).drawing (λ n. (judged c).claims.level)) 0 (judged c).drawing.curves)
+  pub facings : AreFacings (judged c).drawing (λ n. (judged c).claims.level) c.facings.now
   pub firsts : AreFirsts (judged c).drawing (judged c).claims.level c.firsts.now
   pub held : AreHeld (judged c).drawing (judged c).claims.level (judged c).claims.places c.held.now

@@ -106,7 +106,7 @@ labels s = labels_in s.claims.notes
 -- ---- the tubes at the claimed level
 -- the bays of each half arc's tube, by the number of its curve
 abbrev pub bays_of : Subject → ℕ → List Bay
-bays_of s = drawn_bays s.drawing s.claims.level
+bays_of s = drawn_bays s.drawing (λ n. s.claims.level)
 
 -- the curve of an edge, and what the edge is of it
 abbrev pub owned_of : Subject → ℕ → runs.Owned

@@ -16,8 +16,8 @@ use std::alloc::Global;
 /// For each curve the number of its first edge.
 pub fn first_edges(alloc: Global, drawing: &Drawing, level: u8) -> Result<Vec<u32>, Memory>
     requires level { level ≤ 5 }
-    requires tubes { HaveTubes (plan drawing.now) level }
-    requires few { length (edges_at (plan drawing.now) level) < 2 ^ 31 }
+    requires tubes { HaveTubes (plan drawing.now) (λ n. level) }
+    requires few { length (edges_at (plan drawing.now) (λ n. level)) < 2 ^ 31 }
     ensures { IfOk result (λ firsts. AreFirsts (plan drawing.now) level firsts.items) }
 {
     let mut firsts = Vec::with_capacity(alloc, drawing.curves.len())?;
@@ -32,8 +32,8 @@ pub fn first_edges(alloc: Global, drawing: &Drawing, level: u8) -> Result<Vec<u3
 /// How many edges the drawing has at the level where all its half arcs have tubes. None is made.
 pub fn edge_total(drawing: &Drawing, level: u8) -> usize
     requires level { level ≤ 5 }
-    ensures total { HaveTubes (plan drawing.now) level
-        → result ≡ length (edges_at (plan drawing.now) level) }
+    ensures total { HaveTubes (plan drawing.now) (λ n. level)
+        → result ≡ length (edges_at (plan drawing.now) (λ n. level)) }
     ensures few { result < 2 ^ 38 }
 {
     let mut total = 0;

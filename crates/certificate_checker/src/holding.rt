@@ -27,7 +27,7 @@ pub fn held_points(
     level: u8,
 ) -> Result<Vec<bool>, Memory>
     requires level { level ≤ 5 }
-    requires tubes { HaveTubes (plan drawing.now) level }
+    requires tubes { HaveTubes (plan drawing.now) (λ n. level) }
     requires count { length places.now ≡ length (plan drawing.now).points }
     ensures { IfOk result (λ held. AreHeld (plan drawing.now) level places.now held.items) }
 {
@@ -47,7 +47,7 @@ fn is_held(
     at: Point,
 ) -> Result<bool, Memory>
     requires level { level ≤ 5 }
-    requires tubes { HaveTubes (plan drawing.now) level }
+    requires tubes { HaveTubes (plan drawing.now) (λ n. level) }
     requires inside { IsInside drawing.now.window.low drawing.now.window.high at }
     ensures { IfOk result (λ b. IsTrue b ↔ IsHeldAt (plan drawing.now) level place at) }
 {

@@ -25,6 +25,7 @@ use Rattle.delivery.specs.Drawn.{checks, names}
 use Rattle.delivery.specs.Ending.{LayoutOutcome, CommandOutcome, ModelOutcome}
 use Rattle.delivery.specs.Judging.{AreJudged, IsJudgedBy, at_fault, faulty, oversized, sound}
 use Rattle.delivery.specs.Pieces.{IsJudged, IsTransfer}
+use Rattle.delivery.specs.declared.judging.closing.Wanted.TheVariants.{Everything}
 use Rattle.delivery.specs.declared.drawn.Delivered.{Delivered}
 use Rattle.delivery.specs.declared.drawn.Delivered.TheVariants.{Clean, Ended}
 use Rattle.delivery.specs.declared.judging.closing.Judged.TheVariants as judged
@@ -90,7 +91,7 @@ pub unread_check : (held : Option Files) (counted : List ℕ → Type 0) (l : La
     → IsTransfer held transfer l (counted transfer) (reading.Unread r) → IsNotRead Transfer r o
     → (target : Target) → LayoutOutcome held counted (checks transfer target) l o
 unread_check held counted l transfer r o h e target =
-    let u = unread_ends held counted (counted transfer) transfer l r o
+    let u = unread_ends Everything held counted (counted transfer) transfer l r o
     (λ q text. ReadsAll held counted l ([] ++ (text ∷ [])) [] q) h (λ n. n) e in
     record { gathered = u.0; reads = u.1; amounts = u.2 (checks transfer target) }
 

@@ -18,7 +18,11 @@ use Rattle.reports.specs.Outcomes.{Outcome}
 use Rattle.commands.specs.Reading.{IsLonger}
 use Rattle.reports.specs.FileRefusals.{IsNotRead}
 use Rattle.commands.specs.declared.files.File.{File}
-use Rattle.delivery.specs.Pieces.{AreFileRows, IsTransfer, Keeps}
+use Rattle.delivery.specs.Pieces.{AreFileRows, IsJudged, IsJudgedFor, IsTransferFor, Keeps}
+use Rattle.delivery.specs.declared.judging.closing.Judged.{Judged}
+use Rattle.delivery.specs.declared.judging.closing.Judged.TheVariants as judged
+use Rattle.delivery.specs.declared.judging.closing.Wanted.{Wanted}
+use Rattle.delivery.specs.declared.judging.closing.Wanted.TheVariants as wanted
 use Rattle.delivery.specs.declared.transfers.RowsReading.TheVariants as rows_reading
 use Rattle.commands.specs.declared.files.File.TheVariants.{Transfer}
 use Rattle.delivery.specs.declared.transfers.TransferReading.TheVariants as reading
@@ -105,17 +109,17 @@ not_read_ends T held counted f name TooLong o P a b e =
 not_read_ends T held counted f name Memory o P a b e = absurd e
 
 -- and the transfer's, which is judged while it is read
-pub unread_ends : (held : Option Files) (counted : List ℕ → Type 0) (rose : Type 0) (name : List ℕ)
-    (l : Layout) (r : FileRefusal) (o : Outcome) (P : Gathered → List ℕ → Type 0)
-    → IsTransfer held name l rose (reading.Unread r) → (rose → counted name)
+pub unread_ends : (w : Wanted) (held : Option Files) (counted : List ℕ → Type 0) (rose : Type 0)
+    (name : List ℕ) (l : Layout) (r : FileRefusal) (o : Outcome) (P : Gathered → List ℕ → Type 0)
+    → IsTransferFor w held name l rose (reading.Unread r) → (rose → counted name)
     → IsNotRead Transfer r o
     → (g : Gathered) × Reads held counted (from_file Transfer name) g (P g)
     × ((t : Task) → HasOutcome t g o)
-unread_ends held counted rose name l Failed o P h f e =
+unread_ends w held counted rose name l Failed o P h f e =
     (gathering.unread Transfer, inl (f h, refl), λ t. e)
-unread_ends held counted rose name l TooLong o P h f e =
+unread_ends w held counted rose name l TooLong o P h f e =
     (gathering.too_long Transfer, inr (inl (h, refl)), λ t. e)
-unread_ends held counted rose name l Memory o P h f e = absurd e
+unread_ends w held counted rose name l Memory o P h f e = absurd e
 
 -- an outcome that its areas have no part in is one whatever is said of them
 pub ended_for : (l : Layout) (text : List ℕ) (Areas : List (List Row) → Outcome → Type 0)
@@ -126,11 +130,21 @@ ended_for l text Areas o (faulty rows t n e) = faulty rows t n e
 ended_for l text Areas o (oversized rows t k b e) = oversized rows t k b e
 ended_for l text Areas o (sound h) = absurd h.4
 
+-- what a text comes to is that also where less is wanted
+pub judged_for : (w : Wanted) (l : Layout) (text : List ℕ) (j : Judged) → IsJudged l text j
+    → IsJudgedFor w l text j
+judged_for wanted.Everything l text j h = h
+judged_for wanted.AreasAlone l text (judged.Malformed line code) h = h
+judged_for wanted.AreasAlone l text (judged.Faulty found) h = h
+judged_for wanted.AreasAlone l text judged.Oversized h = h
+judged_for wanted.AreasAlone l text (judged.Clean count drawings answers) h =
+    (h.0, h.1, h.2, h.3, h.4, h.5, h.6, tt)
+
 -- the rows of a file that was not read are a transfer that was not read
-pub rows_unread : (K : Type 0) (Has : Keeps K) (held : Option Files) (name : List ℕ) (l : Layout)
-    (rose : Type 0) (r : FileRefusal)
+pub rows_unread : (w : Wanted) (K : Type 0) (Has : Keeps K) (held : Option Files)
+    (name : List ℕ) (l : Layout) (rose : Type 0) (r : FileRefusal)
     → AreFileRows Has held name l rose (rows_reading.Unread r)
-    → IsTransfer held name l rose (reading.Unread r)
-rows_unread K Has held name l rose Failed h = h
-rows_unread K Has held name l rose TooLong h = h
-rows_unread K Has held name l rose Memory h = absurd h
+    → IsTransferFor w held name l rose (reading.Unread r)
+rows_unread w K Has held name l rose Failed h = h
+rows_unread w K Has held name l rose TooLong h = h
+rows_unread w K Has held name l rose Memory h = absurd h

@@ -19,6 +19,8 @@ use Rattle.itf_reader.specs.declared.refusal.ReadRefusal.{ReadRefusal}
 use Rattle.itf_reader.specs.declared.refusal.ReadRefusal.TheVariants as refusals
 use Rattle.delivery.specs.declared.judging.closing.Judged.{Judged}
 use Rattle.delivery.specs.declared.judging.closing.Judged.TheVariants as judged
+use Rattle.delivery.specs.declared.judging.closing.Wanted.{Wanted}
+use Rattle.delivery.specs.declared.judging.closing.Wanted.TheVariants as wanted
 use Rattle.delivery.specs.declared.judging.lines.Judge.{Judge}
 use Rattle.reports.specs.AreaKinds.{plans}
 use Rattle.area_drawings.specs.AreaLimits.{has_too_large}
@@ -31,6 +33,7 @@ use Rattle.commands.specs.Commands.{Source, from_file, made}
 use Rattle.delivery.specs.KeptRows.{transfer_so_far}
 use Rattle.delivery.specs.Surfaces.{AreSurfaceAnswers}
 use Rattle.reports.specs.Surfaces.{surfaces}
+use Rattle.reports.specs.declared.lines.SurfaceAnswer.{SurfaceAnswer}
 use Rattle.commands.specs.Reading.{IsWhole, IsLonger}
 use Rattle.commands.specs.declared.files.FileRefusal.TheVariants as refusals_of
 use Rattle.delivery.specs.declared.rows.Sound.{Sound}
@@ -87,20 +90,29 @@ IsKept Has l text (Ok k) = AreKept Has l text k
 IsKept Has l text (Err (refusals.At line code)) = IsMalformed l text line (fault_of code)
 IsKept Has l text (Err refusals.Memory) = ⊤
 
--- what a text comes to
-abbrev pub IsJudged : Layout → List ℕ → Judged → Type 0
-IsJudged l text (judged.Malformed line code) = IsMalformed l text line (fault_of code)
-IsJudged l text (judged.Faulty found) =
+-- the answers to the SURFACEs of rows, where these are wanted
+abbrev pub AreWanted : Wanted → Layout → List (List Row) → List SurfaceAnswer → Type 0
+AreWanted wanted.Everything l rows answers = AreSurfaceAnswers l rows (surfaces l) answers
+AreWanted wanted.AreasAlone l rows answers = ⊤
+
+-- what a text comes to, with what is wanted of rows without a finding
+abbrev pub IsJudgedFor : Wanted → Layout → List ℕ → Judged → Type 0
+IsJudgedFor w l text (judged.Malformed line code) = IsMalformed l text line (fault_of code)
+IsJudgedFor w l text (judged.Faulty found) =
     (rows : List (List Row)) × IsTextOf l text rows × (findings l rows ≢ [])
     × (findings_of found.items ≡ findings l rows)
-IsJudged l text judged.Oversized =
+IsJudgedFor w l text judged.Oversized =
     (rows : List (List Row)) × IsTextOf l text rows × IsClean l rows
     × (has_too_large rows l.areas ≡ true)
-IsJudged l text (judged.Clean count drawings answers) =
+IsJudgedFor w l text (judged.Clean count drawings answers) =
     (rows : List (List Row)) × IsTextOf l text rows × IsClean l rows
     × (has_too_large rows l.areas ≡ false) × (count ≡ objects rows)
     × AreDrawings l rows (plans drawings.items) × AllZip (HasTolerance l) l.areas drawings.items
-    × AreSurfaceAnswers l rows (surfaces l) answers.items
+    × AreWanted w l rows answers.items
+
+-- what a text comes to
+abbrev pub IsJudged : Layout → List ℕ → Judged → Type 0
+IsJudged = IsJudgedFor wanted.Everything
 
 -- what a text whose lines were all taken comes to, as it is passed on
 abbrev pub IsEndedAs : {K : Type 0} → Result K ReadRefusal → RowsReading K → Type 0
@@ -135,23 +147,33 @@ AreFileRows Has held name l rose (rows_reading.Rows k) =
     (text : List ℕ) × IsWhole held name 268435456 text × AreKept Has l text k
 
 -- what the file of a transfer is: it could not be read, where a fault was counted; it is too long;
--- or its text comes to that
-abbrev pub IsTransfer : Option Files → List ℕ → Layout → Type 0 → TransferReading → Type 0
-IsTransfer held name l rose (reading.Unread refusals_of.Failed) = rose
-IsTransfer held name l rose (reading.Unread refusals_of.TooLong) = IsLonger held name 268435456
-IsTransfer held name l rose (reading.Unread refusals_of.Memory) = ⊥
-IsTransfer held name l rose (reading.Judged j) =
-    (text : List ℕ) × IsWhole held name 268435456 text × IsJudged l text j
-
--- what a transfer is that is read from a file or made
-abbrev pub IsSourceJudged : Option Files → (List ℕ → Type 0) → Layout → Source → TransferReading
+-- or its text comes to that, with what is wanted of its rows
+abbrev pub IsTransferFor : Wanted → Option Files → List ℕ → Layout → Type 0 → TransferReading
     → Type 0
-IsSourceJudged held counted l (from_file f name) r = IsTransfer held name l (counted name) r
-IsSourceJudged held counted l (made text) (reading.Judged j) = IsJudged l text j
-IsSourceJudged held counted l (made text) (reading.Unread refusal) = ⊥
+IsTransferFor w held name l rose (reading.Unread refusals_of.Failed) = rose
+IsTransferFor w held name l rose (reading.Unread refusals_of.TooLong) =
+    IsLonger held name 268435456
+IsTransferFor w held name l rose (reading.Unread refusals_of.Memory) = ⊥
+IsTransferFor w held name l rose (reading.Judged j) =
+    (text : List ℕ) × IsWhole held name 268435456 text × IsJudgedFor w l text j
 
--- what is drawn of a judged text, or its outcome, which its areas have no part in
+abbrev pub IsTransfer : Option Files → List ℕ → Layout → Type 0 → TransferReading → Type 0
+IsTransfer = IsTransferFor wanted.Everything
+
+-- what a transfer is that is read from a file or made, with what is wanted of its rows
+abbrev pub IsSourceJudgedFor : Wanted → Option Files → (List ℕ → Type 0) → Layout → Source
+    → TransferReading → Type 0
+IsSourceJudgedFor w held counted l (from_file f name) r =
+    IsTransferFor w held name l (counted name) r
+IsSourceJudgedFor w held counted l (made text) (reading.Judged j) = IsJudgedFor w l text j
+IsSourceJudgedFor w held counted l (made text) (reading.Unread refusal) = ⊥
+
+-- what is drawn of a judged text, with what is wanted of its rows, or its outcome, which its areas
+-- have no part in
+abbrev pub IsSoundFor : Wanted → Layout → List ℕ → Sound → Type 0
+IsSoundFor w l text (sounds.Drawn count drawings answers) =
+    IsJudgedFor w l text (judged.Clean count drawings answers)
+IsSoundFor w l text (sounds.Ended o) = IsJudgedBy l text (λ rows p. ⊥) (outcome_of o)
+
 abbrev pub IsSound : Layout → List ℕ → Sound → Type 0
-IsSound l text (sounds.Drawn count drawings answers) =
-    IsJudged l text (judged.Clean count drawings answers)
-IsSound l text (sounds.Ended o) = IsJudgedBy l text (λ rows p. ⊥) (outcome_of o)
+IsSound = IsSoundFor wanted.Everything

@@ -15,15 +15,16 @@ ghost use Rattle.delivery.specs.Ending.{LayoutOutcome, OutcomeAfter, ModelOutcom
 ghost use Rattle.reports.specs.OutcomeViews.{outcome_of};
 ghost use Rattle.delivery.specs.Judging.{IsMalformed};
 ghost use Rattle.delivery.specs.LinkRows.{HasLinked};
-ghost use Rattle.delivery.specs.Pieces.{AreKept, IsJudged, IsSourceJudged};
+ghost use Rattle.delivery.specs.Pieces.{AreKept, IsJudged, IsJudgedFor, IsSourceJudgedFor};
 ghost use Rattle.itf_reader.specs.Refusals.{fault_of};
 ghost use Rattle.table_layout.specs.Layouts.{Layout as GivenLayout};
+ghost use Rattle.delivery.specs.declared.judging.closing.Wanted.TheVariants.{AreasAlone};
 ghost use Rattle.delivery.specs.Served.{IsReadable, AreReadable, HasReadableFiles};
 ghost use Rattle.commands.specs.TrialFiles.{model_text as the_model};
 ghost use Rattle.commands.specs.TrialFiles.{transfer_text as the_transfer};
 
 use crate::filed::read_certificates;
-use crate::judging::{Judged, LinksKept};
+use crate::judging::{Judged, LinksKept, Wanted};
 use crate::rows::{checked, linked_by, rewritten, verified_by};
 use crate::transfers::{RowsReading, TransferReading, judge_text, read_for, read_transfer};
 use commands::trial::{files_are_short, model_text, transfer_text};
@@ -54,11 +55,12 @@ fn judge_source<S: Shelf>(
     alloc: Global,
     source: TransferSource<'_>,
     layout: &Layout,
+    wanted: Wanted,
     shelf: &mut S,
 ) -> Result<TransferReading, Memory>
     requires valid { IsValid (layout_view layout.now) }
     requires small { IsSmallSource source }
-    ensures judged { IfOk result (IsSourceJudged (S.held shelf.old)
+    ensures judged { IfOk result (IsSourceJudgedFor wanted (S.held shelf.old)
         (ReadRose (S.read_faults shelf.old) (S.read_faults shelf.new))
         (layout_view layout.now) (transfer_of source.entry)) }
     ensures reads { OnlyReads (IsReadable (S.readable shelf.old) (transfer_of source.entry))
@@ -68,7 +70,7 @@ fn judge_source<S: Shelf>(
         (S.readable shelf.new) (S.space shelf.new) }
 {
     match source {
-        TransferSource::File(name) => read_transfer(alloc, shelf, name, layout),
+        TransferSource::File(name) => read_transfer(alloc, shelf, name, layout, wanted),
         TransferSource::Grid(size) => {
             Ok(TransferReading::Judged(judge_grid(alloc, layout, size)?))
         }
@@ -95,7 +97,7 @@ fn decide_checked<'a, S: Shelf>(
         (S.held shelf.new) (S.read_faults shelf.new) (S.write_faults shelf.new)
         (S.readable shelf.new) (S.space shelf.new) }
 {
-    match judge_source(alloc, source, layout, shelf)? {
+    match judge_source(alloc, source, layout, Wanted::Everything, shelf)? {
         TransferReading::Judged(judged) => checked(alloc, target, layout, judged),
         TransferReading::Unread(refusal) => not_read(alloc, File::Transfer, refusal),
     }
@@ -109,9 +111,9 @@ fn decide_filed<'a, S: Shelf>(
     judged: Judged,
     shelf: &mut S,
 ) -> Result<Outcome<'a>, Memory>
-    requires text { (text : List ℕ) × IsJudged (layout_view layout.now) text judged }
+    requires text { (text : List ℕ) × IsJudgedFor AreasAlone (layout_view layout.now) text judged }
     ensures outcome { (text : List ℕ) (source : Source)
-        → IsJudged (layout_view layout.now) text judged
+        → IsJudgedFor AreasAlone (layout_view layout.now) text judged
         → IfOk result (λ o. OutcomeAfter (S.held shelf.old)
         (ReadRose (S.read_faults shelf.old) (S.read_faults shelf.new))
         (verifies source (from_file File.Certificate name.now)) (layout_view layout.now)
@@ -149,7 +151,7 @@ fn decide_verified<'a, S: Shelf>(
         (S.held shelf.new) (S.read_faults shelf.new) (S.write_faults shelf.new)
         (S.readable shelf.new) (S.space shelf.new) }
 {
-    match judge_source(alloc, source, layout, shelf)? {
+    match judge_source(alloc, source, layout, Wanted::AreasAlone, shelf)? {
         TransferReading::Judged(judged) => {
             decide_filed(alloc, certificates, layout, judged, shelf)
         }

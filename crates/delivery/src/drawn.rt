@@ -8,7 +8,7 @@ ghost use Rattle.delivery.specs.Drawn.{AreReadable, IsCleanText, IsDelivered, Is
 ghost use Rattle.delivery.specs.Drawn.{IsDrawnModel};
 ghost use Rattle.delivery.specs.Pieces.{IsJudged};
 
-use crate::judging::Judged;
+use crate::judging::{Judged, Wanted};
 use crate::rows::{Sound, sound_rows};
 use crate::transfers::{TransferReading, read_transfer};
 use commands::{File, ModelReading, read_file, read_model};
@@ -70,7 +70,7 @@ fn from_transfer<'a, S: Shelf>(
         (S.held shelf.new) (S.read_faults shelf.new) (S.write_faults shelf.new)
         (S.readable shelf.new) (S.space shelf.new) }
 {
-    match read_transfer(alloc, shelf, transfer, &layout)? {
+    match read_transfer(alloc, shelf, transfer, &layout, Wanted::Everything)? {
         TransferReading::Judged(judged) => from_judged(alloc, layout, judged),
         TransferReading::Unread(refusal) => {
             Ok(Delivered::Ended(not_read(alloc, File::Transfer, refusal)?))

@@ -7,7 +7,7 @@ mod linked;
 mod linking;
 mod rows;
 
-pub use closing::{Judged, judge_end, judge_rows};
+pub use closing::{Judged, Wanted, judge_end, judge_rows};
 pub use found::TableFound;
 pub use keeping::{RowKeeper, count_objects};
 pub use lines::Judge;

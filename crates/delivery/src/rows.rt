@@ -19,7 +19,9 @@ ghost use Rattle.delivery.specs.FiledTexts.{AreVerified, IsVerified};
 ghost use Rattle.delivery.specs.Judging.{AreJudged, IsChecked, objects};
 ghost use Rattle.commands.specs.CommandViews.{target_of};
 ghost use Rattle.reports.specs.OutcomeViews.{outcome_of};
-ghost use Rattle.delivery.specs.Pieces.{AreKept, IsJudged, IsSound};
+ghost use Rattle.delivery.specs.Pieces.{AreKept, IsJudged, IsJudgedFor, IsSoundFor};
+ghost use Rattle.delivery.specs.declared.judging.closing.Wanted.{Wanted as AnyWanted};
+ghost use Rattle.delivery.specs.declared.judging.closing.Wanted.TheVariants.{AreasAlone};
 ghost use Rattle.delivery.specs.Surfaces.{AreSurfaceAnswers};
 ghost use Rattle.reports.specs.Surfaces.{surfaces as surfaces_in};
 ghost use Rattle.delivery.specs.LinkPieces.{AreCleanLinks};
@@ -53,15 +55,15 @@ use table_layout::Layout;
 #[derive(Drop)]
 pub enum Sound<'a> {
     /// No finding: the number of objects, the drawings of all areas, and the answers to all
-    /// SURFACEs.
+    /// SURFACEs, where these were wanted.
     Drawn(u128, Vec<Drawing>, Vec<SurfaceAnswer>),
     Ended(Outcome<'a>),
 }
 
 /// The outcome of a transfer that has no sound rows, or an area over its limit.
 pub fn sound_rows<'a>(alloc: Global, judged: Judged) -> Result<Sound<'a>, Memory>
-    ensures { (l : GivenLayout) (text : List ℕ) → IsJudged l text judged
-        → IfOk result (IsSound l text) }
+    ensures { (w : AnyWanted) (l : GivenLayout) (text : List ℕ) → IsJudgedFor w l text judged
+        → IfOk result (IsSoundFor w l text) }
 {
     match judged {
         Judged::Malformed(line, code) => Ok(Sound::Ended(malformed(alloc, line, code)?)),
@@ -215,9 +217,9 @@ pub fn verified_by<'a>(
     judged: Judged,
     filed: FiledList,
 ) -> Result<Outcome<'a>, Memory>
-    requires text { (text : List ℕ) × IsJudged (layout_view layout.now) text judged }
+    requires text { (text : List ℕ) × IsJudgedFor AreasAlone (layout_view layout.now) text judged }
     requires read { (spelling : List ℕ) × IsReadOf spelling filed }
-    ensures { (text spelling : List ℕ) → IsJudged (layout_view layout.now) text judged
+    ensures { (text spelling : List ℕ) → IsJudgedFor AreasAlone (layout_view layout.now) text judged
         → IsReadOf spelling filed
         → IfOk result (λ o. IsVerified (layout_view layout.now) text spelling (outcome_of o)) }
 {

@@ -6,10 +6,10 @@ ghost use Rattle.itf_reader.specs.Layouts.{form_of};
 ghost use Rattle.itf_reader.specs.Names.{form_in};
 ghost use Rattle.table_layout.specs.Valid.{IsValid};
 ghost use Rattle.table_layout.specs.Values.{layout_view};
-ghost use Rattle.delivery.specs.Pieces.{AreFileRows, HasJudged, CanJudge, IsEndedAs, IsTransfer};
-ghost use Rattle.delivery.specs.Pieces.{IsJudged};
+ghost use Rattle.delivery.specs.Pieces.{AreFileRows, HasJudged, CanJudge, IsEndedAs};
+ghost use Rattle.delivery.specs.Pieces.{IsJudged, IsTransferFor};
 
-use crate::judging::{Judge, Judged, RowKeeper, TransferKept, judge_end, judge_rows};
+use crate::judging::{Judge, Judged, RowKeeper, TransferKept, Wanted, judge_end, judge_rows};
 use commands::{File, FileRefusal, Taker, read_pieces};
 use itf_reader::{Names, ReadRefusal, Structure};
 use ports::{Memory, Shelf};
@@ -144,9 +144,11 @@ pub fn read_transfer<S: Shelf>(
     shelf: &mut S,
     name: &str,
     layout: &Layout,
+    wanted: Wanted,
 ) -> Result<TransferReading, Memory>
     requires valid { IsValid (layout_view layout.now) }
-    ensures transfer { IfOk result (IsTransfer (S.held shelf.old) name.now (layout_view layout.now)
+    ensures transfer { IfOk result (IsTransferFor wanted (S.held shelf.old) name.now
+        (layout_view layout.now)
         (Rose (S.read_faults shelf.old name.now) (S.read_faults shelf.new name.now))) }
     ensures reads { OnlyReads (S.readable shelf.old name.now)
         (S.held shelf.old) (S.read_faults shelf.old)
@@ -160,7 +162,9 @@ pub fn read_transfer<S: Shelf>(
         RowsReading::Malformed(line, code) => {
             Ok(TransferReading::Judged(Judged::Malformed(line, code)))
         }
-        RowsReading::Rows(kept) => { Ok(TransferReading::Judged(judge_rows(alloc, layout, kept)?)) }
+        RowsReading::Rows(kept) => {
+            Ok(TransferReading::Judged(judge_rows(alloc, layout, kept, wanted)?))
+        }
     }
 }
 

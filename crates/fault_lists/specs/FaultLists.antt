@@ -158,19 +158,22 @@ pub record AreRegionsOver (d r : Plan) (out : ℕ → Bool) (rest : IsRestOf d r
   pub rings : (x : Region) → Has x regions
       → (x.rings.items ≡ []) ⊎ AreRings d (HasBoth d r out rest x.side) x.rings.items
 
--- All faults of the drawing. Left out are the curves that meet others badly, or all of them.
-pub record AreFaults (d : Plan) (f : Faults) : Type 0 where
+-- All faults of the drawing d on the ground g, which is d, or what becomes of it when lines are
+-- bent: each curve of g is a part of the curve of d whose number `origin` gives. Left out of g are
+-- the parts of curves that meet others badly, or all curves.
+pub record AreFaults (d g : Plan) (origin : ℕ → ℕ) (f : Faults) : Type 0 where
   pub meetings : AreMeetings d f.meetings.items
   pub on : ArePointsOn d f.on.items
   pub out : ℕ → Bool
-  pub out_is : (i : ℕ) → i < length d.curves
-      → (out i ≡ true) ↔ (IsMet f.meetings.items i ⊎ (f.all_out ≡ true))
+  pub out_is : (i : ℕ) → i < length g.curves
+      → (out i ≡ true) ↔ (IsMet f.meetings.items (origin i) ⊎ (f.all_out ≡ true))
   pub r : Plan
-  pub rest : IsRestOf d r out
-  pub over : AreFaultsOver d r out rest f.faces
-  pub empty : AreRegionsOver d r out rest f.faces.empty.items f.empty.items
-  pub broken : AreRegionsOver d r out rest f.faces.open.items f.open.items
+  pub rest : IsRestOf g r out
+  pub over : AreFaultsOver g r out rest f.faces
+  pub empty : AreRegionsOver g r out rest f.faces.empty.items f.empty.items
+  pub broken : AreRegionsOver g r out rest f.faces.open.items f.open.items
 
 -- The fault at the place is told, or the face of the place is told to be open.
-abbrev pub IsToldOr : (d : Plan) (f : Faults) → AreFaults d f → Vector → Type 0 → Type 0
-IsToldOr d f all z Told = Told ⊎ IsToldOpen d all.r all.out all.rest f.faces z
+abbrev pub IsToldOr : (d g : Plan) (origin : ℕ → ℕ) (f : Faults) → AreFaults d g origin f → Vector
+    → Type 0 → Type 0
+IsToldOr d g origin f all z Told = Told ⊎ IsToldOpen g all.r all.out all.rest f.faces z

@@ -37,25 +37,30 @@ pub fn numbers_tell_rings()
         → AreRegions d f sides regions → AreRegionsOver d r out rest sides regions }
 {}
 
-/// Each fault of the drawing is in its list, or lies in a face that is told to be open. Two points
-/// in one face are told as such, or the first as outside; a curve with one face on both sides is
-/// told as such, or is left out.
+/// Each fault of the drawing on its ground is in its list, or lies in a face that is told to be
+/// open. Two points in one face are told as such, or the first as outside; a curve with one face on
+/// both sides is told as such, or is left out.
 pub fn each_fault_is_told()
-    ensures meeting { (d : Plan) (f : Faults) (i j : ℕ) → AreFaults d f → IsBadPair d i j
+    ensures meeting { (d g : Plan) (origin : ℕ → ℕ) (f : Faults) (i j : ℕ)
+        → AreFaults d g origin f → IsBadPair d i j
         → (m : MeetingAt) × Contains f.meetings.items m × IsOfPair m i j }
-    ensures on { (d : Plan) (f : Faults) (j i : ℕ) → AreFaults d f → LiesOn d j i
+    ensures on { (d g : Plan) (origin : ℕ → ℕ) (f : Faults) (j i : ℕ)
+        → AreFaults d g origin f → LiesOn d j i
         → (o : OnAt) × Contains f.on.items o × (o.point ≡ j) }
-    ensures outside { (d : Plan) (f : Faults) (all : AreFaults d f) (j : ℕ) → LiesOutside d j
-        → IsToldOr d f all (point (object d j)) (Contains f.faces.outside.items j) }
-    ensures two { (d : Plan) (f : Faults) (all : AreFaults d f) (i j : ℕ) → AreTwo d i j
-        → IsToldOr d f all (point (object d i))
+    ensures outside { (d g : Plan) (origin : ℕ → ℕ) (f : Faults) (all : AreFaults d g origin f)
+        (j : ℕ) → LiesOutside g j
+        → IsToldOr d g origin f all (point (object g j)) (Contains f.faces.outside.items j) }
+    ensures two { (d g : Plan) (origin : ℕ → ℕ) (f : Faults) (all : AreFaults d g origin f)
+        (i j : ℕ) → AreTwo g i j
+        → IsToldOr d g origin f all (point (object g i))
         (Contains f.faces.outside.items i ⊎ AreToldTwo f.faces i j) }
-    ensures empty { (d : Plan) (f : Faults) (all : AreFaults d f) (z : Vector)
-        → Place z → IsOff d z → IsLost d z
-        → IsToldOr d f all z ((s : SideAt) × Contains f.faces.empty.items s
-        × IsBeside d all.r all.out all.rest s z) }
-    ensures cut { (d : Plan) (f : Faults) (all : AreFaults d f) (i : ℕ) (c : IsCut d i)
-        → i < length d.curves
-        → IsToldOr d f all c.p (IsToldOr d f all c.q (Contains f.faces.cuts.items i
-        ⊎ (IsMet f.meetings.items i ⊎ (f.all_out ≡ true)))) }
+    ensures empty { (d g : Plan) (origin : ℕ → ℕ) (f : Faults) (all : AreFaults d g origin f)
+        (z : Vector) → Place z → IsOff g z → IsLost g z
+        → IsToldOr d g origin f all z ((s : SideAt) × Contains f.faces.empty.items s
+        × IsBeside g all.r all.out all.rest s z) }
+    ensures cut { (d g : Plan) (origin : ℕ → ℕ) (f : Faults) (all : AreFaults d g origin f)
+        (i : ℕ) (c : IsCut g i) → i < length g.curves
+        → IsToldOr d g origin f all c.p (IsToldOr d g origin f all c.q
+        (Contains f.faces.cuts.items i
+        ⊎ (IsMet f.meetings.items (origin i) ⊎ (f.all_out ≡ true)))) }
 {}

@@ -2,10 +2,11 @@ use Rattle.std.proofs.Common.{◌≡◌, ◌≢◌, ℕ, ◌<◌, ◌+◌, ◌-�
 use Rattle.std.proofs.Common.{length-append, get_or, arith, ap, sym, ◌∙◌, refl, inl, inr, replicate}
 use Rattle.std.proofs.Common.{subst}
 use Rattle.std.proofs.lemmas.List.{get_or_append_left, get_or-append_right}
+use Rattle.std.proofs.lemmas.List.{get_or-replicate, length-replicate}
 use Rattle.std.proofs.lemmas.List.{replicate-append-replicate}
 use Rattle.std.proofs.lemmas.Bool.{cases_lt, cases_eq}
 use Rattle.half_edges.specs.HalfEdges.{HalfEdges, size, edge_count, twin_of}
-use Rattle.half_edges.specs.Meshes.{IsMesh}
+use Rattle.half_edges.specs.Meshes.{IsMesh, with_one_face}
 use Rattle.half_edges.proofs.Twins.{twin_within}
 
 -- one more pair at the end of a list
@@ -133,8 +134,29 @@ mesh_added m low high down up next prev origin face mesh lo hi apart room de ue 
     let even = mesh.pairs in
     rw (ne, pe, oe, fe, ue, de) (mesh_extended m low high mesh lo hi apart (omega arith))
 
-pub unset_added : (m : HalfEdges) (x y : ℕ) (next face : List ℕ) → m.face ≡ replicate (size m) 0
-    → next ≡ m.next ++ x ∷ y ∷ [] → face ≡ m.face ++ 0 ∷ 0 ∷ []
-    → face ≡ replicate (length next) 0
-unset_added m x y next face old ne fe =
-    rw (fe, ne, old, pair_length m.next (size m) x y refl) (replicate-append-replicate (size m) 2 0)
+-- with one face it is a mesh too
+pub mesh_one_face : (m : HalfEdges) → IsMesh m → IsMesh (with_one_face m)
+mesh_one_face m mesh = record {
+  pairs = mesh.pairs;
+  few = mesh.few;
+  prevs = mesh.prevs;
+  origins = mesh.origins;
+  faces = length-replicate (size m) 0;
+  next_within = mesh.next_within;
+  prev_within = mesh.prev_within;
+  origin_within = mesh.origin_within;
+  next_prev = mesh.next_prev;
+  prev_next = mesh.prev_next;
+  joined = mesh.joined;
+  ends = mesh.ends;
+  one_face = record {
+    same = λ h l. get_or-replicate (size m) _ 0 0 (mesh.next_within h l)
+        ∙ sym (get_or-replicate (size m) h 0 0 l);
+  };
+}
+
+pub unset_added : (m : HalfEdges) (x y : ℕ) (next : List ℕ) → next ≡ m.next ++ x ∷ y ∷ []
+    → replicate {A = ℕ} (length next) 0 ≡ replicate (size m) 0 ++ 0 ∷ 0 ∷ []
+unset_added m x y next ne =
+    rw (ne, pair_length m.next (size m) x y refl)
+    (sym (replicate-append-replicate (size m) 2 0))

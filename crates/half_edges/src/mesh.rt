@@ -20,9 +20,9 @@ pub struct Mesh {
     next: Vec<HalfEdgeId>,
     prev: Vec<HalfEdgeId>,
     origin: Vec<VertexId>,
-    face: Vec<FaceId>,
 
-    // Whether some half-edge may have another face than 0.
+    // The faces, once they are set: each face is 0 before.
+    face: Vec<FaceId>,
     faces_set: bool,
 }
 
@@ -75,14 +75,14 @@ impl Mesh {
         self.next.reserve(2)?;
         self.prev.reserve(2)?;
         self.origin.reserve(2)?;
-        self.face.reserve(2)?;
+        let more = self.next.len() + 2 - self.face.len();
+        self.face.reserve(more)?;
         let down = HalfEdgeId(self.next.len() as u32);
         let up = HalfEdgeId(down.0 + 1);
         Self::push_both(&mut self.next, up, down);
         Self::push_both(&mut self.prev, up, down);
         Self::push_both(&mut self.origin, high, low);
-        Self::push_both(&mut self.face, FaceId(0), FaceId(0));
-        self.forget_faces();
+        self.faces_set = false;
         Ok(down)
     }
 
@@ -95,14 +95,11 @@ impl Mesh {
         entries.push_reserved(second);
     }
 
-    // Gives each half-edge face 0. Where no face was set since the last time, that is so already.
+    // Gives each half-edge face 0.
     fn forget_faces(&mut self)
         ensures { self.new ≡ with_one_face self.old }
     {
-        if self.faces_set {
-            self.face.fill(FaceId(0));
-            self.faces_set = false;
-        }
+        self.faces_set = false;
     }
 
     /// Links all half-edges that begin at one vertex, in the order of the list, which is not
@@ -157,8 +154,20 @@ impl Mesh {
         requires agree { AgreesAlong self.old.next faces.now }
         ensures { self.new ≡ with_faces self.old faces.now }
     {
-        self.face.copy_from_slice(faces);
+        Self::write(&mut self.face, faces);
         self.faces_set = true;
+    }
+
+    // Writes the list in place of the entries, which have room for it.
+    fn write(entries: &mut Vec<FaceId>, list: &[FaceId])
+        requires { length list.now ≤ vec_capacity entries.old }
+        ensures items { entries.new.items ≡ list.now }
+        ensures room { vec_capacity entries.new ≡ vec_capacity entries.old }
+    {
+        entries.clear();
+        for entry in list {
+            entries.push_reserved(*entry);
+        }
     }
 
     /// The other half of the same edge.
@@ -198,7 +207,11 @@ impl Mesh {
         requires { h < size self.now }
         ensures { result ≡ face_of self.now h }
     {
-        self.face[h.0 as usize]
+        if self.faces_set {
+            self.face[h.0 as usize]
+        } else {
+            FaceId(0)
+        }
     }
 
     /// The number of edges; there are twice as many half-edges. The clause `kept` has what holds

@@ -1,10 +1,11 @@
 -- What a call leaves, by its parts.
-use Rattle.std.proofs.Common.{◌≡◌, ◌≢◌, ℕ, List, Option, sym, ◌∙◌, subst, length}
+use Rattle.std.proofs.Common.{◌≡◌, ℕ, List, Option, inl, inr, sym, ◌∙◌, subst, length}
 use Rattle.std.specs.List.{All, AllZip}
 use Rattle.area_drawings.specs.AreaLimits.{IsSmallPlan}
 use Rattle.area_drawings.specs.KeptViews.{HasTolerance}
 use Rattle.area_drawings.proofs.FewCurves.{few_curves}
 use Rattle.area_drawings.proofs.Zips.{drawn_count}
+use Rattle.commands.specs.Commands.{FileNames}
 use Rattle.delivery.specs.Drawn.{IsCleanDelivery, IsEarlyStatus}
 use Rattle.delivery.specs.Effects.{HoldsFront}
 use Rattle.delivery.specs.declared.drawn.CleanDelivery.{CleanDelivery}
@@ -12,15 +13,16 @@ use Rattle.itffaults.specs.FaultText.Report.{all_verdict}
 use Rattle.itffaults.specs.declared.fault_text.verdicts.Verdict.{Verdict}
 use Rattle.itffaults.specs.declared.fault_text.verdicts.Verdict.TheVariants as verdict
 use Rattle.plane.specs.Rule.Plans.{Plan}
-use Rattle.ports.specs.Files.{Files, Puts}
+use Rattle.ports.specs.Files.{Files}
 use Rattle.reports.specs.AreaKinds.{plans}
+use Rattle.reports.specs.Lines.{Line}
 use Rattle.reports.specs.declared.lines.SurfaceAnswer.{SurfaceAnswer}
 use Rattle.reports.specs.declared.status.Status.{Status}
 use Rattle.reports.specs.declared.status.Status.TheVariants as status
 use Rattle.table_layout.specs.Layouts.{Layout}
 use Rattle.table_layout.specs.Values.{areas_view, layout_view}
-use Rattle.itffaults.specs.Faults.{IsTold, Reports, TellsAll, has_surface_fault, names_by}
-use Rattle.itffaults.specs.Faults.{status_of}
+use Rattle.itffaults.specs.Faults.{IsTold, IsWritten, LeavesRejection, Reports, TellsAll}
+use Rattle.itffaults.specs.Faults.{has_surface_fault, names_by, rejection_text, status_of}
 
 -- ---- the status
 -- what is said of areas is no failed write, and not out of memory
@@ -68,15 +70,15 @@ module _ (held : Option Files) (model transfer : List ℕ) (c : CleanDelivery)
   all_tolerant = h.by.clean.judged.6
 
   -- its faults are all told
-  pub tells : (name : List ℕ) (answer : Status) (new : Option Files)
+  pub tells : (name : List ℕ) (wrote : Type 0) (answer : Status) (new : Option Files)
       (before after : Option (List ℕ)) (text report : List ℕ) (s : Status)
       → IsTold (layout_view c.layout) (plans c.drawings.items) c.surfaces.items c.objects text
       report s
-      → (answer ≢ status.WriteFault → Puts held name (λ file. text) new)
+      → IsWritten held name text wrote answer new before after
       → HoldsFront held name text new
       → Reports report s answer before after
-      → TellsAll held (names_by model transfer name) answer new before after
-  tells name answer new before after text report s t filed begun reports =
+      → TellsAll held wrote (names_by model transfer name) answer new before after
+  tells name wrote answer new before after text report s t filed begun reports =
       let j = h.by.clean.judged in
       record {
         layout = layout_view c.layout;
@@ -103,3 +105,47 @@ module _ (held : Option Files) (model transfer : List ℕ) (c : CleanDelivery)
         begun = begun;
         reports = reports;
       }
+
+-- ---- where more writes failed
+module _ (near far : Type 0) (more : near → far) (held : Option Files) (answer : Status)
+    (new : Option Files) (before after : Option (List ℕ)) where
+  written_on : (name text : List ℕ) → IsWritten held name text near answer new before after
+      → IsWritten held name text far answer new before after
+  written_on name text f (inl n) = f (inl n)
+  written_on name text f (inr (inl n)) = f (inr (inl (λ w. n (more w))))
+  written_on name text f (inr (inr d)) = f (inr (inr d))
+
+  pub tells_on : (names : FileNames) → TellsAll held near names answer new before after
+      → TellsAll held far names answer new before after
+  tells_on names h = record {
+    layout = h.layout;
+    model_text = h.model_text;
+    model = h.model;
+    laid = h.laid;
+    transfer_text = h.transfer_text;
+    transfer = h.transfer;
+    rows = h.rows;
+    are_rows = h.are_rows;
+    clean = h.clean;
+    few = h.few;
+    drawings = h.drawings;
+    drawn = h.drawn;
+    answers = h.answers;
+    answered = h.answered;
+    text = h.text;
+    report = h.report;
+    said = h.said;
+    told = h.told;
+    filed = written_on names.third h.text h.filed;
+    begun = h.begun;
+    reports = h.reports;
+  }
+
+  pub leaves_on : (ls : List Line) (name : List ℕ)
+      → LeavesRejection ls held name near answer new before after
+      → LeavesRejection ls held name far answer new before after
+  leaves_on ls name h = record {
+    filed = written_on name (rejection_text ls) h.filed;
+    begun = h.begun;
+    reports = h.reports;
+  }

@@ -28,8 +28,8 @@ by_rejected A status.OverLimit f n = n (λ e. cc)
 by_rejected A status.Memory f n = n (λ e. cc)
 by_rejected A status.NotProved f n = n (λ e. cc)
 
-module _ (held : Option Files) (near far : List ℕ → Type 0) (words : List (List ℕ))
-    (c : FileNames) (o : Outcome) (answer : Status) (new : Option Files)
+module _ (held : Option Files) (near far : List ℕ → Type 0) (wrote : Type 0)
+    (words : List (List ℕ)) (c : FileNames) (o : Outcome) (answer : Status) (new : Option Files)
     (before after : Option (List ℕ))
     (counted : (name : List ℕ) → near name → far name) (n : AreNames words c)
     (h : IsCheckOf held near c.model c.transfer o) where
@@ -49,10 +49,10 @@ module _ (held : Option Files) (near far : List ℕ → Type 0) (words : List (L
       → (o.status ≢ status.Rejected → new ≡ held)
       → (o.status ≢ status.Rejected → Reports (report_of o) o.status answer before after)
       → ((ls : List Line) → o ≡ rejection ls
-      → LeavesRejection ls held c.third answer new before after)
-      → HasCause held far words answer new before after
+      → LeavesRejection ls held c.third wrote answer new before after)
+      → HasCause held far wrote words answer new before after
   ended i of_files same reports leaves =
-      by_rejected (HasCause held far words answer new before after) o.status
+      by_rejected (HasCause held far wrote words answer new before after) o.status
       (λ s.
       let r = rejects held near c.model c.transfer o h s in
       rejected c n (record {

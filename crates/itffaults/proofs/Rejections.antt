@@ -1,5 +1,5 @@
 -- Transfers that a check rejects before any area is searched.
-use Rattle.std.proofs.Common.{◌≡◌, ◌≢◌, ℕ, ◌+◌, ◌-◌, Bool, true, false, cond, List, [], ◌∷◌}
+use Rattle.std.proofs.Common.{◌≡◌, ℕ, ◌+◌, ◌-◌, Bool, true, false, cond, List, [], ◌∷◌}
 use Rattle.std.proofs.Common.{◌++◌, Option, refl, sym, ap, ◌∙◌, subst, length, take, map, arith}
 use Rattle.std.specs.Prelude.{codes, if◌then◌else◌}
 use Rattle.std.specs.List.{count_by, flat_map}
@@ -20,7 +20,7 @@ use Rattle.delivery.specs.Judging.{IsChecked, at_fault, faulty, findings, oversi
 use Rattle.itffaults.specs.FaultText.Text.{rejected_text}
 use Rattle.itf_reader.specs.Findings.{finding_of}
 use Rattle.itf_reader.specs.declared.findings.Finding.{Finding}
-use Rattle.ports.specs.Files.{Files, Puts}
+use Rattle.ports.specs.Files.{Files}
 use Rattle.reports.specs.Kinds.{has_fault, has_undecided}
 use Rattle.reports.specs.LineViews.{findings_view, line_of, lines_of}
 use Rattle.reports.specs.Lines as lines
@@ -35,7 +35,8 @@ use Rattle.reports.specs.declared.outcome.Outcome as outcome
 use Rattle.reports.specs.declared.status.Status.{Status}
 use Rattle.reports.specs.declared.status.Status.TheVariants as status
 use Rattle.table_layout.specs.Layouts.{Layout}
-use Rattle.itffaults.specs.Faults.{IsRejection, LeavesRejection, Reports, is_finding, rejection}
+use Rattle.itffaults.specs.Faults.{IsRejection, IsWritten, LeavesRejection, Reports, is_finding}
+use Rattle.itffaults.specs.Faults.{rejection}
 
 -- ---- what rejects a transfer has lines, and behind them the verdict
 abbrev chosen : List Line → Outcome → Bool → Bool → Outcome
@@ -213,13 +214,14 @@ module _ (ls : List Line) (t r : List ℕ) (s : Status) (h : IsRejection ls t r 
   pub rejection_memory : s ≡ status.Memory → ⊥
   rejection_memory e = let q : status.Rejected ≡ status.Memory = sym h.status ∙ e in absurd (cc)
 
-  pub leaves : (held : Option Files) (name : List ℕ) (answer : Status) (new : Option Files)
-      (before after : Option (List ℕ))
-      → (answer ≢ status.WriteFault → Puts held name (λ file. t) new) → HoldsFront held name t new
-      → Reports r s answer before after → LeavesRejection ls held name answer new before after
-  leaves held name answer new before after filed begun reports =
+  pub leaves : (held : Option Files) (name : List ℕ) (wrote : Type 0) (answer : Status)
+      (new : Option Files) (before after : Option (List ℕ))
+      → IsWritten held name t wrote answer new before after → HoldsFront held name t new
+      → Reports r s answer before after → LeavesRejection ls held name wrote answer new before after
+  leaves held name wrote answer new before after filed begun reports =
       record {
-        filed = λ n. subst (λ (text : List ℕ). Puts held name (λ file. text) new) h.text (filed n);
+        filed = subst (λ (text : List ℕ). IsWritten held name text wrote answer new before after)
+            h.text filed;
         begun = subst (λ (text : List ℕ). HoldsFront held name text new) h.text begun;
         reports = subst (λ (text : List ℕ). Reports text status.Rejected answer before after)
             h.report

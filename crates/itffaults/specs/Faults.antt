@@ -1,5 +1,5 @@
 -- What the words, the files and the answer of a call have to do with each other.
-use Rattle.std.specs.Prelude.{◌≡◌, ◌≢◌, ℕ, Bool, true, false, List, [], ◌∷◌, ⊤, Option, codes}
+use Rattle.std.specs.Prelude.{◌≡◌, ◌≢◌, ◌⊎◌, ℕ, Bool, true, false, List, [], ◌∷◌, ⊤, Option, codes}
 use Rattle.std.specs.Prelude.{slice_get}
 use Rattle.std.specs.List.{count_by, flat_map}
 use Rattle.area_drawings.specs.AreaLimits.{has_too_large}
@@ -155,29 +155,38 @@ pub record EndsEarly (held : Option Files) (counted : List ℕ → Type 0) (word
   pub same : new ≡ held
   pub reports : Reports (report_of outcome) outcome.status answer before after
 
+-- What a call leaves that writes a text to the file of that name and then a report. `wrote`: a
+-- failed write of a file was counted. No other file has changed. The file is whole unless a write
+-- failed, also where none of a file was counted or the output gained a byte.
+abbrev pub IsWritten : Option Files → List ℕ → List ℕ → Type 0 → Status → Option Files
+    → Option (List ℕ) → Option (List ℕ) → Type 0
+IsWritten held name text wrote answer new before after =
+    (answer ≢ status.WriteFault) ⊎ ((wrote → ⊥) ⊎ (after ≢ before))
+    → Puts held name (λ file. text) new
+
 -- What a call leaves that tells of a transfer that a check rejects with these lines: the file of
 -- that name holds their text, or after a failed write what it held or a front of that, and no other
 -- file has changed; the report and the status are those of the check.
-pub record LeavesRejection (ls : List Line) (held : Option Files) (name : List ℕ) (answer : Status)
-    (new : Option Files) (before after : Option (List ℕ)) : Type 0 where
-  pub filed : answer ≢ status.WriteFault → Puts held name (λ file. rejection_text ls) new
+pub record LeavesRejection (ls : List Line) (held : Option Files) (name : List ℕ) (wrote : Type 0)
+    (answer : Status) (new : Option Files) (before after : Option (List ℕ)) : Type 0 where
+  pub filed : IsWritten held name (rejection_text ls) wrote answer new before after
   pub begun : HoldsFront held name (rejection_text ls) new
   pub reports : Reports (report_of (rejection ls)) status.Rejected answer before after
 
 -- A check of the files, wherever its certificates would go, rejects the transfer with these lines
 -- by its text alone, before any area is searched, and they are told.
-pub record TellsRejection (held : Option Files) (counted : List ℕ → Type 0)
+pub record TellsRejection (held : Option Files) (counted : List ℕ → Type 0) (wrote : Type 0)
     (words : List (List ℕ)) (names : FileNames) (answer : Status) (new : Option Files)
     (before after : Option (List ℕ)) : Type 0 where
   pub lines : List Line
   pub decided : CallOutcome held counted (codes "check" ∷ words) (rejection lines)
   pub of_files : IsOfFiles held names.model names.transfer (rejection lines)
-  pub leaves : LeavesRejection lines held names.third answer new before after
+  pub leaves : LeavesRejection lines held names.third wrote answer new before after
 
 -- All faults are told: the transfer has rows that meet the declarations, no area is over its limit,
 -- the third file holds the text of all faults of the drawings of these rows, or after a failed
 -- write what it held or a front of that, and no other file has changed.
-pub record TellsAll (held : Option Files) (names : FileNames) (answer : Status)
+pub record TellsAll (held : Option Files) (wrote : Type 0) (names : FileNames) (answer : Status)
     (new : Option Files) (before after : Option (List ℕ)) : Type 0 where
   pub layout : Layout
   pub model_text : List ℕ
@@ -197,21 +206,22 @@ pub record TellsAll (held : Option Files) (names : FileNames) (answer : Status)
   pub report : List ℕ
   pub said : Status
   pub told : IsTold layout drawings answers (objects rows) text report said
-  pub filed : answer ≢ status.WriteFault → Puts held names.third (λ file. text) new
+  pub filed : IsWritten held names.third text wrote answer new before after
   pub begun : HoldsFront held names.third text new
   pub reports : Reports report said answer before after
 
 -- What a call does that does not run out of memory: `held` are the files, where the shelf says what
--- it holds; `counted name`: a failed read of that file was counted.
-pub data HasCause (held : Option Files) (counted : List ℕ → Type 0) (words : List (List ℕ))
-    (answer : Status) (new : Option Files) (before after : Option (List ℕ)) : Type 0 where
+-- it holds; `counted name`: a failed read of that file was counted; `wrote`: a failed write of one.
+pub data HasCause (held : Option Files) (counted : List ℕ → Type 0) (wrote : Type 0)
+    (words : List (List ℕ)) (answer : Status) (new : Option Files)
+    (before after : Option (List ℕ)) : Type 0 where
   usage : IsUsage words → new ≡ held → Reports usage_text status.Usage answer before after
-      → HasCause held counted words answer new before after
+      → HasCause held counted wrote words answer new before after
   early : EndsEarly held counted words answer new before after
-      → HasCause held counted words answer new before after
+      → HasCause held counted wrote words answer new before after
   rejected : (names : FileNames) → AreNames words names
-      → TellsRejection held counted words names answer new before after
-      → HasCause held counted words answer new before after
+      → TellsRejection held counted wrote words names answer new before after
+      → HasCause held counted wrote words answer new before after
   told : (names : FileNames) → AreNames words names
-      → TellsAll held names answer new before after
-      → HasCause held counted words answer new before after
+      → TellsAll held wrote names answer new before after
+      → HasCause held counted wrote words answer new before after

@@ -7,8 +7,8 @@
 // - **A transfer that is rejected** before its areas are drawn has a text too: `rejected_text` has
 //   the lines of the report on it, which come as a text, and before them how many findings it has.
 // - **The report.** `fault_report` has a line for each area: its names, the eight counts, and a
-//   word where no level settles it or the pairs that are told are not all. Its last line is the
-//   verdict, which `all_verdict` fixes.
+//   word where its forks are bent, no level settles it or the pairs that are told are not all. Its
+//   last line is the verdict, which `all_verdict` fixes.
 // - **Held, not written.** The text is held in memory (`file_pages`), so that nothing is written
 //   before the verdict is known.
 // - **Degenerate cases.** An area without a fault has its names and its counts alone. A number

@@ -8,8 +8,8 @@ ghost use Rattle.ports.specs.Files.{Puts};
 ghost use Rattle.reports.specs.Lines.{Line};
 ghost use Rattle.reports.specs.Outcomes.{report_of};
 ghost use Rattle.reports.specs.OutcomeViews.{outcome_of};
-ghost use Rattle.itffaults.specs.Faults.{HasCause, LeavesRejection, Reports, TellsAll, names_by};
-ghost use Rattle.itffaults.specs.Faults.{rejection};
+ghost use Rattle.itffaults.specs.Faults.{HasCause, IsWritten, LeavesRejection, Reports, TellsAll};
+ghost use Rattle.itffaults.specs.Faults.{names_by, rejection};
 
 use crate::naming::file_names;
 use crate::rejecting::tell_rejection;
@@ -54,8 +54,9 @@ fn publish<S: Shelf, K: Sink>(telling: &Telling, name: &str, shelf: &mut S, out:
     requires sound { telling.now.status ≢ Status.WriteFault }
     ensures reports { Reports telling.now.report.items telling.now.status result
         (K.written out.old) (K.written out.new) }
-    ensures filed { result ≢ Status.WriteFault → Puts (S.held shelf.old) name.now
-        (λ file. telling.now.text) (S.held shelf.new) }
+    ensures filed { IsWritten (S.held shelf.old) name.now telling.now.text
+        (Rose (S.write_faults shelf.old) (S.write_faults shelf.new)) result
+        (S.held shelf.new) (K.written out.old) (K.written out.new) }
     ensures begun { HoldsFront (S.held shelf.old) name.now telling.now.text (S.held shelf.new) }
     ensures reads { NoReadFell (S.read_faults shelf.old) (S.read_faults shelf.new) }
     ensures writes { S.write_faults shelf.old ≤ S.write_faults shelf.new }
@@ -83,8 +84,10 @@ fn tell_clean<S: Shelf, K: Sink>(
         × IsCleanDelivery (S.held shelf.old) model transfer clean.now }
     ensures told { result ≢ Status.Memory → (model transfer : List ℕ)
         → IsCleanDelivery (S.held shelf.old) model transfer clean.now
-        → TellsAll (S.held shelf.old) (names_by model transfer name.now) result
-        (S.held shelf.new) (K.written out.old) (K.written out.new) }
+        → TellsAll (S.held shelf.old)
+        (Rose (S.write_faults shelf.old) (S.write_faults shelf.new))
+        (names_by model transfer name.now) result (S.held shelf.new) (K.written out.old)
+        (K.written out.new) }
     ensures reads { NoReadFell (S.read_faults shelf.old) (S.read_faults shelf.new) }
     ensures writes { S.write_faults shelf.old ≤ S.write_faults shelf.new }
     ensures faults { K.faults out.old ≤ K.faults out.new }
@@ -111,6 +114,7 @@ fn tell_rejected<S: Shelf, K: Sink>(
     requires rejected { (ls : List Line) × (outcome_of outcome.now ≡ rejection ls) }
     ensures told { result ≢ Status.Memory → (ls : List Line)
         → outcome_of outcome.now ≡ rejection ls → LeavesRejection ls (S.held shelf.old) name.now
+        (Rose (S.write_faults shelf.old) (S.write_faults shelf.new))
         result (S.held shelf.new) (K.written out.old) (K.written out.new) }
     ensures reads { NoReadFell (S.read_faults shelf.old) (S.read_faults shelf.new) }
     ensures writes { S.write_faults shelf.old ≤ S.write_faults shelf.new }
@@ -160,6 +164,7 @@ fn end_check<S: Shelf, K: Sink>(
         (K.written out.old) (K.written out.new) }
     ensures told { result ≢ Status.Memory → (ls : List Line)
         → outcome_of outcome.now ≡ rejection ls → LeavesRejection ls (S.held shelf.old) name.now
+        (Rose (S.write_faults shelf.old) (S.write_faults shelf.new))
         result (S.held shelf.new) (K.written out.old) (K.written out.new) }
     ensures reads { NoReadFell (S.read_faults shelf.old) (S.read_faults shelf.new) }
     ensures writes { S.write_faults shelf.old ≤ S.write_faults shelf.new }
@@ -188,6 +193,7 @@ pub fn run<S: Shelf, K: Sink>(alloc: Global, words: &[Word], shelf: &mut S, out:
     // The cause of the answer, the report and the files.
     ensures cause { result ≢ Status.Memory → HasCause (S.held shelf.old)
         (ReadRose (S.read_faults shelf.old) (S.read_faults shelf.new))
+        (Rose (S.write_faults shelf.old) (S.write_faults shelf.new))
         words.now result (S.held shelf.new) (K.written out.old) (K.written out.new) }
 
     // A write fails only where a fault of it was counted.

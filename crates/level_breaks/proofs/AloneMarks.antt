@@ -12,13 +12,13 @@ not_both e = cc
 no_truth : IsTrue false → ⊥
 no_truth t = cc
 
-pub none_are_alone : (d : Plan) (level : ℕ) (marks : List Bool) → marks ≡ []
+pub none_are_alone : (d : Plan) (level : ℕ → ℕ) (marks : List Bool) → marks ≡ []
     → AreAlone d level marks
 none_are_alone d level marks e i j l m b =
     (ap (λ (ms : List Bool). mark_of ms i) e, ap (λ (ms : List Bool). mark_of ms j) e)
 
 -- the test of a pair with such a curve says no
-module _ (d : Plan) (level i j : ℕ) (marks : List Bool) (l : i < j) (m : j < length d.curves)
+module _ (d : Plan) (level : ℕ → ℕ) (i j : ℕ) (marks : List Bool) (l : i < j) (m : j < length d.curves)
     (a : AreAlone d level marks) where
   alone_breaks_none : IsOneMarked marks i j → Breaks d level i j → ⊥
   alone_breaks_none (inl e) b = not_both (sym (a i j l m b).0 ∙ e)

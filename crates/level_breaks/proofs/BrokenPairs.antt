@@ -42,7 +42,7 @@ two_kinds e = cc
 
 -- ---- two straights do not break a level but where they are bad
 module _ (bad_is : (s t : Edge) (c d : Curve) → IsEdgeOf s c → IsEdgeOf t d → c.kind ≡ kind.Straight
-    → d.kind ≡ kind.Straight → (Bad s t → StraightsMeet c d)) (d : Plan) (level : ℕ) where
+    → d.kind ≡ kind.Straight → (Bad s t → StraightsMeet c d)) (d : Plan) (level : ℕ → ℕ) where
   straight_edge : (i : ℕ) (o : runs.Owned) → (curve d i).kind ≡ kind.Straight
       → Has o (group d level i) → IsEdgeOf (edge_as o) (curve d i)
   straight_edge i o s h =
@@ -116,14 +116,14 @@ own_to level c (Some t) (k, m) =
     has_left c.to t.inner.items t.outer.items
     (subst (Has c.to) (sym m.inner) (inr (to_is_inner level c t m)))
 
-module _ (d : Plan) (level : ℕ)
+module _ (d : Plan) (level : ℕ → ℕ)
     (straight : (b : Box) (z : Vector) (p q : Point) → Place z → InBox b (point p)
     → InBox b (point q) → IsOnStraight (point p) (point q) z → InBox b z)
     (tube : (b : Box) (z : Vector) (v : Point) (bs : List Bay) → Place z → InBox b (point v)
     → Each (λ k. InBox b (point k.outer) × InBox b (point k.inner)) bs → InTube v bs z
     → InBox b z) where
-  module _ (i j : ℕ) (t u : Option Tube) (ht : IsTubed level (curve d i) t)
-      (hu : IsTubed level (curve d j) u) (a b : Box)
+  module _ (i j : ℕ) (t u : Option Tube) (ht : IsTubed (level i) (curve d i) t)
+      (hu : IsTubed (level j) (curve d j) u) (a b : Box)
       (ha : HoldsAll a (groups.corners (curve d i) t))
       (hb : HoldsAll b (groups.corners (curve d j) u)) where
     end_in : (p : Point) → EndsAt d level i p → InBox a (point p)
@@ -146,15 +146,15 @@ module _ (d : Plan) (level : ℕ)
     enter_shares : EntersTube d level i j → ShareAPlace a b
     enter_shares h = by t ht ha
       where
-        by : (t : Option Tube) → IsTubed level (curve d i) t
+        by : (t : Option Tube) → IsTubed (level i) (curve d i) t
             → HoldsAll a (groups.corners (curve d i) t) → ShareAPlace a b
         by None s all = two_kinds (sym s ∙ h.half_arc.kind)
         by (Some t) s all = (
           point h.p,
           place_point h.p,
-          tube_in_box level (curve d i) t s.1 tube a (point h.p)
+          tube_in_box (level i) (curve d i) t s.1 tube a (point h.p)
               (place_point h.p) all
-              ((held_is_in_tile level (curve d i) t s.1 (point h.p)).1
+              ((held_is_in_tile (level i) (curve d i) t s.1 (point h.p)).1
               (h.triangle, h.of_tube, h.holds)),
           end_in_too h.p h.ends,
         )
@@ -163,11 +163,11 @@ module _ (d : Plan) (level : ℕ)
     of_same (inl (e, f)) =
         subst (λ p. InBox b (point p)) (sym e)
         (each_has (λ q. InBox b (point q)) (groups.corners (curve d j) u) (curve d j).from hb
-        (own_from level (curve d j) u hu))
+        (own_from (level j) (curve d j) u hu))
     of_same (inr (e, f)) =
         subst (λ p. InBox b (point p)) (sym e)
         (each_has (λ q. InBox b (point q)) (groups.corners (curve d j) u) (curve d j).to hb
-        (own_to level (curve d j) u hu))
+        (own_to (level j) (curve d j) u hu))
 
     pub way_shares : BreaksOneWay d level i j → ShareAPlace a b
     way_shares (inl h) = enter_shares h
@@ -177,15 +177,15 @@ module _ (d : Plan) (level : ℕ)
       point (curve d i).from,
       place_point (curve d i).from,
       each_has (λ q. InBox a (point q)) (groups.corners (curve d i) t) (curve d i).from ha
-          (own_from level (curve d i) t ht),
+          (own_from (level i) (curve d i) t ht),
       of_same h.joins,
     )
 
   share_back : (a b : Box) → ShareAPlace a b → ShareAPlace b a
   share_back a b (z, Z, f, g) = (z, Z, g, f)
 
-  pub broken_shares : (i j : ℕ) (t u : Option Tube) → (i ≡ j → ⊥) → IsTubed level (curve d i) t
-      → IsTubed level (curve d j) u → (a b : Box) → HoldsAll a (groups.corners (curve d i) t)
+  pub broken_shares : (i j : ℕ) (t u : Option Tube) → (i ≡ j → ⊥) → IsTubed (level i) (curve d i) t
+      → IsTubed (level j) (curve d j) u → (a b : Box) → HoldsAll a (groups.corners (curve d i) t)
       → HoldsAll b (groups.corners (curve d j) u) → Breaks d level i j → ShareAPlace a b
   broken_shares i j t u n ht hu a b ha hb (missing e h k) = absurd (n e)
   broken_shares i j t u n ht hu a b ha hb (edges m g h k) = meet_shares i j t u ht hu a b ha hb k
@@ -203,9 +203,9 @@ module _ (d : Plan) (level : ℕ)
     broken_near i j l m h =
         let k : i < length d.curves = omega (arith, l, m) in
         let g = groups_of d level i j (λ e. omega (arith, l, e)) h in
-        let ti = tubed_of level (curve d i) (tube_of tubes i) (ht.each i k)
+        let ti = tubed_of (level i) (curve d i) (tube_of tubes i) (ht.each i k)
         (group_has_edges d level i (tube_of tubes i) (ht.each i k) g.0) in
-        let tj = tubed_of level (curve d j) (tube_of tubes j) (ht.each j m)
+        let tj = tubed_of (level j) (curve d j) (tube_of tubes j) (ht.each j m)
         (group_has_edges d level j (tube_of tubes j) (ht.each j m) g.1) in
         record {
           mark = hm i j l m h;
@@ -217,7 +217,7 @@ module _ (d : Plan) (level : ℕ)
 -- ---- of a drawing in which no two straights are bad the half arcs are marked
 pub half_arcs_marked : ((s t : Edge) (c d : Curve) → IsEdgeOf s c → IsEdgeOf t d
     → c.kind ≡ kind.Straight → d.kind ≡ kind.Straight → (Bad s t → StraightsMeet c d))
-    → (d : Plan) (level : ℕ) → HasNoBadStraights d
+    → (d : Plan) (level : ℕ → ℕ) → HasNoBadStraights d
     → (lent : List Curve) (marks marks_lent : List Bool) → lent ≡ d.curves → marks_lent ≡ marks
     → AreMarksTo lent (length lent) marks → AreBreaksMarked d level marks_lent
 half_arcs_marked bad_is d level none lent marks marks_lent e f m i j l k h =

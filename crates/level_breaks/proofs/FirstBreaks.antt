@@ -28,12 +28,12 @@ use Rattle.level_breaks.proofs.ShortForm.{groups_of}
 use Rattle.level_breaks.proofs.Unbroken.{settled}
 
 -- ---- half arcs without a tube
-module _ (d : Plan) (level : ℕ) (tubes : List (Option Tube)) (ht : AreTubesAt d level tubes) where
-  bare_has_none : (i : ℕ) → IsBare d.curves tubes i → HasNoTube (arc (curve d i)) level
+module _ (d : Plan) (level : ℕ → ℕ) (tubes : List (Option Tube)) (ht : AreTubesAt d level tubes) where
+  bare_has_none : (i : ℕ) → IsBare d.curves tubes i → HasNoTube (arc (curve d i)) (level i)
   bare_has_none i h = by (tube_of tubes i) h.none (ht.each i h.there)
     where
-      by : (t : Option Tube) → t ≡ None → IsTubeFor (curve d i) level t
-          → HasNoTube (arc (curve d i)) level
+      by : (t : Option Tube) → t ≡ None → IsTubeFor (curve d i) (level i) t
+          → HasNoTube (arc (curve d i)) (level i)
       by None e f = f.0 h.kind
       by (Some t) e f = none e
         where
@@ -43,11 +43,11 @@ module _ (d : Plan) (level : ℕ) (tubes : List (Option Tube)) (ht : AreTubesAt 
   pub bare_breaks : (i : ℕ) → IsBare d.curves tubes i → Breaks d level i i
   bare_breaks i h = missing refl (record { there = h.there; kind = h.kind }) (bare_has_none i h)
 
-  has_tube_or : (i : ℕ) → IsHalfArc d i → HasTube (arc (curve d i)) level ⊎ IsBare d.curves tubes i
+  has_tube_or : (i : ℕ) → IsHalfArc d i → HasTube (arc (curve d i)) (level i) ⊎ IsBare d.curves tubes i
   has_tube_or i h = by (tube_of tubes i) refl (ht.each i h.there)
     where
-      by : (t : Option Tube) → tube_of tubes i ≡ t → IsTubeFor (curve d i) level t
-          → HasTube (arc (curve d i)) level ⊎ IsBare d.curves tubes i
+      by : (t : Option Tube) → tube_of tubes i ≡ t → IsTubeFor (curve d i) (level i) t
+          → HasTube (arc (curve d i)) (level i) ⊎ IsBare d.curves tubes i
       by None e f = inr (record { there = h.there; kind = h.kind; none = e })
       by (Some t) e f = let m = f.0 h.kind in inl (m.after, t.outer.items, m.tube)
 
@@ -168,7 +168,7 @@ module _ (d : Plan) (level : ℕ) (tubes : List (Option Tube)) (ht : AreTubesAt 
         → runs.Connects a (owned_at d level e).from (owned_at d level e).to → IsEnd a p
         → Has t (tiles (curve d i).from (drawn_bays d level i)) → InTile t (point p)
         → IsCornerOf t p)
-        (tube_is : (i : ℕ) → HasTube (arc (curve d i)) level
+        (tube_is : (i : ℕ) → HasTube (arc (curve d i)) (level i)
         → IsTube (arc (curve d i)) (drawn_bays d level i)) where
       pub none_is_settled : pair ≡ None → bare ≡ None → IsSettledAt d level
       none_is_settled e q =

@@ -86,14 +86,14 @@ mark_more curves k marks new r a q h = subst (AreMarksTo curves (k + 1)) (sym q)
       → b ≡ true) a.half_arc (λ e. h.1 e);
 })
 
-pub tube_more : (curves : List Curve) (level k : ℕ) (tubes new : List (Option Tube))
+pub tube_more : (curves : List Curve) (level : ℕ → ℕ) (k : ℕ) (tubes new : List (Option Tube))
     (t : Option Tube)
     → AreTubesTo curves level k tubes → new ≡ tubes ++ t ∷ []
-    → IsTubeFor (nth_curve curves k) level t → AreTubesTo curves level (k + 1) new
+    → IsTubeFor (nth_curve curves k) (level k) t → AreTubesTo curves level (k + 1) new
 tube_more curves level k tubes new t a q h =
     subst (AreTubesTo curves level (k + 1)) (sym q) (record {
       size = size_more tubes t None k a.size;
-      each = each_more tubes t None k a.size (λ i u. IsTubeFor (nth_curve curves i) level u) a.each h;
+      each = each_more tubes t None k a.size (λ i u. IsTubeFor (nth_curve curves i) (level i) u) a.each h;
     })
 
 -- ---- at the end
@@ -108,7 +108,7 @@ pub all_marks : (curves : List Curve) (k : ℕ) (marks : List Bool) → length c
 all_marks curves k marks l m a =
     subst (λ (n : ℕ). AreMarksTo curves n marks) (omega (arith, l, m)) a
 
-pub all_tubes : (d : Plan) (level k : ℕ) (tubes : List (Option Tube)) → length d.curves ≤ k
+pub all_tubes : (d : Plan) (level : ℕ → ℕ) (k : ℕ) (tubes : List (Option Tube)) → length d.curves ≤ k
     → k ≤ length d.curves → AreTubesTo d.curves level k tubes → AreTubesAt d level tubes
 all_tubes d level k tubes l m a =
     by (subst (λ (n : ℕ). AreTubesTo d.curves level n tubes) (omega (arith, l, m)) a)

@@ -39,7 +39,7 @@ chain_part i part p [] o h = absurd h
 chain_part i part p (q ∷ qs) o (inl e) = ap (λ (x : runs.Owned). x.part) e
 chain_part i part p (q ∷ qs) o (inr h) = chain_part i part q qs o h
 
-module _ (d : Plan) (level : ℕ) where
+module _ (d : Plan) (level : ℕ → ℕ) where
   abbrev pub B : ℕ → List Bay
   B = drawn_bays d level
 

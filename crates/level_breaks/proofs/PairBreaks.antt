@@ -30,13 +30,13 @@ use Rattle.level_breaks.proofs.ShortForm.{broken_is, group_has_edges, groups_of,
 
 -- The curve is that of the number, the tube is its tube at the level, where it has one, and the box
 -- holds their corners.
-pub record IsCurveAt (d : Plan) (level i : ℕ) (g : Group) : Type 0 where
+pub record IsCurveAt (d : Plan) (level : ℕ → ℕ) (i : ℕ) (g : Group) : Type 0 where
   pub curve_is : g.curve.now ≡ curve d i
-  pub tube : IsTubeFor (curve d i) level g.tube.now
+  pub tube : IsTubeFor (curve d i) (level i) g.tube.now
   pub holds : HoldsAll (box_of g.reach) (groups.corners g.curve.now g.tube.now)
 
 -- what is taken from lists of tubes and boxes
-pub listed_at : (d : Plan) (level i : ℕ) (tubes : List (Option Tube)) (boxes : List Reach)
+pub listed_at : (d : Plan) (level : ℕ → ℕ) (i : ℕ) (tubes : List (Option Tube)) (boxes : List Reach)
     (g : Group)
     → i < length d.curves → AreTubesAt d level tubes
     → AreBoxesTo d.curves tubes (length d.curves) boxes
@@ -44,7 +44,7 @@ pub listed_at : (d : Plan) (level i : ℕ) (tubes : List (Option Tube)) (boxes :
     → IsCurveAt d level i g
 listed_at d level i tubes boxes g l ht hb curve_is tube_is reach_is = record {
   curve_is = curve_is;
-  tube = subst (IsTubeFor (curve d i) level) (sym tube_is) (ht.each i l);
+  tube = subst (IsTubeFor (curve d i) (level i)) (sym tube_is) (ht.each i l);
   holds = subst (λ r. HoldsAll (box_of r) (groups.corners g.curve.now g.tube.now)) (sym reach_is)
       (subst (λ c. HoldsAll (box_of (reach_of boxes i)) (groups.corners c g.tube.now))
       (sym curve_is)
@@ -64,44 +64,46 @@ fit_at d i c x l drawn e =
     subst IsFit (sym (indexed_at d i c x l e)) (fit d.window (curve d i) (drawn i _ l))
 
 -- what is made for one curve
-pub made_at : (d : Plan) (level i : ℕ) (c : Curve) (t : Option Tube) (g : Group) → c ≡ curve d i
-    → IsTubeFor c level t → g.curve.now ≡ c → g.tube.now ≡ t
+pub made_at : (d : Plan) (level : ℕ → ℕ) (i : ℕ) (c : Curve) (t : Option Tube) (g : Group) → c ≡ curve d i
+    → IsTubeFor c (level i) t → g.curve.now ≡ c → g.tube.now ≡ t
     → HoldsAll (box_of g.reach) (groups.corners c t) → IsCurveAt d level i g
 made_at d level i c t g e told curve_is tube_is holds = record {
   curve_is = curve_is ∙ e;
-  tube = subst (IsTubeFor (curve d i) level) (sym tube_is)
-      (subst (λ x. IsTubeFor x level t) e told);
+  tube = subst (IsTubeFor (curve d i) (level i)) (sym tube_is)
+      (subst (λ x. IsTubeFor x (level i) t) e told);
   holds = subst (λ x. HoldsAll (box_of g.reach) (groups.corners x g.tube.now)) (sym curve_is)
       (subst (λ u. HoldsAll (box_of g.reach) (groups.corners c u)) (sym tube_is) holds);
 }
 
-module _ (d : Plan) (level i j : ℕ) (order : i < j) (there : j < length d.curves) (g h : Group)
+module _ (d : Plan) (level : ℕ → ℕ) (i j : ℕ) (order : i < j) (there : j < length d.curves) (g h : Group)
     (gi : IsCurveAt d level i g) (hj : IsCurveAt d level j h) where
   first_there : i < length d.curves
   first_there = omega (arith, order, there)
 
   tubed_by : (k : ℕ) (x : Group) → IsCurveAt d level k x → HasEdges x.curve.now x.tube.now
-      → IsTubed level (curve d k) x.tube.now
+      → IsTubed (level k) (curve d k) x.tube.now
   tubed_by k x n e =
-      tubed_of level (curve d k) x.tube.now n.tube (subst (λ c. HasEdges c x.tube.now) n.curve_is e)
+      tubed_of (level k) (curve d k) x.tube.now n.tube (subst (λ c. HasEdges c x.tube.now) n.curve_is e)
 
   group_by : (k : ℕ) (x : Group) → k < length d.curves
       → All (λ (c : Curve). IsDrawn d.window.low d.window.high c) d.curves → IsCurveAt d level k x
-      → HasEdges x.curve.now x.tube.now → IsGroup d.window.low d.window.high level x
+      → HasEdges x.curve.now x.tube.now → IsGroup d.window.low d.window.high (level k) x
   group_by k x l drawn n e = record {
     drawn = subst (IsDrawn d.window.low d.window.high) (sym n.curve_is) (drawn k _ l);
-    tubed = subst (λ c. IsTubed level c x.tube.now) (sym n.curve_is) (tubed_by k x n e);
+    tubed = subst (λ c. IsTubed (level k) c x.tube.now) (sym n.curve_is) (tubed_by k x n e);
     holds = n.holds;
   }
 
-  pub placed : level ≤ 5 → All (λ (c : Curve). IsDrawn d.window.low d.window.high c) d.curves
+  pub placed : ((k : ℕ) → level k ≤ 5) → All (λ (c : Curve). IsDrawn d.window.low d.window.high c) d.curves
       → HasEdges g.curve.now g.tube.now → HasEdges h.curve.now h.tube.now → AreGroups g h
   placed few drawn eg eh = record {
     low = d.window.low;
     high = d.window.high;
-    level = level;
+    level = level i;
+    next = level j;
     narrow = d.window.narrow;
-    few = few;
+    few = few i;
+    next_few = few j;
     first = group_by i g first_there drawn gi eg;
     second = group_by j h there drawn hj eh;
   }

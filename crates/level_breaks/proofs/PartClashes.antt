@@ -126,7 +126,7 @@ module _ (g h : Group) (G : AreGroups g h) where
       G.first.tubed l e)))
   broken_by i j l m (inr (inr e)) =
       inr (inl (inl
-      (enters_from G.level h.curve.now h.tube.now g.curve.now g.tube.now j i other mine
+      (enters_from G.next h.curve.now h.tube.now g.curve.now g.tube.now j i other mine
       G.second.tubed m e)))
 
   onward : AnyClash g h ⊎ UnderChord g h → Broken g h
@@ -139,7 +139,7 @@ module _ (g h : Group) (G : AreGroups g h) where
       let (i, l, j, m, e) = meets_to g.curve.now g.tube.now h.curve.now h.tube.now mine other s in
       inl (clash_at g h i j l m (inl e))
   back (inr (inl (inl s))) =
-      let (j, m, i, l, e) = enters_to G.level h.curve.now h.tube.now g.curve.now g.tube.now other
+      let (j, m, i, l, e) = enters_to G.next h.curve.now h.tube.now g.curve.now g.tube.now other
       mine G.second.tubed s in
       inl (clash_at g h i j l m (inr (inr e)))
   back (inr (inl (inr u))) = inr (inl u)

@@ -112,9 +112,11 @@ pub groups_back : (g h : Group) → AreGroups g h → AreGroups h g
 groups_back g h a = record {
   low = a.low;
   high = a.high;
-  level = a.level;
+  level = a.next;
+  next = a.level;
   narrow = a.narrow;
-  few = a.few;
+  few = a.next_few;
+  next_few = a.few;
   first = a.second;
   second = a.first;
 }
@@ -125,14 +127,14 @@ first_edged g h a =
 
 pub second_edged : (g h : Group) → AreGroups g h → IsEdged h.curve.now h.tube.now
 second_edged g h a =
-    edged_with a.low a.high a.level h.curve.now h.tube.now a.few a.second.drawn a.second.tubed
+    edged_with a.low a.high a.next h.curve.now h.tube.now a.next_few a.second.drawn a.second.tubed
 
 pub beside : (g h : Group) (k : ℕ) → AreGroups g h → k < length (edges_with g.curve.now g.tube.now)
     → IsBeside (edge_of (edges_with g.curve.now g.tube.now) k) (edges_with h.curve.now h.tube.now)
 beside g h k a l =
     let mine = good_edges a.low a.high a.level g.curve.now g.tube.now a.first.drawn a.first.tubed k
     l in
-    let other = good_edges a.low a.high a.level h.curve.now h.tube.now a.second.drawn
+    let other = good_edges a.low a.high a.next h.curve.now h.tube.now a.second.drawn
     a.second.tubed in
     let es = edges_with h.curve.now h.tube.now in record {
       sorted = mine.sorted;
@@ -148,12 +150,12 @@ turnable_at g h t a e k l p end =
     let about = each_has (IsAbout a.low a.high) (corners g.curve.now g.tube.now) p
     (about_corners a.low a.high a.level g.curve.now g.tube.now a.first.drawn a.first.tubed)
     has in
-    let tubed = subst (IsTubed a.level h.curve.now) e a.second.tubed in
-    let mine = about_corners a.low a.high a.level h.curve.now (Some t) a.second.drawn tubed in
+    let tubed = subst (IsTubed a.next h.curve.now) e a.second.tubed in
+    let mine = about_corners a.low a.high a.next h.curve.now (Some t) a.second.drawn tubed in
     let close = each_mapped (IsAbout a.low a.high) (λ q. AreClose q p)
     (corners h.curve.now (Some t)) (λ q b. about_close a.low a.high q p a.narrow b about)
     mine in
-    made_turnable t p (arc h.curve.now, a.level, tubed.1)
+    made_turnable t p (arc h.curve.now, a.next, tubed.1)
     (each_front (λ q. AreClose q p) t.inner.items t.outer.items close)
     (each_back (λ q. AreClose q p) t.inner.items t.outer.items close)
 
@@ -220,9 +222,9 @@ pub chord_judged : (g h : Group) (t : Tube) → AreGroups g h → h.tube.now ≡
 chord_judged g h t a e =
     let c = h.curve.now in
     let d = a.second.drawn in
-    let tubed = subst (IsTubed a.level c) e a.second.tubed in
+    let tubed = subst (IsTubed a.next c) e a.second.tubed in
     let about = each_front (IsAbout a.low a.high) t.inner.items t.outer.items
-    (about_corners a.low a.high a.level c (Some t) d tubed) in
+    (about_corners a.low a.high a.next c (Some t) d tubed) in
     record {
       ends = inside_close a.low a.high c.from c.to a.narrow d.from d.to;
       third = inside_close a.low a.high c.from c.third a.narrow d.from d.third;

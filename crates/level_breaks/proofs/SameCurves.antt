@@ -57,7 +57,7 @@ kind_copy i a kind.HalfArc c bs o h =
 -- ---- one curve under two numbers
 module _ (d e : Plan) (level i a : ℕ) (there : a < length e.curves)
     (same : curve d i ≡ curve e a) where
-  bays_same : drawn_bays d level i ≡ drawn_bays e level a
+  bays_same : drawn_bays d (λ n. level) i ≡ drawn_bays e (λ n. level) a
   bays_same = ap (λ (c : Curve). bays_at (arc c) level) same
 
   half_copy : IsHalfArc d i → IsHalfArc e a
@@ -78,25 +78,25 @@ module _ (d e : Plan) (level i a : ℕ) (there : a < length e.curves)
     kind = subst (λ (c : Curve). c.kind ≡ kind.HalfArc) (sym same) h.kind;
   }
 
-  group_copy : HasGroup d level i → HasGroup e level a
+  group_copy : HasGroup d (λ n. level) i → HasGroup e (λ n. level) a
   group_copy g = record {
     there = there;
     tube = λ h. subst (λ (c : Curve). HasTube (arc c) level) same (g.tube (half_back g.there h));
   }
 
-  edge_copy : (o : runs.Owned) → Has o (group d level i) → Copy o (group e level a)
+  edge_copy : (o : runs.Owned) → Has o (group d (λ n. level) i) → Copy o (group e (λ n. level) a)
   edge_copy o h =
       subst (λ (c : Curve). Copy o (runs.edges_of a c.kind c (bays_at (arc c) level))) same
-      (kind_copy i a (curve d i).kind (curve d i) (drawn_bays d level i) o h)
+      (kind_copy i a (curve d i).kind (curve d i) (drawn_bays d (λ n. level) i) o h)
 
-  ends_copy : (p : Point) → EndsAt d level i p → EndsAt e level a p
+  ends_copy : (p : Point) → EndsAt d (λ n. level) i p → EndsAt e (λ n. level) a p
   ends_copy p (o, h, q) =
       let c = edge_copy o h in (c.0, c.1, subst (λ (x : Edge). IsEnd x p) (sym c.2) q)
 
 -- ---- two curves
 module _ (d e : Plan) (level i j a b : ℕ) (ta : a < length e.curves) (tb : b < length e.curves)
     (ci : curve d i ≡ curve e a) (cj : curve d j ≡ curve e b) where
-  meet_copy : EdgesMeet d level i j → EdgesMeet e level a b
+  meet_copy : EdgesMeet d (λ n. level) i j → EdgesMeet e (λ n. level) a b
   meet_copy (o, u, ho, hu, bad) =
       let x = edge_copy d e level i a ta ci o ho in
       let y = edge_copy d e level j b tb cj u hu in (
@@ -108,7 +108,7 @@ module _ (d e : Plan) (level i j a b : ℕ) (ta : a < length e.curves) (tb : b <
             (subst (λ (t : Edge). Bad (edge_as o) t) (sym y.2) bad),
       )
 
-  enter_copy : EntersTube d level i j → EntersTube e level a b
+  enter_copy : EntersTube d (λ n. level) i j → EntersTube e (λ n. level) a b
   enter_copy h = record {
     half_arc = half_copy d e level i a ta ci h.half_arc;
     p = h.p;
@@ -120,7 +120,7 @@ module _ (d e : Plan) (level i j a b : ℕ) (ta : a < length e.curves) (tb : b <
     no_corner = h.no_corner;
   }
 
-  share_copy : SharesCorner d level i j → SharesCorner e level a b
+  share_copy : SharesCorner d (λ n. level) i j → SharesCorner e (λ n. level) a b
   share_copy h = record {
     half_arc = half_copy d e level i a ta ci h.half_arc;
     p = h.p;
@@ -129,7 +129,7 @@ module _ (d e : Plan) (level i j a b : ℕ) (ta : a < length e.curves) (tb : b <
     ends = ends_copy d e level j b tb cj h.p h.ends;
   }
 
-  under_copy : LiesUnderChord d level i j → LiesUnderChord e level a b
+  under_copy : LiesUnderChord d (λ n. level) i j → LiesUnderChord e (λ n. level) a b
   under_copy h = record {
     straight = straight_copy d e level i a ta ci h.straight;
     half_arc = half_copy d e level j b tb cj h.half_arc;
@@ -141,14 +141,14 @@ module _ (d e : Plan) (level i j a b : ℕ) (ta : a < length e.curves) (tb : b <
     low = subst (λ (c : Curve). bow (arc c) (point h.b.inner) ≤ℤ pos 0) cj h.low;
   }
 
-  pub way_copy : BreaksOneWay d level i j → BreaksOneWay e level a b
+  pub way_copy : BreaksOneWay d (λ n. level) i j → BreaksOneWay e (λ n. level) a b
   way_copy (inl h) = inl (enter_copy h)
   way_copy (inr (inl h)) = inr (inl (share_copy h))
   way_copy (inr (inr h)) = inr (inr (under_copy h))
 
 pub breaks_copy : (d e : Plan) (level i j a b : ℕ) → a < length e.curves → b < length e.curves
-    → curve d i ≡ curve e a → curve d j ≡ curve e b → (i ≡ j → ⊥) → (a ≡ b → ⊥) → Breaks d level i j
-    → Breaks e level a b
+    → curve d i ≡ curve e a → curve d j ≡ curve e b → (i ≡ j → ⊥) → (a ≡ b → ⊥) → Breaks d (λ n. level) i j
+    → Breaks e (λ n. level) a b
 breaks_copy d e level i j a b ta tb ci cj n m (missing q h k) = absurd (n q)
 breaks_copy d e level i j a b ta tb ci cj n m (edges q g h k) =
     edges m (group_copy d e level i a ta ci g) (group_copy d e level j b tb cj h)

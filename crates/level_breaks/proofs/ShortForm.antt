@@ -62,9 +62,9 @@ bad_of_lists es fs = (
 )
 
 -- ---- one curve of a drawing with its tube
-module _ (d : Plan) (level i : ℕ) (t : Option Tube) (tubed : IsTubed level (curve d i) t) where
+module _ (d : Plan) (level : ℕ → ℕ) (i : ℕ) (t : Option Tube) (tubed : IsTubed (level i) (curve d i) t) where
   same_edges : map edge_as (group d level i) ≡ edges_with (curve d i) t
-  same_edges = edges_map i level (curve d i) t tubed
+  same_edges = edges_map i (level i) (curve d i) t tubed
 
   pub edge_has : (o : runs.Owned) → Has o (group d level i)
       → Has (edge_as o) (edges_with (curve d i) t)
@@ -76,8 +76,8 @@ module _ (d : Plan) (level i : ℕ) (t : Option Tube) (tubed : IsTubed level (cu
 
   pub ends_have : (p : Point) → EndsAt d level i p ↔ Has p (groups.corners (curve d i) t)
   ends_have p = (
-    (λ (o, h, end). (ends_are level (curve d i) t p tubed).0 (edge_as o, edge_has o h, end)),
-    (λ h. let (e, he, end) = (ends_are level (curve d i) t p tubed).1 h in
+    (λ (o, h, end). (ends_are (level i) (curve d i) t p tubed).0 (edge_as o, edge_has o h, end)),
+    (λ h. let (e, he, end) = (ends_are (level i) (curve d i) t p tubed).1 h in
         let (o, ho, q) = has_edge e he in (o, ho, subst (λ x. IsEnd x p) q end)),
   )
 
@@ -85,8 +85,8 @@ tubed_kind : (level : ℕ) (c : Curve) (t : Tube) → IsTubed level c (Some t) �
 tubed_kind level c t h = h.0
 
 -- ---- edges that meet
-pub meet_is : (d : Plan) (level i j : ℕ) (t u : Option Tube) → IsTubed level (curve d i) t
-    → IsTubed level (curve d j) u
+pub meet_is : (d : Plan) (level : ℕ → ℕ) (i j : ℕ) (t u : Option Tube) → IsTubed (level i) (curve d i) t
+    → IsTubed (level j) (curve d j) u
     → SomeMeet (edges_with (curve d i) t) (edges_with (curve d j) u) ↔ EdgesMeet d level i j
 meet_is d level i j t u ht hu = (
   (λ s.
@@ -100,7 +100,7 @@ meet_is d level i j t u ht hu = (
 )
 
 -- ---- corners in a tube
-module _ (d : Plan) (level : ℕ)
+module _ (d : Plan) (level : ℕ → ℕ)
     (own_enter : (i e : ℕ) (a : Edge) (p : Point) (t : Tile) → (curve d i).kind ≡ kind.HalfArc
     → IsTube (arc (curve d i)) (drawn_bays d level i)
     → e < length (runs.edge_list (drawn_bays d level) 0 d.curves)
@@ -109,16 +109,16 @@ module _ (d : Plan) (level : ℕ)
     → Has t (tiles (curve d i).from (drawn_bays d level i)) → InTile t (point p)
     → IsCornerOf t p) where
   module _ (i : ℕ) (t : Tube) (there : i < length d.curves)
-      (tubed : IsTubed level (curve d i) (Some t)) where
+      (tubed : IsTubed (level i) (curve d i) (Some t)) where
     abbrev c : Curve
     c = curve d i
 
-    made : IsMade (arc c) level t
+    made : IsMade (arc c) (level i) t
     made = tubed.1
 
     is_tube : IsTube (arc c) (drawn_bays d level i)
-    is_tube = subst (IsTube (arc c)) (sym (made_bays level c t made))
-        (tube_is (arc c) level made.after t.outer.items made.tube)
+    is_tube = subst (IsTube (arc c)) (sym (made_bays (level i) c t made))
+        (tube_is (arc c) (level i) made.after t.outer.items made.tube)
 
     half_arc : IsHalfArc d i
     half_arc = record { there = there; kind = tubed.0 }
@@ -141,19 +141,19 @@ module _ (d : Plan) (level : ℕ)
         is_own (inr q) =
             has_left p t.inner.items t.outer.items
             (subst (Has p) (sym made.inner)
-            (inr (subst (λ v. Has v made.after) q (to_is_inner level c t made))))
+            (inr (subst (λ v. Has v made.after) q (to_is_inner (level i) c t made))))
 
-    module _ (j : ℕ) (u : Option Tube) (tubed_too : IsTubed level (curve d j) u) where
+    module _ (j : ℕ) (u : Option Tube) (tubed_too : IsTubed (level j) (curve d j) u) where
       pub entered : (i ≡ j → ⊥) → SomeInTube c t (groups.corners (curve d j) u)
           → EntersTube d level i j ⊎ SharesCorner d level i j
       entered n (k, lk, h) =
           let p = nth (groups.corners (curve d j) u) k in
           let ends = (ends_have d level j u tubed_too p).1
           (at_has no_point (groups.corners (curve d j) u) k lk) in
-          by_tile p ends h ((held_is_in_tile level c t made (point p)).0 h.there)
+          by_tile p ends h ((held_is_in_tile (level i) c t made (point p)).0 h.there)
         where
           by_tile : (p : Point) → EndsAt d level j p → IsInTube c t p
-              → (tile : Tile) × Has tile (tiles c.from (bays_at (arc c) level))
+              → (tile : Tile) × Has tile (tiles c.from (bays_at (arc c) (level i)))
               × InTile tile (point p)
               → EntersTube d level i j ⊎ SharesCorner d level i j
           by_tile p ends h (tile, has, holds) = elim (decide_corner tile p) [
@@ -161,7 +161,7 @@ module _ (d : Plan) (level : ℕ)
               half_arc = half_arc;
               p = p;
               corner = (ends_have d level i (Some t) tubed p).1
-                  (corner_is_corner level c t made tile p has q);
+                  (corner_is_corner (level i) c t made tile p has q);
               no_end = h.no_end;
               ends = ends;
             })
@@ -186,11 +186,11 @@ module _ (d : Plan) (level : ℕ)
       pub enters : EntersTube d level i j → SomeInTube c t (groups.corners (curve d j) u)
       enters h = found h.p h.ends
           (λ e. h.no_corner (end_is_corner h.triangle h.p h.of_tube h.holds e))
-          ((held_is_in_tile level c t made (point h.p)).1 (h.triangle, h.of_tube, h.holds))
+          ((held_is_in_tile (level i) c t made (point h.p)).1 (h.triangle, h.of_tube, h.holds))
 
       pub shares : SharesCorner d level i j → SomeInTube c t (groups.corners (curve d j) u)
       shares h = found h.p h.ends h.no_end
-          (corner_is_held level c t made h.p (some_after level c t made)
+          (corner_is_held (level i) c t made h.p (some_after (level i) c t made)
           ((ends_have d level i (Some t) tubed h.p).0 h.corner))
 
 -- ---- straights under tubes
@@ -208,13 +208,13 @@ bay_inner b (v ∷ vs) [] h = absurd h
 bay_inner b (v ∷ vs) (o ∷ os) (inl q) = inl (ap (λ (x : Bay). x.inner) q)
 bay_inner b (v ∷ vs) (o ∷ os) (inr h) = inr (bay_inner b vs os h)
 
-module _ (d : Plan) (level i j : ℕ) (u : Tube) (there : i < length d.curves)
+module _ (d : Plan) (level : ℕ → ℕ) (i j : ℕ) (u : Tube) (there : i < length d.curves)
     (there_too : j < length d.curves) (straight : (curve d i).kind ≡ kind.Straight)
-    (tubed : IsTubed level (curve d j) (Some u)) where
+    (tubed : IsTubed (level j) (curve d j) (Some u)) where
   abbrev e : Curve
   e = curve d j
 
-  of_e : IsMade (arc e) level u
+  of_e : IsMade (arc e) (level j) u
   of_e = tubed.1
 
   pub under : IsUnderChord (curve d i) None e (Some u) → LiesUnderChord d level i j
@@ -229,13 +229,13 @@ module _ (d : Plan) (level i j : ℕ) (u : Tube) (there : i < length d.curves)
       by_bay : Has (nth u.inner.items k) of_e.after → LiesUnderChord d level i j
       by_bay m =
           let (b, hb, q) = bay_over (nth u.inner.items k) of_e.after u.outer.items
-          (made_sizes level e u of_e) m in
+          (made_sizes (level j) e u of_e) m in
           record {
             straight = record { there = there; kind = straight };
             half_arc = record { there = there_too; kind = tubed.0 };
             joins = joins;
             b = b;
-            of_tube = subst (Has b) (sym (made_bays level e u of_e)) hb;
+            of_tube = subst (Has b) (sym (made_bays (level j) e u of_e)) hb;
             no_end = λ x. h.no_end (subst (IsEndOf e) q x);
             low = subst (λ v. bow (arc e) (point v) ≤ℤ pos 0) (sym q) h.low;
           }
@@ -243,7 +243,7 @@ module _ (d : Plan) (level i j : ℕ) (u : Tube) (there : i < length d.curves)
   pub lies : LiesUnderChord d level i j → IsUnderChord (curve d i) None e (Some u)
   lies h =
       let m = bay_inner h.b of_e.after u.outer.items
-      (subst (Has h.b) (made_bays level e u of_e) h.of_tube) in
+      (subst (Has h.b) (made_bays (level j) e u of_e) h.of_tube) in
       let (k, lk, q) = has_at h.b.inner no_point u.inner.items
       (subst (Has h.b.inner) (sym of_e.inner) (inr m)) in (
         h.joins,
@@ -261,7 +261,7 @@ module _ (d : Plan) (level i j : ℕ) (u : Tube) (there : i < length d.curves)
 two_kinds : {P : Type 0} → kind.Straight ≡ kind.HalfArc → P
 two_kinds e = cc
 
-module _ (d : Plan) (level : ℕ)
+module _ (d : Plan) (level : ℕ → ℕ)
     (own_enter : (i e : ℕ) (a : Edge) (p : Point) (t : Tile) → (curve d i).kind ≡ kind.HalfArc
     → IsTube (arc (curve d i)) (drawn_bays d level i)
     → e < length (runs.edge_list (drawn_bays d level) 0 d.curves)
@@ -270,7 +270,7 @@ module _ (d : Plan) (level : ℕ)
     → Has t (tiles (curve d i).from (drawn_bays d level i)) → InTile t (point p)
     → IsCornerOf t p) where
   pub one_way : (i j : ℕ) (t u : Option Tube) → (i ≡ j → ⊥) → i < length d.curves
-      → j < length d.curves → IsTubed level (curve d i) t → IsTubed level (curve d j) u
+      → j < length d.curves → IsTubed (level i) (curve d i) t → IsTubed (level j) (curve d j) u
       → BreakOneWay (curve d i) t (curve d j) u ↔ BreaksOneWay d level i j
   one_way i j None None n li lj ht hu =
       ((λ h. elim h [ inl a ↦ absurd a | inr a ↦ absurd a ]), (λ h. by h))
@@ -303,17 +303,17 @@ module _ (d : Plan) (level : ℕ)
       by (inr (inl h)) = inl (shares d level own_enter i t li ht j u hu h)
       by (inr (inr h)) = two_kinds (sym h.straight.kind ∙ ht.0)
 
-  has_group : (i : ℕ) (t : Option Tube) → i < length d.curves → IsTubed level (curve d i) t
+  has_group : (i : ℕ) (t : Option Tube) → i < length d.curves → IsTubed (level i) (curve d i) t
       → HasGroup d level i
   has_group i t l h = record { there = l; tube = λ a. by t h a.kind }
     where
-      by : (t : Option Tube) → IsTubed level (curve d i) t → (curve d i).kind ≡ kind.HalfArc
-          → HasTube (arc (curve d i)) level
+      by : (t : Option Tube) → IsTubed (level i) (curve d i) t → (curve d i).kind ≡ kind.HalfArc
+          → HasTube (arc (curve d i)) (level i)
       by None s e = two_kinds (sym s ∙ e)
       by (Some t) s e = (s.1.after, t.outer.items, s.1.tube)
 
   pub broken_is : (i j : ℕ) (t u : Option Tube) → (i ≡ j → ⊥) → i < length d.curves
-      → j < length d.curves → IsTubed level (curve d i) t → IsTubed level (curve d j) u
+      → j < length d.curves → IsTubed (level i) (curve d i) t → IsTubed (level j) (curve d j) u
       → AreBroken (curve d i) t (curve d j) u ↔ Breaks d level i j
   broken_is i j t u n li lj ht hu = ((λ h. by_test h), (λ h. by h))
     where
@@ -346,7 +346,7 @@ tubed_of level c (Some t) h e = by c.kind refl
         none : {P : Type 0} → Some t ≡ None → P
         none e = cc
 
-pub group_has_edges : (d : Plan) (level i : ℕ) (t : Option Tube) → IsTubeFor (curve d i) level t
+pub group_has_edges : (d : Plan) (level : ℕ → ℕ) (i : ℕ) (t : Option Tube) → IsTubeFor (curve d i) (level i) t
     → HasGroup d level i → HasEdges (curve d i) t
 group_has_edges d level i (Some t) h g = tt
 group_has_edges d level i None h g = by (curve d i).kind refl
@@ -356,7 +356,7 @@ group_has_edges d level i None h g = by (curve d i).kind refl
     by kind.HalfArc q =
         let (vs, os, m) = g.tube (record { there = g.there; kind = q }) in absurd (h.0 q vs os m)
 
-pub groups_of : (d : Plan) (level i j : ℕ) → (i ≡ j → ⊥) → Breaks d level i j
+pub groups_of : (d : Plan) (level : ℕ → ℕ) (i j : ℕ) → (i ≡ j → ⊥) → Breaks d level i j
     → HasGroup d level i × HasGroup d level j
 groups_of d level i j n (missing e h k) = absurd (n e)
 groups_of d level i j n (edges m g h a) = (g, h)

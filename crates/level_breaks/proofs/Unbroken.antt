@@ -33,10 +33,10 @@ other_way : {A B : Type 0} → A ⊎ B → B ⊎ A
 other_way (inl a) = inr a
 other_way (inr b) = inl b
 
-pub breaks_back : (d : Plan) (level i j : ℕ) → Breaks d level i j → Breaks d level j i
+pub breaks_back : (d : Plan) (level : ℕ → ℕ) (i j : ℕ) → Breaks d level i j → Breaks d level j i
 breaks_back d level i j (missing e h n) =
     missing (sym e) (subst (IsHalfArc d) e h)
-    (subst (λ (k : ℕ). HasNoTube (arc (curve d k)) level) e n)
+    (subst (λ (k : ℕ). HasNoTube (arc (curve d k)) (level k)) e n)
 breaks_back d level i j (edges n g h (o, u, a, b, bad)) =
     edges (λ e. n (sym e)) h g (u, o, b, a, bad_back (edge_as o) (edge_as u) bad)
 breaks_back d level i j (corners n g h w) = corners (λ e. n (sym e)) h g (other_way w)
@@ -61,7 +61,7 @@ decide_number i j =
     (λ (k : i ≤ j). inl (omega (arith, l, k))))
 
 -- ---- settled is unbroken
-module _ (d : Plan) (level : ℕ) (s : IsSettledAt d level)
+module _ (d : Plan) (level : ℕ → ℕ) (s : IsSettledAt d level)
     (apart : (a b : Edge) → Bad a b → Disjoint a b → ⊥) (touch : (a b : Edge) → Bad a b → Touch a b
     → ⊥) where
   not_bad : (a b : Edge) → Disjoint a b ⊎ Touch a b → Bad a b → ⊥
@@ -119,7 +119,7 @@ module _ (d : Plan) (level : ℕ) (s : IsSettledAt d level)
   pub unbroken : (i j : ℕ) → Breaks d level i j → ⊥
   unbroken i j (missing e h n) = by_tube (s.tubes i h)
     where
-      by_tube : HasTube (arc (curve d i)) level → ⊥
+      by_tube : HasTube (arc (curve d i)) (level i) → ⊥
       by_tube (vs, os, t) = n vs os t
   unbroken i j (edges n g h (o, u, a, b, bad)) =
       let (e, le, qe) = number_of d level i o g.there a in
@@ -138,7 +138,7 @@ module _ (d : Plan) (level : ℕ) (s : IsSettledAt d level)
   unbroken i j (corners n g h (inr w)) = no_way j i (λ e. n (sym e)) g.there w
 
 -- ---- unbroken is settled
-module _ (d : Plan) (level : ℕ) (tubes : HaveTubes d level) (none : (i j : ℕ) → i < j
+module _ (d : Plan) (level : ℕ → ℕ) (tubes : HaveTubes d level) (none : (i j : ℕ) → i < j
     → Breaks d level i j → ⊥)
     (any_meet : (p q r s : Point)
     → (Disjoint (edge_from p q) (edge_from r s) ⊎ Touch (edge_from p q) (edge_from r s))
@@ -157,7 +157,7 @@ module _ (d : Plan) (level : ℕ) (tubes : HaveTubes d level) (none : (i j : ℕ
     → runs.Connects a (owned_at d level e).from (owned_at d level e).to → IsEnd a p
     → Has t (tiles (curve d i).from (drawn_bays d level i)) → InTile t (point p)
     → IsCornerOf t p)
-    (tube_is : (i : ℕ) → HasTube (arc (curve d i)) level
+    (tube_is : (i : ℕ) → HasTube (arc (curve d i)) (level i)
     → IsTube (arc (curve d i)) (drawn_bays d level i)) where
   no_pair : (i j : ℕ) → (i ≡ j → ⊥) → Breaks d level i j → ⊥
   no_pair i j n h =

@@ -69,9 +69,11 @@ pub record AreGroups (g h : Group) : Type 0 where
   pub high : Point
   pub level : ℕ
   pub narrow : IsNarrow low high
+  pub next : ℕ
   pub few : level ≤ 5
+  pub next_few : next ≤ 5
   pub first : IsGroup low high level g
-  pub second : IsGroup low high level h
+  pub second : IsGroup low high next h
 
 -- ---- what is asked of one curve to make its edges
 -- The tube's inner points begin with the curve's first end, there are as many bays as outer points,

@@ -19,10 +19,10 @@ abbrev pub tube_of : List (Option Tube) → ℕ → Option Tube
 tube_of tubes i = slice_index_or tubes i None
 
 -- The tubes of the first k curves.
-pub record AreTubesTo (curves : List Curve) (level k : ℕ)
+pub record AreTubesTo (curves : List Curve) (level : ℕ → ℕ) (k : ℕ)
     (tubes : List (Option Tube)) : Type 0 where
   pub size : length tubes ≡ k
-  pub each : (i : ℕ) → i < k → IsTubeFor (nth_curve curves i) level (tube_of tubes i)
+  pub each : (i : ℕ) → i < k → IsTubeFor (nth_curve curves i) (level i) (tube_of tubes i)
 
 -- The boxes of the first k curves with their tubes.
 pub record AreBoxesTo (curves : List Curve) (tubes : List (Option Tube)) (k : ℕ)
@@ -54,12 +54,12 @@ HasNoBadStraights d =
     (i j : ℕ) → IsStraight d i → IsStraight d j → i < j → AreBad (curve d i) (curve d j) → ⊥
 
 -- Of each two curves that break the level one is marked.
-abbrev pub AreBreaksMarked : Plan → ℕ → List Bool → Type 0
+abbrev pub AreBreaksMarked : Plan → (ℕ → ℕ) → List Bool → Type 0
 AreBreaksMarked d level marked =
     (i j : ℕ) → i < j → j < length d.curves → Breaks d level i j → IsOneMarked marked i j
 
 -- Of the curves that are marked none breaks the level with another curve.
-abbrev pub AreAlone : Plan → ℕ → List Bool → Type 0
+abbrev pub AreAlone : Plan → (ℕ → ℕ) → List Bool → Type 0
 AreAlone d level marked =
     (i j : ℕ) → i < j → j < length d.curves → Breaks d level i j
     → (mark_of marked i ≡ false) × (mark_of marked j ≡ false)

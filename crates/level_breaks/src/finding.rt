@@ -61,12 +61,12 @@ impl<'a> PairTest for BreakTest<'a> {
     ghost use Rattle.level_breaks.specs.LevelLists.{AreAlone, AreBoxesTo};
 
     ghost can_test = { λ s i j. (i < j) × (j < length s.drawing.now.curves.items) × (s.level ≤ 5)
-        × AreTubesAt (plan s.drawing.now) s.level s.tubes.now
+        × AreTubesAt (plan s.drawing.now) (λ k. s.level) s.tubes.now
         × AreBoxesTo s.drawing.now.curves.items s.tubes.now
         (length s.drawing.now.curves.items) s.boxes.now
-        × AreAlone (plan s.drawing.now) s.level s.alone.now };
+        × AreAlone (plan s.drawing.now) (λ k. s.level) s.alone.now };
 
-    ghost sought = { λ s i j. Breaks (plan s.drawing.now) s.level i j };
+    ghost sought = { λ s i j. Breaks (plan s.drawing.now) (λ k. s.level) i j };
 
     fn is_sought(&self, first: u32, second: u32) -> bool {
         if one_is_marked(self.alone, first, second) {
@@ -146,9 +146,9 @@ pub fn first_break(
 ) -> Result<Option<LevelBreak>, Memory>
     requires level { level ≤ 5 }
     requires straights { HasNoBadStraights (plan drawing.now) }
-    ensures settled { IfOk result (λ r. r ≡ None → IsSettledAt (plan drawing.now) level) }
+    ensures settled { IfOk result (λ r. r ≡ None → IsSettledAt (plan drawing.now) (λ k. level)) }
     ensures breaks { IfOk result (λ r. IfSome r (λ p.
-        IsFirstBreak (plan drawing.now) level p.first p.second)) }
+        IsFirstBreak (plan drawing.now) (λ k. level) p.first p.second)) }
 {
     plane::rule::edges_of_straights();
     let marks = half_arc_marks(alloc, &drawing.curves)?;
@@ -167,11 +167,11 @@ pub fn first_break_among(
 ) -> Result<Option<LevelBreak>, Memory>
     requires level { level ≤ 5 }
     requires size { length marked.now ≡ length drawing.now.curves.items }
-    requires marked { AreBreaksMarked (plan drawing.now) level marked.now }
-    requires alone { AreAlone (plan drawing.now) level alone.now }
-    ensures settled { IfOk result (λ r. r ≡ None → IsSettledAt (plan drawing.now) level) }
+    requires marked { AreBreaksMarked (plan drawing.now) (λ k. level) marked.now }
+    requires alone { AreAlone (plan drawing.now) (λ k. level) alone.now }
+    ensures settled { IfOk result (λ r. r ≡ None → IsSettledAt (plan drawing.now) (λ k. level)) }
     ensures breaks { IfOk result (λ r. IfSome r (λ p.
-        IsFirstBreak (plan drawing.now) level p.first p.second)) }
+        IsFirstBreak (plan drawing.now) (λ k. level) p.first p.second)) }
 {
     plane::sweeps::meetings_are_decided();
     plane::settled::own_edges_of_tubes();
@@ -192,14 +192,14 @@ fn first_pair(
     alone: &[bool],
 ) -> Result<Option<NearPair>, Memory>
     requires level { level ≤ 5 }
-    requires tubes { AreTubesAt (plan drawing.now) level tubes.now }
+    requires tubes { AreTubesAt (plan drawing.now) (λ k. level) tubes.now }
     requires size { length marked.now ≡ length drawing.now.curves.items }
-    requires marked { AreBreaksMarked (plan drawing.now) level marked.now }
-    requires alone { AreAlone (plan drawing.now) level alone.now }
+    requires marked { AreBreaksMarked (plan drawing.now) (λ k. level) marked.now }
+    requires alone { AreAlone (plan drawing.now) (λ k. level) alone.now }
     ensures some { IfOk result (λ r. IfSome r (λ p. IsLeastPair
-        (Breaks (plan drawing.now) level) (length drawing.now.curves.items) p)) }
+        (Breaks (plan drawing.now) (λ k. level)) (length drawing.now.curves.items) p)) }
     ensures none { IfOk result (λ r. r ≡ None → (i j : ℕ) → i < j
-        → j < length drawing.now.curves.items → Breaks (plan drawing.now) level i j → ⊥) }
+        → j < length drawing.now.curves.items → Breaks (plan drawing.now) (λ k. level) i j → ⊥) }
 {
     plane::arcs::boxes_hold_means();
     let boxes = boxes(alloc, &drawing.curves, tubes)?;

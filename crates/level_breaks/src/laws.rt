@@ -8,7 +8,7 @@ ghost use Rattle.level_breaks.specs.LevelLists.{HasNoBadStraights};
 
 /// No two curves break a level that settles the drawing.
 pub fn settled_is_unbroken()
-    ensures { (d : Plan) (level i j : ℕ) → IsSettledAt d level → Breaks d level i j → ⊥ }
+    ensures { (d : Plan) (level : ℕ → ℕ) (i j : ℕ) → IsSettledAt d level → Breaks d level i j → ⊥ }
 {
     plane::sweeps::meetings_are_decided();
 }
@@ -17,12 +17,12 @@ pub fn settled_is_unbroken()
 pub fn breaks_are_of_curves()
     ensures { (d e : Plan) (level i j a b : ℕ) → a < length e.curves → b < length e.curves
         → curve d i ≡ curve e a → curve d j ≡ curve e b → (i ≡ j → ⊥) → (a ≡ b → ⊥)
-        → Breaks d level i j → Breaks e level a b }
+        → Breaks d (λ n. level) i j → Breaks e (λ n. level) a b }
 {}
 
 /// Where no two straights are bad, one of two that break a level is a half arc.
 pub fn breaks_have_half_arcs()
-    ensures { (d : Plan) (level i j : ℕ) → HasNoBadStraights d
+    ensures { (d : Plan) (level : ℕ → ℕ) (i j : ℕ) → HasNoBadStraights d
         → Breaks d level i j → IsHalfArc d i ⊎ IsHalfArc d j }
 {
     plane::rule::edges_of_straights();
@@ -30,7 +30,7 @@ pub fn breaks_have_half_arcs()
 
 /// Where no two curves are bad, one of two that break a level is a half arc.
 pub fn undecided_has_half_arc()
-    ensures { (d : Plan) (level i j : ℕ) → ((k l : ℕ) → IsBadPair d k l → ⊥)
+    ensures { (d : Plan) (level : ℕ → ℕ) (i j : ℕ) → ((k l : ℕ) → IsBadPair d k l → ⊥)
         → Breaks d level i j → IsHalfArc d i ⊎ IsHalfArc d j }
 {
     plane::rule::edges_of_straights();
@@ -39,7 +39,7 @@ pub fn undecided_has_half_arc()
 /// A drawing of straights of which no two are bad is settled at level 0.
 pub fn straights_are_settled()
     ensures { (d : Plan) → AreStraights d → ((k l : ℕ) → IsBadPair d k l → ⊥)
-        → IsSettledAt d 0 }
+        → IsSettledAt d (λ k. 0) }
 {
     plane::rule::edges_of_straights();
     plane::sweeps::meetings_are_decided();

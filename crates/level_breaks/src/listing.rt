@@ -18,7 +18,7 @@ use tubes::{Tube, tube};
 /// The tube of each half arc at the level, where it has one, and none for straights.
 pub fn level_tubes(alloc: Global, drawing: &Drawing, level: u8) -> Result<Vec<Option<Tube>>, Memory>
     requires { level ≤ 5 }
-    ensures { IfOk result (λ r. AreTubesAt (plan drawing.now) level r.items) }
+    ensures { IfOk result (λ r. AreTubesAt (plan drawing.now) (λ k. level) r.items) }
 {
     let mut tubes = Vec::with_capacity(alloc, drawing.curves.len())?;
     for curve in &drawing.curves {

@@ -26,7 +26,7 @@ pub fn breaks_level(
     requires order { first < second }
     requires there { second < length drawing.now.curves.items }
     ensures { IfOk result (λ broken. IsTrue broken
-        ↔ Breaks (plan drawing.now) level first second) }
+        ↔ Breaks (plan drawing.now) (λ k. level) first second) }
 {
     plane::settled::own_edges_of_tubes();
     let curve = &drawing.curves[first as usize];

@@ -1,5 +1,6 @@
 pub mod PlaneLaws
 pub mod Parts
+pub mod Keys
 pub mod OpenGaps
 pub mod CellGaps
 pub mod BlockMoves

@@ -2,7 +2,7 @@
 -- so after the event.
 use Rattle.std.proofs.Common.{◌≡◌, ℕ, zero, suc, ◌+◌, ◌^◌, ◌<◌, ◌≤◌, ℤ, pos, ◌<ℤ◌, ◌≤ℤ◌, inl, inr}
 use Rattle.std.proofs.Common.{Option, None, List, [], ◌∷◌, ◌++◌, length, take, drop, filter}
-use Rattle.std.proofs.Common.{replicate, get_or, refl, arith, ap, sym, ◌∙◌, subst}
+use Rattle.std.proofs.Common.{get_or, refl, arith, ap, sym, ◌∙◌, subst}
 use Rattle.std.proofs.lemmas.Int.{ints, by_lt_z}
 use Rattle.std.proofs.lemmas.List.{get_or-take, length-append, length-drop, length-map}
 use Rattle.std.proofs.lemmas.List.{length-take-le}
@@ -18,14 +18,16 @@ use Rattle.plane.specs.Runs.Steps.{Step, after, live as lives}
 use Rattle.plane.specs.Runs.Sweeps.{Clear, IsUnderWay, Made, OnLive}
 use Rattle.plane.specs.Runs.Timetables.{Timed, IsTimed, IsTimetable, no_event}
 use Rattle.plane.proofs.Algebra.Ring.{at, num, minus, times, vars, ring}
+use Rattle.slab.specs.Slab.{Slab}
 use Rattle.straight_predicates.specs.EdgeLists.{edge_of, AreSorted}
+use Rattle.line_sweep.specs.declared.kinds.Cell.{Cell}
 use Rattle.line_sweep.specs.Blocks.{AreBeside, IsBlock, IsThrough}
+use Rattle.line_sweep.specs.Held.{IsHeld, gaps_held}
 use Rattle.line_sweep.specs.Kinds.{AreBad, ended_at, move_at_block}
-use Rattle.line_sweep.specs.OpenGaps.{AreFine, AreNeighbours, events_of, gaps_by}
+use Rattle.line_sweep.specs.OpenGaps.{AreFine, AreNeighbours}
 use Rattle.line_sweep.specs.Sweeping.{IsSweptTo, points_of}
 use Rattle.line_sweep.proofs.EventEdges.{event_timed}
-use Rattle.line_sweep.proofs.OpenGaps.{ended_more, events_next, gap_neighbour, neighbour_gap}
-use Rattle.line_sweep.proofs.OpenGaps.{open_are}
+use Rattle.line_sweep.proofs.OpenGaps.{ended_more, gap_neighbour, neighbour_gap}
 use Rattle.line_sweep.proofs.Parts.{drop_twice, first_after, last_before}
 use Rattle.line_sweep.proofs.PlaneLaws.{has_at, live_made, made_more, live_more, fit_more}
 use Rattle.line_sweep.proofs.PlaneLaws.{open_more, all_closed_more, open_size, opened_go_on}
@@ -106,10 +108,10 @@ no_elements : {X : Type 0} (xs : List X) → ((x : X) → Has x xs → ⊥) → 
 no_elements [] f = refl
 no_elements (x ∷ xs) f = absurd (f x (inl refl))
 
-module _ (edges : List Edge) (table : List Timed) (k : ℕ) (live since ended : List ℕ)
-    (moves : List Move) (told : List Gap) (sorted : AreSorted edges)
+module _ (edges : List Edge) (table : List Timed) (k : ℕ) (live keys ended : List ℕ)
+    (slab : Slab Cell) (moves : List Move) (told : List Gap) (sorted : AreSorted edges)
     (t : IsTimetable (length edges) (edge_of edges) table) (l : k < length table)
-    (s : IsSweptTo edges table k live since ended moves told) where
+    (s : IsSweptTo edges table k live keys ended slab moves told) where
   abbrev pub timed : Timed
   timed = get_or table k no_event
 
@@ -137,8 +139,8 @@ module _ (edges : List Edge) (table : List Timed) (k : ℕ) (live since ended : 
       let e = ap length is_live in
       omega (arith, r, e)
 
-  pub since_size : length since ≡ suc (length live)
-  since_size = ap length s.opened ∙ length-map (open_gaps moves) _ ∙ open_size moves s.fit
+  pub keys_size : length keys ≡ suc (length live)
+  keys_size = sym (length-map keys _) ∙ ap length s.held.gaps ∙ open_size moves s.fit
       ∙ ap (λ (ns : List ℕ). suc (length ns)) (sym s.lives)
 
   -- ---- a live edge through the event
@@ -236,26 +238,27 @@ module _ (edges : List Edge) (table : List Timed) (k : ℕ) (live since ended : 
             ap (λ (ns : List ℕ). take p live ++ (timed.starting ++ ns)) (sym (drop_twice p n live))
             ∙ ap (λ (ns : List ℕ). take p ns ++ (timed.starting ++ drop n (drop p ns))) is_live
 
-        next_since : take p since
-            ++ (replicate (length timed.starting + 1) k ++ drop (suc (p + n)) since)
-            ≡ events_of (open_gaps (moves ++ move ∷ []))
-        next_since =
-            ap (λ (ks : List ℕ). take p ks
-            ++ (replicate (length timed.starting + 1) k ++ drop (suc (p + n)) ks)) s.opened
-            ∙ ap (λ (j : ℕ). take p (events_of (open_gaps moves))
-            ++ (replicate (length timed.starting + 1) j
-            ++ drop (suc (p + n)) (events_of (open_gaps moves)))) (sym s.size)
-            ∙ sym (events_next (length moves) (live_from [] moves) (open_gaps moves) move)
-            ∙ ap events_of (sym (open_more moves move))
+        gaps_next : take p (gaps_held slab keys)
+            ++ (gaps_between k lower timed.starting upper
+            ++ drop (suc (p + n)) (gaps_held slab keys))
+            ≡ open_gaps (moves ++ move ∷ [])
+        gaps_next =
+            ap (λ gs. take p gs
+            ++ (gaps_between k lower timed.starting upper ++ drop (suc (p + n)) gs)) s.held.gaps
+            ∙ ap (λ gs. take p (open_gaps moves) ++ (gs ++ drop (suc (p + n)) (open_gaps moves)))
+            (opened_here
+            ∙ ap (λ (ns : List ℕ). opened k (step_of ns move)) s.lives
+            ∙ ap (λ (j : ℕ). opened j (step_of (live_from [] moves) move)) (sym s.size))
+            ∙ sym (open_more moves move)
 
-        pub swept_next : (ended' : List ℕ) (told' : List Gap)
+        pub swept_next : (keys' ended' : List ℕ) (slab' : Slab Cell) (told' : List Gap)
+            → IsHeld slab' keys' (take p (gaps_held slab keys)
+            ++ (gaps_between k lower timed.starting upper
+            ++ drop (suc (p + n)) (gaps_held slab keys)))
             → ended' ≡ ended ++ take n (drop p live)
-            → told' ≡ told ++ filter is_real (take (suc n) (drop p (gaps_by since None live None)))
-            → IsSweptTo edges table (suc k) next_live
-            (take p since
-            ++ (replicate (length timed.starting + 1) k ++ drop (suc (p + n)) since)) ended'
-            (moves ++ move ∷ []) told'
-        swept_next ended' told' a c = record {
+            → told' ≡ told ++ filter is_real (take (suc n) (drop p (gaps_held slab keys)))
+            → IsSweptTo edges table (suc k) next_live keys' ended' slab' (moves ++ move ∷ []) told'
+        swept_next keys' ended' slab' told' h a c = record {
           size = (let a = length-append moves (move ∷ []) in let z = s.size in omega (arith, a, z));
           way = subst (λ d. IsUnderWay (length edges) (edge_of edges) (points_of table) d
               (drop (suc k) (points_of table))) (sym (made_more [] moves move)) goes_on;
@@ -263,12 +266,12 @@ module _ (edges : List Edge) (table : List Timed) (k : ℕ) (live since ended : 
               (subst (λ (ns : List ℕ). (p + n) ≤ length ns) s.lives b.within);
           lives = next_is ∙ ap (λ (ns : List ℕ). after (step_of ns move)) (live_made [] moves)
               ∙ sym (live_more [] moves move);
-          opened = next_since;
-          closed = c ∙ ap
-              (λ gs. gs ++ filter is_real (take (suc n) (drop p (gaps_by since None live None))))
+          held = subst (IsHeld slab' keys') gaps_next h;
+          closed = c
+              ∙ ap (λ gs. gs ++ filter is_real (take (suc n) (drop p (gaps_held slab keys))))
               s.closed
               ∙ ap (λ gs. closed_gaps moves ++ filter is_real (take (suc n) (drop p gs)))
-              (open_are moves live since s.fit s.lives s.opened)
+              s.held.gaps
               ∙ sym (all_closed_more moves move);
           endings = a ∙ ap (λ (es : List ℕ). es ++ take n (drop p live)) s.endings
               ∙ ap (λ (ns : List ℕ). ended_at (steps_from [] moves) ++ take n (drop p ns)) s.lives

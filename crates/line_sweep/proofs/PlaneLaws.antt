@@ -6,7 +6,7 @@ pub use Rattle.plane.proofs.MoveLemmas.MadeSteps.{live_made, all_made, made_more
 pub use Rattle.plane.proofs.MoveLemmas.MadeSteps.{once_apart, once_append}
 pub use Rattle.plane.proofs.MoveLemmas.RunMoves.{fit_more}
 pub use Rattle.plane.proofs.GapLemmas.GapsOnce.{open_more, all_closed_more}
-pub use Rattle.plane.proofs.GapLemmas.GapSides.{Sides, beside, open_beside, open_size, sides}
+pub use Rattle.plane.proofs.GapLemmas.GapSides.{open_size}
 pub use Rattle.plane.proofs.GapLemmas.OpenedGaps.{opened_go_on, opened_differ}
 pub use Rattle.plane.proofs.Sweep.UnderWay.{begins, block_ends, ends_as_run, ends_fine}
 pub use Rattle.plane.proofs.Sweep.UnderWay.{on_live_is_bad, on_live_line, false_after_event}

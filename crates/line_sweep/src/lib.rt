@@ -20,18 +20,21 @@
 //! - **Not here:** no faces, no half-edges and no points but the edges' ends.
 //!
 //! Cost: O((m + events) log m) for m edges, and the entries that both chunked lists shift. The live
-//! list and the events of the open cells are kept in chunks (`straight_predicates::ChunkedList`):
-//! an event moves at most 1,024 entries of 4 bytes in each, beside those that come and go, however
-//! many edges are live, and passes over the chunks before its place, of which there are at most
-//! m / 256 + 1. On maps some hundreds of edges are live, in one chunk. The answer takes 12 bytes
-//! an edge, 32 an event and 12 a cell; it keeps the timetable of the edges, the edges that end in
-//! one list, and no list for an event. `clashing` takes no more time.
+//! list and the keys of the open cells are kept in chunks (`straight_predicates::ChunkedList`): an
+//! event moves at most 1,024 entries of 4 bytes in the one and of 8 in the other, beside those that
+//! come and go, however many edges are live, and passes over the chunks before its place, of which
+//! there are at most m / 256 + 1. On maps some hundreds of edges are live, in one chunk. The open
+//! cells are in a `slab`, each with the event that opened it: a cell that closes leaves its slot to
+//! the next one that opens, so that there are as many slots as cells were open at a time. The
+//! answer takes 12 bytes an edge, 32 an event and 12 a cell; it keeps the timetable of the edges,
+//! the edges that end in one list, and no list for an event. `clashing` takes no more time.
 #![tactic(auto)]
 
 mod blocks;
 mod cells;
 mod clashes;
 mod events;
+mod keeping;
 mod kinds;
 mod state;
 mod sweeping;

@@ -1,88 +1,101 @@
 // What a sweep keeps from event to event, and how an event changes it.
-ghost use Rattle.std.specs.Prelude.{◌≡◌, ◌+◌, ◌^◌, ◌<◌, ◌≤◌, ◌∷◌, ◌++◌, [], None, OnOk, filter};
-ghost use Rattle.std.specs.Prelude.{drop, length, replicate, suc, take};
-ghost use Rattle.plane.specs.Runs.Gaps.{is_real};
-ghost use Rattle.straight_predicates.specs.EdgeLists.{AreBelow};
-ghost use Rattle.line_sweep.specs.Blocks.{AreBeside};
+ghost use Rattle.std.specs.Prelude.{◌≡◌, ℕ, ◌+◌, ◌^◌, ◌<◌, ◌≤◌, ◌∷◌, ◌++◌, [], OnOk, filter};
+ghost use Rattle.std.specs.Prelude.{drop, length, suc, take};
+ghost use Rattle.plane.specs.Lists.{Has};
+ghost use Rattle.plane.specs.Runs.Gaps.{gaps_between, is_real};
+ghost use Rattle.line_sweep.specs.CellEdges.{IsCellEdge};
+ghost use Rattle.line_sweep.specs.Held.{IsHeld, gaps_held};
 ghost use Rattle.line_sweep.specs.Kinds.{gaps_of};
-ghost use Rattle.line_sweep.specs.OpenGaps.{gaps_by};
 
 use super::blocks::{Beside, Block};
-use super::cells::close_cells;
 use super::events::EndingBlock;
+use super::keeping::{close_cells, open_cells};
 use super::kinds::Cell;
 use ports::Memory;
+use slab::Slab;
 use straight_predicates::ChunkedList;
 
-/// The live list, from below the event that opened each cell between its edges, and the answer so
-/// far: the blocks of the events that are done, the edges that ended there, and the closed cells.
-/// Of an empty live list one cell without edges is open.
+/// The live list, from below the keys of the open cells between its edges, these cells, each with
+/// the event that opened it, and the answer so far: the blocks of the events that are done, the
+/// edges that ended there, and the closed cells. Of an empty live list one cell without edges is
+/// open. A cell that closes leaves its slot to the next one that opens, so that the open cells
+/// take the room of the most that were open at a time.
 #[derive(Drop)]
 pub struct State {
     pub live: ChunkedList<u32>,
-    pub since: ChunkedList<u32>,
+    pub keys: ChunkedList<usize>,
+    pub open_cells: Slab<Cell>,
     pub blocks: Vec<EndingBlock>,
     pub ended: Vec<u32>,
     pub cells: Vec<Cell>,
-    /// The edges that end at an event, the events that opened the cells which it closes, and its
-    /// number for each cell that it opens.
+    /// The edges that end at an event, the keys of the cells that it closes, and those of the
+    /// cells that it opens.
     pub ending: Vec<u32>,
-    pub closing: Vec<u32>,
-    pub opening: Vec<u32>,
+    pub closing: Vec<usize>,
+    pub opening: Vec<usize>,
 }
 
 impl State {
-    /// Writes the cells that close at a block, and the edges that end there.
-    pub fn close(&mut self, block: Block, beside: Beside) -> Result<(), Memory>
+    /// Closes the cells at a block, and opens those between the edges that start at the event and
+    /// those beside the block.
+    pub fn move_cells(
+        &mut self,
+        event: u32,
+        block: Block,
+        beside: Beside,
+        starting: &[u32],
+    ) -> Result<(), Memory>
         requires few { block.from + block.count < 2 ^ 31 }
-        requires known { AreBelow (2 ^ 31) self.old.live }
-        requires place { block.from + block.count ≤ length self.old.live }
-        requires since { length self.old.since ≡ suc (length self.old.live) }
-        requires beside { AreBeside self.old.live block.from block.count beside.lower
-            beside.upper }
+        requires place { block.from + block.count + 1 ≤ length self.old.keys }
+        requires held { IsHeld self.old.open_cells self.old.keys
+            (gaps_held self.old.open_cells self.old.keys) }
+        requires lower { IsCellEdge beside.lower }
+        requires starting { (e : ℕ) → Has e starting.now → e < 2 ^ 31 }
+        requires upper { IsCellEdge beside.upper }
         ensures live { self.new.live ≡ self.old.live }
-        ensures since { self.new.since ≡ self.old.since }
-        ensures blocks { self.new.blocks ≡ self.old.blocks }
-        ensures ended { OnOk result (self.new.ended.items
-            ≡ self.old.ended.items ++ take block.count (drop block.from self.old.live)) }
+        ensures held { OnOk result (IsHeld self.new.open_cells self.new.keys (take block.from
+            (gaps_held self.old.open_cells self.old.keys)
+            ++ (gaps_between event beside.lower starting.now beside.upper
+            ++ drop (suc (block.from + block.count))
+            (gaps_held self.old.open_cells self.old.keys)))) }
         ensures closed { OnOk result (gaps_of self.new.cells.items ≡ gaps_of self.old.cells.items
             ++ filter is_real (take (suc block.count) (drop block.from
-            (gaps_by self.old.since None self.old.live None)))) }
+            (gaps_held self.old.open_cells self.old.keys)))) }
+        ensures blocks { self.new.blocks ≡ self.old.blocks }
+        ensures ended { self.new.ended ≡ self.old.ended }
     {
-        self.live
-            .copy_part(block.from, block.count, &mut self.ending)?;
-        self.since
-            .copy_part(block.from, block.count + 1, &mut self.closing)?;
-        close_cells(
-            beside.lower,
-            &self.ending,
-            beside.upper,
-            &self.closing,
-            &mut self.cells,
+        let count = block.count + 1;
+        self.keys.copy_part(block.from, count, &mut self.closing)?;
+        close_cells(&mut self.open_cells, &self.closing, &mut self.cells)?;
+        open_cells(
+            &mut self.open_cells,
+            event,
+            beside,
+            starting,
+            &mut self.opening,
         )?;
-        self.ended.extend_from_slice(&self.ending)?;
+        self.keys.replace(block.from, count, &self.opening)?;
         Ok(())
     }
 
-    /// Puts the edges that start at an event in the place of a block, opens the cells between them,
-    /// and writes the block.
-    pub fn put(&mut self, event: u32, block: Block, starting: &[u32]) -> Result<(), Memory>
+    /// Puts the edges that start at an event in the place of a block, and writes the block and the
+    /// edges that end.
+    pub fn move_edges(&mut self, block: Block, starting: &[u32]) -> Result<(), Memory>
         requires few { block.from + block.count < 2 ^ 31 }
         requires place { block.from + block.count ≤ length self.old.live }
-        requires since { length self.old.since ≡ suc (length self.old.live) }
         ensures live { OnOk result (self.new.live ≡ take block.from self.old.live
             ++ (starting.now ++ drop (block.from + block.count) self.old.live)) }
-        ensures since { OnOk result (self.new.since ≡ take block.from self.old.since
-            ++ (replicate (length starting.now + 1) event
-            ++ drop (suc (block.from + block.count)) self.old.since)) }
         ensures blocks { OnOk result (self.new.blocks.items ≡ self.old.blocks.items
             ++ record { position = block.from; count = block.count } ∷ []) }
-        ensures ended { self.new.ended ≡ self.old.ended }
+        ensures ended { OnOk result (self.new.ended.items
+            ≡ self.old.ended.items ++ take block.count (drop block.from self.old.live)) }
+        ensures keys { self.new.keys ≡ self.old.keys }
+        ensures open_cells { self.new.open_cells ≡ self.old.open_cells }
         ensures cells { self.new.cells ≡ self.old.cells }
     {
-        fill(&mut self.opening, event, starting.len() + 1)?;
-        self.since
-            .replace(block.from, block.count + 1, &self.opening)?;
+        self.live
+            .copy_part(block.from, block.count, &mut self.ending)?;
+        self.ended.extend_from_slice(&self.ending)?;
         self.live.replace(block.from, block.count, starting)?;
         self.blocks.push(EndingBlock {
             position: block.from as u32,
@@ -90,15 +103,4 @@ impl State {
         })?;
         Ok(())
     }
-}
-
-// Makes the list so many times the event.
-fn fill(list: &mut Vec<u32>, event: u32, count: usize) -> Result<(), Memory>
-    ensures { OnOk result (list.new.items ≡ replicate count event) }
-{
-    list.clear();
-    for _ in 0..count {
-        list.push(event)?;
-    }
-    Ok(())
 }

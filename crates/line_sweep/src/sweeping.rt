@@ -1,7 +1,7 @@
 // The sweep, event by event.
 ghost use Rattle.std.specs.Prelude.{◌≡◌, ℕ, ◌+◌, ◌^◌, ◌<◌, [], ◌∷◌, IfOk, IfErr, OnOk, length};
 ghost use Rattle.std.specs.Prelude.{slice_index_or};
-ghost use Rattle.plane.specs.Runs.Gaps.{closed_gaps};
+ghost use Rattle.plane.specs.Runs.Gaps.{closed_gaps, no_gap};
 ghost use Rattle.plane.specs.Forms.Meets.{Bad, IsEnd};
 ghost use Rattle.plane.specs.Runs.Moves.{Fit, steps_from};
 ghost use Rattle.plane.specs.Runs.Steps.{Run};
@@ -9,6 +9,7 @@ ghost use Rattle.plane.specs.Runs.Timetables.{IsTimetable, no_event};
 ghost use Rattle.straight_predicates.specs.EdgeLists.{edge_of, AreSorted, AreAllClose};
 ghost use Rattle.straight_predicates.specs.Tables.{table_of};
 ghost use Rattle.line_sweep.specs.Blocks.{AreBeside, IsBlock};
+ghost use Rattle.line_sweep.specs.Held.{IsHeld};
 ghost use Rattle.line_sweep.specs.Kinds.{IsRefused, gaps_of};
 ghost use Rattle.line_sweep.specs.OpenGaps.{AreFine};
 ghost use Rattle.line_sweep.specs.Sweeping.{HasSwept, HasTimetable};
@@ -16,10 +17,11 @@ ghost use Rattle.line_sweep.specs.Sweeping.{HasSwept, HasTimetable};
 use super::blocks::{Beside, Block, beside_block, find_block};
 use super::cells::test_neighbours;
 use super::events::Events;
-use super::kinds::{SweepRefusal, Swept};
+use super::kinds::{Cell, CellEdge, SweepRefusal, Swept};
 use super::state::State;
 use plane::Edge;
 use ports::Memory;
+use slab::Slab;
 use std::alloc::Global;
 use straight_predicates::{ChunkedList, Timetable};
 
@@ -54,16 +56,23 @@ fn begin(alloc: Global, edges: usize, events: usize) -> Result<State, Memory>
     requires few { edges < 2 ^ 31 }
     requires few_events { events < 2 ^ 32 }
     ensures live { IfOk result (λ s. s.live ≡ []) }
-    ensures since { IfOk result (λ s. s.since ≡ 0 ∷ []) }
+    ensures held { IfOk result (λ s. IsHeld s.open_cells s.keys (no_gap ∷ [])) }
     ensures blocks { IfOk result (λ s. s.blocks.items ≡ []) }
     ensures ended { IfOk result (λ s. s.ended.items ≡ []) }
     ensures cells { IfOk result (λ s. s.cells.items ≡ []) }
 {
-    let mut since = ChunkedList::new(alloc);
-    since.replace(0, 0, &[0u32])?;
+    let mut keys = ChunkedList::new(alloc);
+    let mut open_cells = Slab::new(alloc);
+    let first = open_cells.insert(Cell {
+        lower: CellEdge::new(None),
+        upper: CellEdge::new(None),
+        event: 0,
+    })?;
+    keys.replace(0, 0, &[first])?;
     Ok(State {
         live: ChunkedList::new(alloc),
-        since,
+        keys,
+        open_cells,
         blocks: Vec::with_capacity(alloc, events)?,
         ended: Vec::with_capacity(alloc, edges)?,
         cells: Vec::with_capacity(alloc, edges + events)?,
@@ -107,8 +116,9 @@ fn step(
     let block = block_at(edges, table, event, state)?;
     let beside = beside_block(&state.live, block);
     test_at(edges, table, event, block, beside, state)?;
-    state.close(block, beside)?;
-    state.put(event, block, table.starting(event))?;
+    let starting = table.starting(event);
+    state.move_cells(event, block, beside, starting)?;
+    state.move_edges(block, starting)?;
     Ok(())
 }
 

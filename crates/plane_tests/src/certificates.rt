@@ -145,7 +145,7 @@ fn long(alloc: Global) -> Result<Certificate, Memory> {
     let topic = Name::new(alloc, b"Cover")?;
     let table = Name::new(alloc, b"Parcel")?;
     let attribute = Name::new(alloc, b"Form")?;
-    let positions: Vec<u32> = (0..4000u32).collect(alloc)?;
+    let positions: Vec<u32> = (0..12_000u32).collect(alloc)?;
     Ok(Certificate {
         topic,
         table,
@@ -160,9 +160,9 @@ fn long(alloc: Global) -> Result<Certificate, Memory> {
 
 // The bytes of the file, none where there is none.
 fn file(alloc: Global, shelf: &mut MemoryShelf) -> Result<Vec<u8>, Memory> {
-    let mut bytes = [0u8; 30_000];
+    let mut bytes = [0u8; 90_000];
     let length = shelf.read("c", 0, &mut bytes).unwrap_or(0);
-    Ok(Vec::from_slice(alloc, &bytes[..length.min(30_000)])?)
+    Ok(Vec::from_slice(alloc, &bytes[..length.min(90_000)])?)
 }
 
 // The file after a writing of which that call fails, and whether the writing did.
@@ -175,7 +175,7 @@ fn failed_at(alloc: Global, all: &[Certificate], call: u64) -> Result<(bool, Vec
 
 // Whether the file is a front of the whole text, of so many pages but for their last bytes.
 fn is_front(whole: &[u8], front: &[u8], pages: usize) -> bool {
-    let most = pages.saturating_mul(4096);
+    let most = pages.saturating_mul(32_768);
     let least = most.saturating_sub(pages.saturating_mul(20));
     least <= front.len() && front.len() <= most && whole.starts_with(front)
 }
@@ -185,7 +185,7 @@ fn a_failed_write_leaves_a_front(rt: HostRuntime) -> Result<(), Fail> {
     let all = [long(rt.alloc())?];
     let (failed, whole) = failed_at(rt.alloc(), &all, 0)?;
     assert!(rt; !failed, "no call fails");
-    for pages in 0..7u8 {
+    for pages in 0..3u8 {
         let (failed, front) = failed_at(rt.alloc(), &all, u64::from(pages) + 1)?;
         assert!(rt;
             failed && is_front(&whole, &front, usize::from(pages)),

@@ -69,7 +69,7 @@ fn found_among(
     level: u8,
 ) -> Result<Option<u32>, Memory>
     requires low { level ≤ 5 }
-    requires list { IsTubedList (plan drawing.now) level list.now }
+    requires list { IsTubedList (plan drawing.now) (λ n. level) list.now }
     requires usable { AreUsable (plan drawing.now) list.now.edges.items }
 {
     if list.edges.len() >= 1 << 31 {

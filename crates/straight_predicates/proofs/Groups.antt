@@ -2,13 +2,14 @@
 use Rattle.std.proofs.Common.{◌≡◌, ℕ, zero, suc, ◌+◌, ◌-◌, ◌<◌, ◌≤◌, inl, inr, Bool, true, false}
 use Rattle.std.proofs.Common.{cond, List, [], ◌∷◌, ◌++◌, length, take, drop, get_or, refl, arith}
 use Rattle.std.proofs.Common.{ap, sym, ◌∙◌, subst, append_assoc, append-nil, All}
-use Rattle.std.proofs.lemmas.List.{take_more, take_all, take-append-drop, get_or-take}
-use Rattle.std.proofs.lemmas.List.{length-append, length-map, length-take-le}
+use Rattle.std.proofs.Common.{Option, Some, None}
+use Rattle.std.proofs.lemmas.List.{take_more, take-append-drop, get_or-take}
+use Rattle.std.proofs.lemmas.List.{length-append, length-take-le}
 use Rattle.std.proofs.Math.Seq.{take-append_seam, drop-append_seam, drop-nil}
-use Rattle.std.proofs.lemmas.List.Elements.{All-push}
+use Rattle.std.specs.Option.{is_some}
 use Rattle.std.specs.List.Sorted.{IsPermutation, IsSortedBy}
 use Rattle.std.proofs.lemmas.List.Sorted.{IsPermutation-sym, IsPermutation-map, All-permutation}
-use Rattle.std.proofs.lemmas.List.Sorted.{length_permutation}
+use Rattle.std.proofs.lemmas.List.Sorted.{IsPermutation-refl, length_permutation}
 use Rattle.plane.specs.declared.kinds.Point.{Point}
 use Rattle.plane.specs.declared.kinds.Edge.{Edge}
 use Rattle.plane.specs.Forms.Vectors.{Before}
@@ -21,8 +22,9 @@ use Rattle.plane.proofs.MoveLemmas.OneTimetable.{before_trans}
 use Rattle.straight_predicates.specs.EdgeLists.{edge_of}
 use Rattle.straight_predicates.specs.Slopes.{IsRayOf, ray_edges, ray_lt}
 use Rattle.straight_predicates.specs.Slots.{part_of, timed_at}
-use Rattle.straight_predicates.specs.Tables.{AddsEvent, AreEndsOf, ComesFirst, IsEndOf, IsGroup}
-use Rattle.straight_predicates.specs.Tables.{IsGroupOf, IsSplit, IsTimedBy, ending_of, starting_of}
+use Rattle.straight_predicates.specs.Tables.{AddsEvent, AddsStarting, AreEndsOf, ComesFirst}
+use Rattle.straight_predicates.specs.Tables.{IsEndOf, IsGroup, IsGroupOf, IsTimedBy, ending_of}
+use Rattle.straight_predicates.specs.Tables.{starting_of}
 use Rattle.straight_predicates.specs.declared.rays.Ray.{Ray}
 use Rattle.straight_predicates.specs.declared.slots.End.{End}
 use Rattle.straight_predicates.specs.declared.slots.Slot.{Slot}
@@ -56,58 +58,66 @@ starting_more (y ∷ zs) z = by_side y.starts (starting_more zs z)
     by_side false r = r
     by_side true r = ap (λ (es : List ℕ). y.edge ∷ es) r
 
-edges_more : (rays : List Ray) (r : Ray)
+pub edges_more : (rays : List Ray) (r : Ray)
     → ray_edges (rays ++ r ∷ []) ≡ ray_edges rays ++ r.edge ∷ []
 edges_more [] r = refl
 edges_more (s ∷ rays) r = ap (λ (es : List ℕ). s.edge ∷ es) (edges_more rays r)
 
-pub split_low : (edges : List Edge) (group : List End) (i : ℕ) (d : End) (old numbers same : List ℕ)
-    (rays new : List Ray) (r : Ray)
-    → i < length group → (get_or group i d).starts ≡ true
-    → IsSplit edges (take i group) old numbers rays → same ≡ numbers → new ≡ rays ++ r ∷ []
-    → r.edge ≡ (get_or group i d).edge → IsRayOf edges r
-    → IsSplit edges (take (i + 1) group) old same new
-split_low edges group i d old numbers same rays new r l side s f e q ray =
-    let z = get_or group i d in
-    let more = take_more group i d l in
-    let ends : ending_of (take (i + 1) group) ≡ ending_of (take i group) =
-    ap ending_of more ∙ ending_more (take i group) z
-    ∙ ap (λ (b : Bool). ending_of (take i group) ++ cond b [] (z.edge ∷ [])) side
-    ∙ append-nil (ending_of (take i group)) in
-    let starts : starting_of (take (i + 1) group) ≡ starting_of (take i group) ++ z.edge ∷ [] =
-    ap starting_of more ∙ starting_more (take i group) z
-    ∙ ap (λ (b : Bool). starting_of (take i group) ++ cond b (z.edge ∷ []) []) side in
-    record {
-      numbers = f ∙ s.numbers ∙ ap (λ (es : List ℕ). old ++ es) (sym ends);
-      rays = ap ray_edges e ∙ edges_more rays r ∙ ap (λ (es : List ℕ). es ++ r.edge ∷ []) s.rays
-          ∙ ap (λ (n : ℕ). starting_of (take i group) ++ n ∷ []) q ∙ sym starts;
-      directions =
-          subst (All (IsRayOf edges)) (sym e) (All-push (IsRayOf edges) rays r s.directions ray);
-    }
+module _ (group : List End) (i : ℕ) (d : End) (l : i < length group) (now new : List ℕ) where
+  ending_step : (old : List ℕ) → now ≡ old ++ ending_of (take i group)
+      → new ≡ now ++ cond (get_or group i d).starts [] ((get_or group i d).edge ∷ [])
+      → new ≡ old ++ ending_of (take (i + 1) group)
+  ending_step old e f =
+      let z = get_or group i d in
+      f ∙ ap (λ (es : List ℕ). es ++ cond z.starts [] (z.edge ∷ [])) e
+      ∙ append_assoc old (ending_of (take i group)) (cond z.starts [] (z.edge ∷ []))
+      ∙ ap (λ (es : List ℕ). old ++ es)
+      (sym (ap ending_of (take_more group i d l) ∙ ending_more (take i group) z))
 
-pub split_high : (edges : List Edge) (group : List End) (i : ℕ) (d : End) (old numbers new : List ℕ)
-    (rays same : List Ray)
-    → i < length group → (get_or group i d).starts ≡ false
-    → IsSplit edges (take i group) old numbers rays → same ≡ rays
-    → new ≡ numbers ++ (get_or group i d).edge ∷ []
-    → IsSplit edges (take (i + 1) group) old new same
-split_high edges group i d old numbers new rays same l side s f e =
-    let z = get_or group i d in
-    let more = take_more group i d l in
-    let ends : ending_of (take (i + 1) group) ≡ ending_of (take i group) ++ z.edge ∷ [] =
-    ap ending_of more ∙ ending_more (take i group) z
-    ∙ ap (λ (b : Bool). ending_of (take i group) ++ cond b [] (z.edge ∷ [])) side in
-    let starts : starting_of (take (i + 1) group) ≡ starting_of (take i group) =
-    ap starting_of more ∙ starting_more (take i group) z
-    ∙ ap (λ (b : Bool). starting_of (take i group) ++ cond b (z.edge ∷ []) []) side
-    ∙ append-nil (starting_of (take i group)) in
-    record {
-      numbers = e ∙ ap (λ (es : List ℕ). es ++ z.edge ∷ []) s.numbers
-          ∙ append_assoc old (ending_of (take i group)) (z.edge ∷ [])
-          ∙ ap (λ (es : List ℕ). old ++ es) (sym ends);
-      rays = ap ray_edges f ∙ s.rays ∙ sym starts;
-      directions = subst (All (IsRayOf edges)) (sym f) s.directions;
-    }
+  starting_step : now ≡ starting_of (take i group)
+      → new ≡ now ++ cond (get_or group i d).starts ((get_or group i d).edge ∷ []) []
+      → new ≡ starting_of (take (i + 1) group)
+  starting_step e f =
+      let z = get_or group i d in
+      f ∙ ap (λ (es : List ℕ). es ++ cond z.starts (z.edge ∷ []) []) e
+      ∙ sym (ap starting_of (take_more group i d l) ∙ starting_more (take i group) z)
+
+  -- at an end that starts an edge, and at one that ends it
+  pub ending_low : (old : List ℕ) → (get_or group i d).starts ≡ true
+      → now ≡ old ++ ending_of (take i group) → new ≡ now
+      → new ≡ old ++ ending_of (take (i + 1) group)
+  ending_low old side e f =
+      ending_step old e (f ∙ sym (append-nil now)
+      ∙ ap (λ (b : Bool). now ++ cond b [] ((get_or group i d).edge ∷ [])) (sym side))
+
+  pub ending_high : (old : List ℕ) → (get_or group i d).starts ≡ false
+      → now ≡ old ++ ending_of (take i group) → new ≡ now ++ (get_or group i d).edge ∷ []
+      → new ≡ old ++ ending_of (take (i + 1) group)
+  ending_high old side e f =
+      ending_step old e (f
+      ∙ ap (λ (b : Bool). now ++ cond b [] ((get_or group i d).edge ∷ [])) (sym side))
+
+  pub starting_low : (get_or group i d).starts ≡ true → now ≡ starting_of (take i group)
+      → new ≡ now ++ (get_or group i d).edge ∷ [] → new ≡ starting_of (take (i + 1) group)
+  starting_low side e f =
+      starting_step e (f
+      ∙ ap (λ (b : Bool). now ++ cond b ((get_or group i d).edge ∷ []) []) (sym side))
+
+  pub starting_high : (get_or group i d).starts ≡ false → now ≡ starting_of (take i group)
+      → new ≡ now → new ≡ starting_of (take (i + 1) group)
+  starting_high side e f =
+      starting_step e (f ∙ sym (append-nil now)
+      ∙ ap (λ (b : Bool). now ++ cond b ((get_or group i d).edge ∷ []) []) (sym side))
+
+-- the edge that was found, or none
+abbrev pub found_as : Option ℕ → List ℕ
+found_as None = []
+found_as (Some e) = e ∷ []
+
+pub found_more : (found : Option ℕ) (e : ℕ) → is_some found ≡ false
+    → e ∷ [] ≡ found_as found ++ e ∷ []
+found_more None e q = refl
+found_more (Some f) e q = cc
 
 -- ---- elements
 ending_has : (e : ℕ) (zs : List End) → Has e (ending_of zs)
@@ -260,26 +270,35 @@ module _ (edges : List Edge) (group : List End) (at : Point) (g : IsGroupOf edge
             (λ (t : Bool). cond t (edge_of edges z.edge).low (edge_of edges z.edge).high) m) ∙ b,
       )
 
+  pub rays_rise : Neighbours (BySlope (edge_of edges)) (ray_edges sorted)
+  rays_rise =
+      rays_by_slope edges at sorted ray_low (sorted_neighbours ray_lt sorted up)
+      (once_permutation (λ (r : Ray). r.edge) rays sorted perm
+      (subst Once (sym split) (starting_once group g.rising)))
+
+module _ (edges : List Edge) (group : List End) (at : Point) (g : IsGroupOf edges at group)
+    (more : List ℕ) (perm : IsPermutation (starting_of group) more)
+    (up : Neighbours (BySlope (edge_of edges)) more) where
   same_end : (z : End) (e : ℕ) (b : Bool) → Has z group → z.edge ≡ e → z.starts ≡ b
       → Has (record { at = at; edge = e; starts = b }) group
   same_end z e b i q m =
       let (a, p) = each_has (λ (z : End). IsEndOf edges z × (z.at ≡ at)) group z g.only i in
       subst (λ y. Has y group) (λ j. record { at = p j; edge = q j; starts = m j }) i
 
-  pub group_timed : (t : Timed) → t.at ≡ at → t.ending ≡ ending_of group
-      → t.starting ≡ ray_edges sorted → IsTimedBy (edge_of edges) group t
+  pub group_timed : (t : Timed) → t.at ≡ at → t.ending ≡ ending_of group → t.starting ≡ more
+      → IsTimedBy (edge_of edges) group t
   group_timed t ea ee es = record {
     starting = λ e. (
       (λ k. let (z, i, q, m) = starting_has e group
-          (start_has e (subst (λ (ns : List ℕ). Has e ns) es k)) in
+          (has_permutation more (starting_of group) e
+          (IsPermutation-sym (starting_of group) more perm)
+          (subst (λ (ns : List ℕ). Has e ns) es k)) in
           subst (λ p. Has (record { at = p; edge = e; starts = true }) group) (sym ea)
           (same_end z e true i q m)),
-      (λ k. subst (λ (ns : List ℕ). Has e ns) (sym es) (has_start e (has_starting _ group k refl))),
+      (λ k. subst (λ (ns : List ℕ). Has e ns) (sym es)
+          (has_permutation (starting_of group) more e perm (has_starting _ group k refl))),
     );
-    by_slope = subst (λ (ns : List ℕ). Neighbours (BySlope (edge_of edges)) ns) (sym es)
-        (rays_by_slope edges at sorted ray_low (sorted_neighbours ray_lt sorted up)
-        (once_permutation (λ (r : Ray). r.edge) rays sorted perm
-        (subst Once (sym split) (starting_once group g.rising))));
+    by_slope = subst (λ (ns : List ℕ). Neighbours (BySlope (edge_of edges)) ns) (sym es) up;
     ending = λ e. (
       (λ k. let (z, i, q, m) = ending_has e group (subst (λ (ns : List ℕ). Has e ns) ee k) in
           subst (λ p. Has (record { at = p; edge = e; starts = false }) group) (sym ea)
@@ -295,12 +314,11 @@ pub same_first : (zs : List End) (b d : End) → 0 < length zs
 same_first [] b d l = absurd (omega (arith, l))
 same_first (z ∷ zs) b d l = refl
 
-pub event_made : (edges : List Edge) (group : List End) (d : End) (old middle_numbers new : List ℕ)
-    (old_slots new_slots : List Slot) (rays sorted : List Ray) (at : Point) (from middle upto : ℕ)
-    → IsGroupOf edges (get_or group 0 d).at group → IsSplit edges group old middle_numbers rays
-    → IsPermutation rays sorted → IsSortedBy ray_lt sorted
-    → new ≡ middle_numbers ++ ray_edges sorted
-    → at ≡ (get_or group 0 d).at → from ≡ length old → middle ≡ length middle_numbers
+pub event_made : (edges : List Edge) (group : List End) (d : End) (old mid new : List ℕ)
+    (old_slots new_slots : List Slot) (at : Point) (from middle upto : ℕ)
+    → IsGroupOf edges (get_or group 0 d).at group → mid ≡ old ++ ending_of group
+    → AddsStarting edges group mid new
+    → at ≡ (get_or group 0 d).at → from ≡ length old → middle ≡ length mid
     → upto ≡ length new → new_slots ≡ old_slots ++ record {
       at = at;
       from = from;
@@ -308,21 +326,19 @@ pub event_made : (edges : List Edge) (group : List End) (d : End) (old middle_nu
       upto = upto;
     } ∷ []
     → AddsEvent (edge_of edges) group old_slots old new_slots new
-event_made edges group d old mid new old_slots new_slots rays sorted at from middle upto g s perm up
-    e ea ef em eu es =
+event_made edges group d old mid new old_slots new_slots at from middle upto g m s ea ef em eu es =
     let slot : Slot = record { at = at; from = from; middle = middle; upto = upto } in
-    let whole : new ≡ (old ++ ending_of group) ++ ray_edges sorted = e
-    ∙ ap (λ (ns : List ℕ). ns ++ ray_edges sorted) s.numbers in
-    let sized : length (ray_edges sorted) ≡ length (starting_of group) = same_size in
-    let lengths = length-append mid (ray_edges sorted) in
-    let front = ap length s.numbers ∙ length-append old (ending_of group) in
-    let size = ap length e ∙ lengths in
+    let whole : new ≡ (old ++ ending_of group) ++ s.more = s.numbers
+    ∙ ap (λ (ns : List ℕ). ns ++ s.more) m in
+    let sized = length_permutation (starting_of group) s.more s.permutation in
+    let front = ap length m ∙ length-append old (ending_of group) in
+    let size = ap length s.numbers ∙ length-append mid s.more in
     let adds = sizes_add group in
     record {
       slot = slot;
-      more = ending_of group ++ ray_edges sorted;
+      more = ending_of group ++ s.more;
       slots = es;
-      numbers = whole ∙ append_assoc old (ending_of group) (ray_edges sorted);
+      numbers = whole ∙ append_assoc old (ending_of group) s.more;
       size = omega (arith, size, front, sized, adds);
       within = record {
         first = omega (arith, ef, em, front);
@@ -330,55 +346,53 @@ event_made edges group d old mid new old_slots new_slots rays sorted at from mid
         last = omega (arith, eu);
       };
       at = λ b. ea ∙ same_first group b d g.some;
-      timed = group_timed edges group (get_or group 0 d).at g rays sorted s.rays s.directions perm
-          up (timed_at new slot) ea
+      timed = group_timed edges group (get_or group 0 d).at g s.more s.permutation s.by_slope
+          (timed_at new slot) ea
           (ap (λ (ns : List ℕ). part_of ns from middle) whole
-          ∙ part_first old (ending_of group) (ray_edges sorted) from middle ef (em
-          ∙ ap length s.numbers))
-          (ap (λ (ns : List ℕ). part_of ns middle upto) e
-          ∙ part_second mid (ray_edges sorted) middle upto em (eu ∙ ap length e));
+          ∙ part_first old (ending_of group) s.more from middle ef (em ∙ ap length m))
+          (ap (λ (ns : List ℕ). part_of ns middle upto) s.numbers
+          ∙ part_second mid s.more middle upto em (eu ∙ ap length s.numbers));
     }
-  where
-    same_size : length (ray_edges sorted) ≡ length (starting_of group)
-    same_size = length-map sorted (λ (r : Ray). r.edge) ∙ length_permutation rays sorted perm
-        ∙ sym (length-map rays (λ (r : Ray). r.edge)) ∙ ap length s.rays
 
-pub nothing_split : (edges : List Edge) (old : List ℕ) (rays : List Ray) → rays ≡ []
-    → IsSplit edges [] old old rays
-nothing_split edges old rays e = record {
-  numbers = sym (append-nil old);
-  rays = ap ray_edges e;
-  directions = λ k d l. absurd (no_more rays k e l);
-}
-  where
-    no_more : (rays : List Ray) (k : ℕ) → rays ≡ [] → k < length rays → ⊥
-    no_more [] k e l = omega (arith, l)
-    no_more (r ∷ rays) k e l = cc
-
-pub split_whole : (edges : List Edge) (group : List End) (i : ℕ) (old new : List ℕ)
-    (rays : List Ray)
-    → length group ≤ i → IsSplit edges (take i group) old new rays
-    → IsSplit edges group old new rays
-split_whole edges group i old new rays l s =
-    subst (λ zs. IsSplit edges zs old new rays) (take_all i group l) s
-
-pub sizes_after : (edges : List Edge) (group : List End) (old mid : List ℕ) (rays : List Ray)
-    → IsSplit edges group old mid rays → length mid ≤ length old + length group
-sizes_after edges group old mid rays s =
-    let h = ap length s.numbers ∙ length-append old (ending_of group) in
+pub sizes_after : (group : List End) (old mid : List ℕ) → mid ≡ old ++ ending_of group
+    → length mid ≤ length old + length group
+sizes_after group old mid m =
+    let h = ap length m ∙ length-append old (ending_of group) in
     let k = sizes_add group in omega (arith, h, k)
 
 pub sizes_at_end : (edges : List Edge) (group : List End) (old mid new : List ℕ)
-    (rays sorted : List Ray)
-    → IsSplit edges group old mid rays → IsPermutation rays sorted → new ≡ mid ++ ray_edges sorted
+    → mid ≡ old ++ ending_of group → AddsStarting edges group mid new
     → length new ≡ length old + length group
-sizes_at_end edges group old mid new rays sorted s p e =
-    let h = ap length s.numbers ∙ length-append old (ending_of group) in
+sizes_at_end edges group old mid new m s =
+    let h = ap length m ∙ length-append old (ending_of group) in
     let k = sizes_add group in
-    let n = ap length e ∙ length-append mid (ray_edges sorted) in
-    let same = length-map sorted (λ (r : Ray). r.edge) ∙ length_permutation rays sorted p
-    ∙ sym (length-map rays (λ (r : Ray). r.edge)) ∙ ap length s.rays in
+    let n = ap length s.numbers ∙ length-append mid s.more in
+    let same = length_permutation (starting_of group) s.more s.permutation in
     omega (arith, h, k, n, same)
+
+-- one edge that starts is in order, and so are the edges of sorted rays
+pub one_starts : (edges : List Edge) (group : List End) (e : ℕ) (old new : List ℕ)
+    → starting_of group ≡ e ∷ [] → new ≡ old ++ e ∷ [] → AddsStarting edges group old new
+one_starts edges group e old new s f = record {
+  more = e ∷ [];
+  numbers = f;
+  permutation = subst (λ (ns : List ℕ). IsPermutation ns (e ∷ [])) (sym s)
+      (IsPermutation-refl (e ∷ []));
+  by_slope = (tt, tt);
+}
+
+pub rays_start : (edges : List Edge) (group : List End) (at : Point) (rays sorted : List Ray)
+    (old new : List ℕ)
+    → IsGroupOf edges at group → ray_edges rays ≡ starting_of group → All (IsRayOf edges) rays
+    → IsPermutation rays sorted → IsSortedBy ray_lt sorted → new ≡ old ++ ray_edges sorted
+    → AddsStarting edges group old new
+rays_start edges group at rays sorted old new g split directions perm up f = record {
+  more = ray_edges sorted;
+  numbers = f;
+  permutation = subst (λ (ns : List ℕ). IsPermutation ns (ray_edges sorted)) split
+      (IsPermutation-map (λ (r : Ray). r.edge) rays sorted perm);
+  by_slope = rays_rise edges group at g rays sorted split directions perm up;
+}
 
 -- ---- a group of the ends that are left
 not_itself : (z : End) → ComesFirst z z → ⊥

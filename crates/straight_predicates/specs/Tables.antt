@@ -1,14 +1,13 @@
 -- Timetables as lists of events, and the ends of edges from which they are made.
 use Rattle.std.specs.Prelude.{◌≡◌, ◌⊎◌, ◌↔◌, ℕ, suc, ◌+◌, ◌<◌, ◌≤◌, true, false, cond, List, []}
-use Rattle.std.specs.Prelude.{◌∷◌, ◌++◌, map, length, take, drop, slice_index_or, All}
+use Rattle.std.specs.Prelude.{◌∷◌, ◌++◌, map, length, take, drop, slice_index_or}
+use Rattle.std.specs.List.Sorted.{IsPermutation}
 use Rattle.plane.specs.declared.kinds.Point.{Point}
 use Rattle.plane.specs.declared.kinds.Edge.{Edge}
 use Rattle.plane.specs.Lists.{Each, Has, Neighbours}
 use Rattle.plane.specs.Forms.Vectors.{Before}
 use Rattle.plane.specs.Runs.Timetables.{Timed, BySlope}
 use Rattle.straight_predicates.specs.EdgeLists.{edge_of}
-use Rattle.straight_predicates.specs.Slopes.{IsRayOf, ray_edges}
-use Rattle.straight_predicates.specs.declared.rays.Ray.{Ray}
 use Rattle.straight_predicates.specs.declared.slots.End.{End}
 use Rattle.straight_predicates.specs.declared.slots.Slot.{Slot}
 use Rattle.straight_predicates.specs.Slots.{AreSlots, IsSlot, slots_of, timed_at}
@@ -73,12 +72,12 @@ abbrev pub starting_of : List End → List ℕ
 starting_of [] = []
 starting_of (z ∷ zs) = cond z.starts (z.edge ∷ starting_of zs) (starting_of zs)
 
--- The numbers gained the edges that end, and rays were made of those that start.
-pub record IsSplit (edges : List Edge) (group : List End) (old new : List ℕ)
-    (made : List Ray) : Type 0 where
-  pub numbers : new ≡ old ++ ending_of group
-  pub rays : ray_edges made ≡ starting_of group
-  pub directions : All (IsRayOf edges) made
+-- The numbers gained the edges that start, by slope.
+pub record AddsStarting (edges : List Edge) (group : List End) (old new : List ℕ) : Type 0 where
+  pub more : List ℕ
+  pub numbers : new ≡ old ++ more
+  pub permutation : IsPermutation (starting_of group) more
+  pub by_slope : Neighbours (BySlope (edge_of edges)) more
 
 -- The event holds exactly the edges whose ends are among these ends at its point, in order.
 pub record IsTimedBy (E : ℕ → Edge) (ends : List End) (t : Timed) : Type 0 where

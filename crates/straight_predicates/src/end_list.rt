@@ -3,6 +3,7 @@ ghost use Rattle.std.specs.List.{All};
 ghost use Rattle.straight_predicates.specs.Packing.{IsInRange};
 
 use super::packing::{packed, place_of, unpacked};
+use super::parting::sort_in_parts;
 use super::slots::End;
 use plane::Point;
 use ports::Memory;
@@ -46,11 +47,11 @@ impl EndList {
     }
 
     /// Sorts the ends by x, then y, then the edge.
-    pub fn sort(&mut self)
+    pub fn sort(&mut self, alloc: Global) -> Result<(), Memory>
         ensures permutation { IsPermutation (ends_in self.old) (ends_in self.new) }
-        ensures sorted { Neighbours IsNotAfter (ends_in self.new) }
+        ensures sorted { OnOk result (Neighbours IsNotAfter (ends_in self.new)) }
     {
-        self.packed.sort_unstable();
+        sort_in_parts(alloc, &mut self.packed)
     }
 
     pub fn len(&self) -> usize

@@ -1,14 +1,15 @@
 // The events of edges: their ends are sorted, and those of one point make an event.
-ghost use Rattle.std.specs.Prelude.{◌≡◌, ◌+◌, ◌^◌, ◌<◌, ◌≤◌, ◌++◌, ℕ, [], IfOk, OnOk, length, map};
-ghost use Rattle.std.specs.Prelude.{drop, slice_index_or, take, vec_len};
+ghost use Rattle.std.specs.Prelude.{◌≡◌, ◌+◌, ◌^◌, ◌<◌, ◌≤◌, ◌∷◌, ◌++◌, ℕ, [], All, IfOk, IfSome};
+ghost use Rattle.std.specs.Prelude.{OnOk, drop, length, map, slice_index_or, take, vec_len};
 ghost use Rattle.plane.specs.Runs.Timetables.{IsTimetable};
 ghost use Rattle.straight_predicates.specs.EdgeLists.{edge_of, AreSorted, AreAllClose};
 ghost use Rattle.straight_predicates.specs.Meetings.{AreClose};
 ghost use Rattle.straight_predicates.specs.PackedEnds.{ends_in};
-ghost use Rattle.straight_predicates.specs.Slopes.{ray_edges};
+ghost use Rattle.straight_predicates.specs.Slopes.{IsRayOf, ray_edges};
 ghost use Rattle.straight_predicates.specs.Slots.{AreSlots, end_of_stops, slots_of, timed_at};
-ghost use Rattle.straight_predicates.specs.Tables.{AddsEvent, AreEndsOf, IsGroup, IsGroupOf};
-ghost use Rattle.straight_predicates.specs.Tables.{IsSplit, ends_of, low_end};
+ghost use Rattle.straight_predicates.specs.Tables.{AddsEvent, AddsStarting, AreEndsOf, IsGroup};
+ghost use Rattle.straight_predicates.specs.Tables.{IsGroupOf, ending_of, ends_of, low_end};
+ghost use Rattle.straight_predicates.specs.Tables.{starting_of};
 
 use super::end_list::EndList;
 use super::rays::{Ray, ray_of, sort_rays};
@@ -30,7 +31,7 @@ pub fn sorted_ends(alloc: Global, edges: &[Edge]) -> Result<EndList, Memory>
         let number = i as u32;
         add_ends(&mut ends, *edge, number)?;
     }
-    ends.sort();
+    ends.sort(alloc)?;
     Ok(ends)
 }
 
@@ -136,18 +137,28 @@ fn add_event(
     ensures last { OnOk result (end_of_stops stops.new.items ≡ length numbers.new.items) }
 {
     let at = group[0].at;
-    split_group(numbers, rays, edges, group)?;
+    add_ending(numbers, group)?;
     let middle = numbers.len() as u32;
-    sort_rays(rays);
-    add_numbers(numbers, rays)?;
+    add_starting(numbers, rays, edges, group)?;
     let upto = numbers.len() as u32;
     stops.push(Stop { at, middle, upto })?;
     Ok(())
 }
 
-// Writes the edges that end at a group's point to the numbers, and makes rays of those that start
-// there.
-fn split_group(
+// Writes the edges that end at a group's point to the numbers.
+fn add_ending(numbers: &mut Vec<u32>, group: &[End]) -> Result<(), Memory>
+    ensures { OnOk result (numbers.new.items ≡ numbers.old.items ++ ending_of group.now) }
+{
+    for end in group {
+        if !end.starts {
+            numbers.push(end.edge)?;
+        }
+    }
+    Ok(())
+}
+
+// Writes the edges that start at a group's point to the numbers, by slope. One alone is in order.
+fn add_starting(
     numbers: &mut Vec<u32>,
     rays: &mut Vec<Ray>,
     edges: &[Edge],
@@ -155,17 +166,49 @@ fn split_group(
 ) -> Result<(), Memory>
     requires sorted { AreSorted edges.now }
     requires close { AreAllClose edges.now }
+    requires group { IsGroupOf edges.now (slice_index_or group.now 0 (low_end [] 0)).at group.now }
+    ensures { OnOk result (AddsStarting edges.now group.now numbers.old.items
+        numbers.new.items) }
+{
+    if let Some(edge) = only_starting(group) {
+        numbers.push(edge)?;
+        return Ok(());
+    }
+    make_rays(rays, edges, group)?;
+    sort_rays(rays);
+    add_numbers(numbers, rays)?;
+    Ok(())
+}
+
+// The edge that starts at a group's point, where there is one alone.
+fn only_starting(group: &[End]) -> Option<u32>
+    ensures { IfSome result (λ edge. starting_of group.now ≡ edge ∷ []) }
+{
+    let mut found = None;
+    for end in group {
+        if end.starts {
+            if found.is_some() {
+                return None;
+            }
+            found = Some(end.edge);
+        }
+    }
+    found
+}
+
+// Makes rays of the edges that start at a group's point.
+fn make_rays(rays: &mut Vec<Ray>, edges: &[Edge], group: &[End]) -> Result<(), Memory>
+    requires sorted { AreSorted edges.now }
+    requires close { AreAllClose edges.now }
     requires known { (k : ℕ) (d : End) → k < length group.now
         → (slice_index_or group.now k d).edge < length edges.now }
-    ensures { OnOk result (IsSplit edges.now group.now numbers.old.items numbers.new.items
-        rays.new.items) }
+    ensures edges { OnOk result (ray_edges rays.new.items ≡ starting_of group.now) }
+    ensures directions { OnOk result (All (IsRayOf edges.now) rays.new.items) }
 {
     rays.clear();
     for end in group {
         if end.starts {
             rays.push(ray_of(edges, end.edge))?;
-        } else {
-            numbers.push(end.edge)?;
         }
     }
     Ok(())

@@ -50,6 +50,7 @@ mod meets;
 mod on_straights;
 mod order;
 mod packing;
+mod parting;
 mod rays;
 mod slopes;
 mod slots;

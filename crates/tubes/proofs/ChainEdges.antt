@@ -210,7 +210,7 @@ fit w c d = record {
         → z ≤ℤ high → IsWithin (10 ^ 18) z
     short low high z h k l m = omega (arith, ints, h, k, l, m)
 
-module _ (d : Plan) (level : ℕ) where
+module _ (d : Plan) (level : ℕ → ℕ) where
   abbrev pub rest_edges : ℕ → List Edge
   rest_edges i = map edge_as (runs.edge_list (drawn_bays d level) i (drop i d.curves))
 
@@ -219,21 +219,21 @@ module _ (d : Plan) (level : ℕ) where
 
   list_now : (i : ℕ) → i < length d.curves
       → runs.edge_list (drawn_bays d level) i (drop i d.curves)
-      ≡ runs.edges_of i (curve d i).kind (curve d i) (bays_at (arc (curve d i)) level)
+      ≡ runs.edges_of i (curve d i).kind (curve d i) (bays_at (arc (curve d i)) (level i))
       ++ runs.edge_list (drawn_bays d level) (i + 1) (drop (i + 1) d.curves)
   list_now i l =
       ap (runs.edge_list (drawn_bays d level) i) (drop-cons d.curves i _ l)
-      ∙ ap (λ n. runs.edges_of i (curve d i).kind (curve d i) (bays_at (arc (curve d i)) level)
+      ∙ ap (λ n. runs.edges_of i (curve d i).kind (curve d i) (bays_at (arc (curve d i)) (level i))
       ++ runs.edge_list (drawn_bays d level) n (drop n d.curves)) (sym (add-one i))
 
   pub list_step : (i : ℕ) (edges grown all : List Edge) (owners more each : List Owner)
       → i < length d.curves
-      → AreGrown (runs.edges_of i (curve d i).kind (curve d i) (bays_at (arc (curve d i)) level))
+      → AreGrown (runs.edges_of i (curve d i).kind (curve d i) (bays_at (arc (curve d i)) (level i)))
       edges grown owners more
       → edges ++ rest_edges i ≡ all → owners ++ rest_owners i ≡ each
       → (grown ++ rest_edges (i + 1) ≡ all) × (more ++ rest_owners (i + 1) ≡ each)
   list_step i edges grown all owners more each l g e f =
-      let o = runs.edges_of i (curve d i).kind (curve d i) (bays_at (arc (curve d i)) level) in
+      let o = runs.edges_of i (curve d i).kind (curve d i) (bays_at (arc (curve d i)) (level i)) in
       let r = runs.edge_list (drawn_bays d level) (i + 1) (drop (i + 1) d.curves) in (
         ap (λ s. s ++ map edge_as r) g.edges ∙ append_assoc edges (map edge_as o) (map edge_as r)
             ∙ ap (λ s. edges ++ s) (sym (ap (map edge_as) (list_now i l) ∙ map_app edge_as o r))

@@ -47,7 +47,7 @@ few B z (c ∷ cs) i h =
     later : (i k : ℕ) → i + suc k ≡ suc i + k
     later i k = omega arith
 
-pub weighted : (d : Plan) (level : ℕ) → level ≤ 5 → HaveTubes d level
+pub weighted : (d : Plan) (level : ℕ → ℕ) → ((i : ℕ) → level i ≤ 5) → HaveTubes d level
     → length (edges_at d level) ≤ weight d.curves
 weighted d level low tubes =
     subst (λ (n : ℕ). n ≤ weight d.curves) (sym (edge_count d level))
@@ -64,7 +64,7 @@ weighted d level low tubes =
     by_kind i l (inr e) =
         let a = arc_length i (curve d i) (drawn_bays d level i) in
         let b = bay_count d level i (tubes i (record { there = l; kind = e })) in
-        let p = power_most level low in
+        let p = power_most (level i) (low i) in
         subst (λ (x : CurveKind).
         length (runs.edges_of i x (curve d i) (drawn_bays d level i)) ≤ most x) (sym e)
         (omega (arith, a, b, p))

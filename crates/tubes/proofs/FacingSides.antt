@@ -153,16 +153,16 @@ module _ (d : Plan) where
     small_chain i part q qs h k.0 k.1,
   )
 
-  small_curve : (i level : ℕ) (k : CurveKind) → (k ≡ kind.HalfArc → HasTube (arc (curve d i)) level)
+  small_curve : (i : ℕ) (level : ℕ → ℕ) (k : CurveKind) → (k ≡ kind.HalfArc → HasTube (arc (curve d i)) (level i))
       → Each HasSmall (runs.edges_of i k (curve d i) (drawn_bays d level i))
   small_curve i level kind.Straight t = (tt, tt)
   small_curve i level kind.HalfArc t = by_tube (t refl)
     where
-      by_tube : HasTube (arc (curve d i)) level
+      by_tube : HasTube (arc (curve d i)) (level i)
           → Each HasSmall (runs.edges_of i kind.HalfArc (curve d i) (drawn_bays d level i))
       by_tube (vs, os, m) =
           let a = near_self (curve d i).from in
-          subst (Each HasSmall) (sym (owned_are i (curve d i) level vs os m))
+          subst (Each HasSmall) (sym (owned_are i (curve d i) (level i) vs os m))
           (each_app HasSmall (runs.chain i runs.inner (curve d i).from vs)
           (runs.chain i runs.outer (curve d i).from (os ++ (curve d i).to ∷ []))
           (small_chain i runs.inner (curve d i).from vs m.circle a m.inner_near)
@@ -170,7 +170,7 @@ module _ (d : Plan) where
           (each_app (AreNear (2 ^ 28) (curve d i).from) os ((curve d i).to ∷ []) m.outer_near
           (nearer (curve d i).from (curve d i).to m.circle.ends, tt))))
 
-  small_all : (level : ℕ) → HaveTubes d level
+  small_all : (level : ℕ → ℕ) → HaveTubes d level
       → Each HasSmall (runs.edge_list (drawn_bays d level) 0 d.curves)
   small_all level tubes =
       each_owned HasSmall (drawn_bays d level) _ d.curves 0
@@ -182,7 +182,7 @@ module _ (d : Plan) where
       first : (k : ℕ) → k ≡ 0 + k
       first k = omega arith
 
-pub edge_by_owned : (d : Plan) (level e : ℕ) → e < length (edges_at d level)
+pub edge_by_owned : (d : Plan) (level : ℕ → ℕ) (e : ℕ) → e < length (edges_at d level)
     → edge_at d level e ≡ edge_as (owned_at d level e)
 edge_by_owned d level e l =
     mapped (runs.edge_list (drawn_bays d level) 0 d.curves) e
@@ -219,7 +219,7 @@ sides_agree e runs.outer c x = by_tests (runs.third_is_left c) (runs.runs_on c x
     by_tests false false = refl
 
 -- in the words of the list
-module _ (d : Plan) (level : ℕ) (list : EdgeList) (t : IsTubedList d level list) (e : ℕ)
+module _ (d : Plan) (level : ℕ → ℕ) (list : EdgeList) (t : IsTubedList d level list) (e : ℕ)
     (l : e < length list.edges.items) where
   fits : e < length (edges_at d level)
   fits = subst (λ (es : List Edge). e < length es) t.edges l
@@ -285,7 +285,7 @@ module _ (d : Plan) (level : ℕ) (list : EdgeList) (t : IsTubedList d level lis
 pub all_read : (e : ℕ) (xs es : List Edge) → xs ≡ es → e ≤ length xs → length xs ≤ e → e ≡ length es
 all_read e xs es q h k = subst (λ (ys : List Edge). e ≡ length ys) q (omega (arith, h, k))
 
-pub facings_are : (d : Plan) (level : ℕ) (list : EdgeList) (facings : List Facing)
+pub facings_are : (d : Plan) (level : ℕ → ℕ) (list : EdgeList) (facings : List Facing)
     → IsTubedList d level list → length facings ≡ length list.edges.items
     → ((k : ℕ) → k < length list.edges.items
     → slice_index_or facings k facing.Neither ≡ listed_side d list k)

@@ -139,7 +139,7 @@ corner_to runs.whole c x low high k h = absurd h
 corner_to runs.inner c x low high k h = (tt, h)
 corner_to runs.outer c x low high k h = (tt, h)
 
-module _ (d : Plan) (level : ℕ) (list : EdgeList) (t : IsTubedList d level list)
+module _ (d : Plan) (level : ℕ → ℕ) (list : EdgeList) (t : IsTubedList d level list)
     (table : List Timed)
     (timed : IsTimetable (length list.edges.items) (edge_of list.edges.items) table)
     (low high : List ℕ) (of : AreEventsOf list.edges.items table low high) where
@@ -330,14 +330,14 @@ module _ (d : Plan) (level : ℕ) (list : EdgeList) (t : IsTubedList d level lis
         own_event k b (λ e m s. let a = h.least e k m s in omega (arith, a, b, l))
 
 -- ---- a drawing of straights has no tubes
-pub straights_own : (d : Plan) (level : ℕ) (table : List Timed) → AreAllStraight d.curves
+pub straights_own : (d : Plan) (level : ℕ → ℕ) (table : List Timed) → AreAllStraight d.curves
     → IsFirstForeign d level table None
 straights_own d level table s k b e f l m u h g =
     let c = (of_half_arc d level e l).0 u in
     absurd (let q = sym (s (owned_at d level e).curve c.there) ∙ c.kind in cc)
 
 -- ---- in the words of what the code reads
-pub set_read : (d : Plan) (level : ℕ) (list : EdgeList) (t : IsTubedList d level list) (e : ℕ)
+pub set_read : (d : Plan) (level : ℕ → ℕ) (list : EdgeList) (t : IsTubedList d level list) (e : ℕ)
     (l : e < length list.edges.items) (o : Owner) (k : Curve) (a b : ℕ) (old new : List ℕ)
     → o ≡ get_or list.owners.items e o → k ≡ get_or d.curves o.curve k
     → AreSet (suc o.curve) (HasCornerAt o.part k (edge_of list.edges.items e) a b) old new

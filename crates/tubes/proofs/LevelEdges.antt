@@ -23,22 +23,22 @@ use Rattle.tubes.specs.declared.kinds.Owner.{Owner}
 use Rattle.tubes.proofs.ChainEdges.{bays_are}
 use Rattle.tubes.proofs.TubePoints.{power_positive, tube_count}
 
-pub edge_count : (d : Plan) (level : ℕ)
+pub edge_count : (d : Plan) (level : ℕ → ℕ)
     → length (edges_at d level) ≡ length (runs.edge_list (drawn_bays d level) 0 d.curves)
 edge_count d level = length-map (runs.edge_list (drawn_bays d level) 0 d.curves) edge_as
 
-pub bay_count : (d : Plan) (level i : ℕ) → HasTube (arc (curve d i)) level
-    → length (drawn_bays d level i) ≡ 2 ^ (level + 1)
-bay_count d level i (vs, os, t) = ap length (bays_are (arc (curve d i)) level vs os t)
-    ∙ tube_count (arc (curve d i)) level vs os t
+pub bay_count : (d : Plan) (level : ℕ → ℕ) (i : ℕ) → HasTube (arc (curve d i)) (level i)
+    → length (drawn_bays d level i) ≡ 2 ^ (level i + 1)
+bay_count d level i (vs, os, t) = ap length (bays_are (arc (curve d i)) (level i) vs os t)
+    ∙ tube_count (arc (curve d i)) (level i) vs os t
 
-pub some_bay : (d : Plan) (level i : ℕ) → HasTube (arc (curve d i)) level
+pub some_bay : (d : Plan) (level : ℕ → ℕ) (i : ℕ) → HasTube (arc (curve d i)) (level i)
     → 0 < length (drawn_bays d level i)
 some_bay d level i t =
-    subst (λ (n : ℕ). 0 < n) (sym (bay_count d level i t)) (power_positive (level + 1))
+    subst (λ (n : ℕ). 0 < n) (sym (bay_count d level i t)) (power_positive (level i + 1))
 
 -- ---- the edges of a curve, by their place among them
-module _ (d : Plan) (level : ℕ) where
+module _ (d : Plan) (level : ℕ → ℕ) where
   abbrev bays : ℕ → List Bay
   bays = drawn_bays d level
 
@@ -92,7 +92,7 @@ module _ (d : Plan) (level : ℕ) where
         part = ap (λ (w : runs.Owned). w.part) p.1 ∙ o.1;
       }
 
-  pub first_inner : (i : ℕ) → IsHalfArc d i → HasTube (arc (curve d i)) level
+  pub first_inner : (i : ℕ) → IsHalfArc d i → HasTube (arc (curve d i)) (level i)
       → IsOf (first i) i runs.inner
   first_inner i h t =
       subst (λ (n : ℕ). IsOf n i runs.inner) (omega arith) (inner_edge i 0 h (some_bay d level i t))
@@ -229,7 +229,7 @@ power_most (suc (suc (suc (suc zero)))) l = omega arith
 power_most (suc (suc (suc (suc (suc zero))))) l = omega arith
 power_most (suc (suc (suc (suc (suc (suc n)))))) l = absurd (omega (arith, l))
 
-pub few_edges : (d : Plan) (level : ℕ) → level ≤ 5 → HaveTubes d level
+pub few_edges : (d : Plan) (level : ℕ → ℕ) → ((i : ℕ) → level i ≤ 5) → HaveTubes d level
     → length (edges_at d level) ≤ (129 * length d.curves)
 few_edges d level low tubes =
     subst (λ (n : ℕ). n ≤ (129 * length d.curves)) (sym (edge_count d level))
@@ -244,7 +244,7 @@ few_edges d level low tubes =
     by_kind i l (inr e) =
         let a = arc_length i (curve d i) (drawn_bays d level i) in
         let b = bay_count d level i (tubes i (record { there = l; kind = e })) in
-        let p = power_most level low in
+        let p = power_most (level i) (low i) in
         subst (λ (x : CurveKind). length
         (runs.edges_of i x (curve d i) (drawn_bays d level i)) ≤ 129) (sym e)
         (omega (arith, a, b, p))
@@ -261,13 +261,13 @@ few_edges d level low tubes =
         (by_kind k l (decide_kind (curve d k).kind))
 
 -- ---- a list at the level
-pub list_sizes : (d : Plan) (level : ℕ) (list : EdgeList) → IsTubedList d level list
+pub list_sizes : (d : Plan) (level : ℕ → ℕ) (list : EdgeList) → IsTubedList d level list
     → length list.owners.items ≡ length list.edges.items
 list_sizes d level list t = ap length t.owners
     ∙ length-map (runs.edge_list (drawn_bays d level) 0 d.curves) owner_as
     ∙ sym (ap length t.edges ∙ edge_count d level)
 
-pub owner_by_number : (d : Plan) (level : ℕ) (list : EdgeList) (z : Owner) (e : ℕ)
+pub owner_by_number : (d : Plan) (level : ℕ → ℕ) (list : EdgeList) (z : Owner) (e : ℕ)
     → IsTubedList d level list → e < length list.edges.items
     → get_or list.owners.items e z ≡ owner_as (owned_at d level e)
 owner_by_number d level list z e t l =

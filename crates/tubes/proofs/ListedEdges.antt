@@ -16,13 +16,13 @@ use Rattle.tubes.specs.declared.kinds.EdgeList.{EdgeList}
 use Rattle.tubes.proofs.ChainEdges.{bays_are}
 use Rattle.tubes.proofs.TubePoints.{tube_is}
 
-pub tube_by_number : (d : Plan) (level i : ℕ) → HasTube (arc (curve d i)) level
+pub tube_by_number : (d : Plan) (level : ℕ → ℕ) (i : ℕ) → HasTube (arc (curve d i)) (level i)
     → IsTube (arc (curve d i)) (drawn_bays d level i)
 tube_by_number d level i (vs, os, t) =
-    subst (IsTube (arc (curve d i))) (sym (bays_are (arc (curve d i)) level vs os t))
-    (tube_is (arc (curve d i)) level vs os t)
+    subst (IsTube (arc (curve d i))) (sym (bays_are (arc (curve d i)) (level i) vs os t))
+    (tube_is (arc (curve d i)) (level i) vs os t)
 
-pub count_by_curves : (d : Plan) (level : ℕ) (list : EdgeList) → IsTubedList d level list
+pub count_by_curves : (d : Plan) (level : ℕ → ℕ) (list : EdgeList) → IsTubedList d level list
     → length list.edges.items ≡ length (runs.edge_list (drawn_bays d level) 0 d.curves)
 count_by_curves d level list t = ap length t.edges
     ∙ length-map (runs.edge_list (drawn_bays d level) 0 d.curves) edge_as
@@ -42,7 +42,7 @@ mapped [] e l = absurd (omega (arith, l))
 mapped (o ∷ os) zero l = joins o.from o.to
 mapped (o ∷ os) (suc e) l = mapped os e (omega (arith, l))
 
-pub edge_by_number : (d : Plan) (level : ℕ) (list : EdgeList) → IsTubedList d level list → (e : ℕ)
+pub edge_by_number : (d : Plan) (level : ℕ → ℕ) (list : EdgeList) → IsTubedList d level list → (e : ℕ)
     → e < length list.edges.items
     → runs.Connects (edge_of list.edges.items e) (runs.owned d (drawn_bays d level) e).from
     (runs.owned d (drawn_bays d level) e).to
@@ -62,6 +62,6 @@ as_straights B i (c ∷ cs) h =
     ap (λ k. map edge_as (runs.edges_of i k c (B i) ++ runs.edge_list B (suc i) cs)) e
     ∙ ap (λ es. straight_edge c ∷ es) r
 
-pub straights_list : (d : Plan) (level : ℕ) (list : EdgeList) → IsTubedList d level list
+pub straights_list : (d : Plan) (level : ℕ → ℕ) (list : EdgeList) → IsTubedList d level list
     → AreStraights d → list.edges.items ≡ edges_of d
 straights_list d level list t s = t.edges ∙ as_straights (drawn_bays d level) 0 d.curves s

@@ -24,11 +24,11 @@ use Rattle.tubes.proofs.LevelEdges.{bay_count}
 use Rattle.tubes.proofs.ListedEdges.{edge_by_number, count_by_curves, tube_by_number}
 use Rattle.tubes.proofs.TubePoints.{power_positive}
 
-pub wide : (d : Plan) (level : ℕ) → HaveTubes d level → AreWide d (drawn_bays d level)
+pub wide : (d : Plan) (level : ℕ → ℕ) → HaveTubes d level → AreWide d (drawn_bays d level)
 wide d level tubes i l h =
-    let p = power_positive level in
+    let p = power_positive (level i) in
     let e = bay_count d level i (tubes i (record { there = l; kind = h })) in
-    two (drawn_bays d level i) (omega (arith, e, twice level, p))
+    two (drawn_bays d level i) (omega (arith, e, twice (level i), p))
   where
     double : (n : ℕ) → 2 ^ suc n ≡ 2 * 2 ^ n
     double n = omega arith
@@ -42,7 +42,7 @@ wide d level tubes i l h =
     two (b ∷ (c ∷ bs)) l = tt
 
 -- ---- a complete run over the list, whose corners are their own
-pub tubed_run : (d : Plan) (level : ℕ) (list : EdgeList) (steps : List Step)
+pub tubed_run : (d : Plan) (level : ℕ → ℕ) (list : EdgeList) (steps : List Step)
     → IsTubedList d level list → ((p : Point) → IsOwnCorner d level p)
     → Run (length list.edges.items) (edge_of list.edges.items) steps
     → runs.IsTubedRun d (drawn_bays d level) (length list.edges.items)
@@ -61,7 +61,7 @@ tubed_run d level list steps t own run = record {
       (sym t.edges) (own (get_or steps k no_step).at e f);
 }
 
-pub settled_run : (d : Plan) (level : ℕ) (list : EdgeList) (steps : List Step)
+pub settled_run : (d : Plan) (level : ℕ → ℕ) (list : EdgeList) (steps : List Step)
     → IsTubedList d level list → IsSettledAt d level
     → Run (length list.edges.items) (edge_of list.edges.items) steps
     → IsSettledDrawing d (drawn_bays d level) (length list.edges.items)
@@ -88,7 +88,7 @@ step_of_end m E steps e p run l h = by_end h
     by_end (inl c) = at_some (E e).low (run.ends e l).0 c
     by_end (inr c) = at_some (E e).high (run.ends e l).1 c
 
-pub level_settled : (d : Plan) (level : ℕ) (steps : List Step) → HaveTubes d level
+pub level_settled : (d : Plan) (level : ℕ → ℕ) (steps : List Step) → HaveTubes d level
     → IsSettledDrawing d (drawn_bays d level) (length (edges_at d level)) (edge_at d level) steps
     → IsSettledAt d level
 level_settled d level steps tubes s = record {
@@ -113,7 +113,7 @@ event_of_point (t ∷ table) p (inl e) = (0, omega arith, sym e)
 event_of_point (t ∷ table) p (inr h) =
     let (k, l, e) = event_of_point table p h in (suc k, omega (arith, l), e)
 
-pub own_corners : (d : Plan) (level : ℕ) (table : List Timed)
+pub own_corners : (d : Plan) (level : ℕ → ℕ) (table : List Timed)
     → IsTimetable (length (edges_at d level)) (edge_at d level) table
     → IsFirstForeign d level table None → (p : Point) → IsOwnCorner d level p
 own_corners d level table h own p e f l k t a b =

@@ -157,10 +157,10 @@ module _ (low high : Point) where
   edge_at (x ∷ es) zero l h = h.0
   edge_at (x ∷ es) (suc e) l h = edge_at es e (omega (arith, l)) h.1
 
-pub usable : (d : Plan) (level : ℕ) (edges : List Edge)
+pub usable : (d : Plan) (level : ℕ → ℕ) (edges : List Edge)
     → All (λ (c : Curve). IsDrawn d.window.low d.window.high c) d.curves
     → All (λ (p : Placed). IsInside d.window.low d.window.high p.at) d.points
-    → ((i : ℕ) → IsHalfArc d i → HasTube (arc (curve d i)) level)
+    → ((i : ℕ) → IsHalfArc d i → HasTube (arc (curve d i)) (level i))
     → edges ≡ map edge_as (runs.edge_list (drawn_bays d level) 0 d.curves) → AreUsable d edges
 usable d level edges drawn points tubes e =
     let low = d.window.low in
@@ -169,7 +169,7 @@ usable d level edges drawn points tubes e =
     (λ k l. subst
     (λ n. Each (IsGoodOwned low high)
     (runs.edges_of n (curve d k).kind (curve d k) (drawn_bays d level n))) (first k)
-    (good_curve low high k (curve d k) level (drawn k _ l)
+    (good_curve low high k (curve d k) (level k) (drawn k _ l)
     (λ h. tubes k (record { there = l; kind = h })))) in
     let all : Each (IsGood low high) edges = subst (Each (IsGood low high)) (sym e)
     (each_map (IsGood low high) edge_as (runs.edge_list (drawn_bays d level) 0 d.curves) g) in

@@ -7,4 +7,4 @@ use Rattle.tubes.specs.Settled.{HaveTubes, edges_at}
 -- half-edges have numbers of 32 bits.
 abbrev pub HasFewEdges : Plan → Type 0
 HasFewEdges d =
-    (level : ℕ) → level ≤ 5 → HaveTubes d level → length (edges_at d level) < 2 ^ 31
+    (level : ℕ → ℕ) → ((i : ℕ) → level i ≤ 5) → HaveTubes d level → length (edges_at d level) < 2 ^ 31

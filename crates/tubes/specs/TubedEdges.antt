@@ -36,8 +36,8 @@ bays_at h level =
     (made (outer_points h h.from (made (inner_points h (level + 1)))))
 
 -- The bays of the tube of the curve of a number at the level, where it has one.
-abbrev pub drawn_bays : Plan → ℕ → ℕ → List Bay
-drawn_bays d level i = bays_at (arc (curve d i)) level
+abbrev pub drawn_bays : Plan → (ℕ → ℕ) → ℕ → List Bay
+drawn_bays d level i = bays_at (arc (curve d i)) (level i)
 
 -- What an edge is of its curve, in code.
 abbrev pub part_of : runs.Part → Part
@@ -54,14 +54,14 @@ owner_as o = record { curve = o.curve; part = part_of o.part }
 
 -- All half arcs have tubes at the level, and the list is that of the curves in their order: a
 -- straight gives its edge, a half arc its inner chain, then its outer one.
-pub record IsTubedList (d : Plan) (level : ℕ) (list : EdgeList) : Type 0 where
-  pub tubes : (i : ℕ) → IsHalfArc d i → HasTube (arc (curve d i)) level
+pub record IsTubedList (d : Plan) (level : ℕ → ℕ) (list : EdgeList) : Type 0 where
+  pub tubes : (i : ℕ) → IsHalfArc d i → HasTube (arc (curve d i)) (level i)
   pub edges : list.edges.items ≡ map edge_as (runs.edge_list (drawn_bays d level) 0 d.curves)
   pub owners : list.owners.items ≡ map owner_as (runs.edge_list (drawn_bays d level) 0 d.curves)
 
 -- A half arc has no tube at the level, or the list is that of the drawing.
-abbrev pub IsListAt : Plan → ℕ → Option EdgeList → Type 0
-IsListAt d level None = (i : ℕ) × IsHalfArc d i × HasNoTube (arc (curve d i)) level
+abbrev pub IsListAt : Plan → (ℕ → ℕ) → Option EdgeList → Type 0
+IsListAt d level None = (i : ℕ) × IsHalfArc d i × HasNoTube (arc (curve d i)) (level i)
 IsListAt d level (Some list) = IsTubedList d level list
 
 -- The edges have their low ends first, and are close enough to each other and to the objects'

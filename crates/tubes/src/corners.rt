@@ -30,12 +30,12 @@ pub fn foreign_corner(
     high: &[u32],
     events: u32,
 ) -> Result<Option<u32>, Memory>
-    requires list { (level : ℕ) × (level ≤ 5) × IsTubedList (plan drawing.now) level list.now }
+    requires list { (level : ℕ → ℕ) × ((i : ℕ) → level i ≤ 5) × IsTubedList (plan drawing.now) level list.now }
     requires low_count { length low.now ≡ length list.now.edges.items }
     requires high_count { length high.now ≡ length list.now.edges.items }
     requires low { AreBelow events low.now }
     requires high { AreBelow events high.now }
-    ensures { IfOk result (λ found. (level : ℕ) (table : List Timed)
+    ensures { IfOk result (λ found. (level : ℕ → ℕ) (table : List Timed)
         → IsTubedList (plan drawing.now) level list.now
         → IsTimetable (length list.now.edges.items) (edge_of list.now.edges.items) table
         → AreEventsOf list.now.edges.items table low.now high.now → length table ≡ events
@@ -74,7 +74,7 @@ fn tubes_by_event(
     high: &[u32],
     events: u32,
 ) -> Result<Vec<u32>, Memory>
-    requires list { (level : ℕ) × (level ≤ 5) × IsTubedList (plan drawing.now) level list.now }
+    requires list { (level : ℕ → ℕ) × ((i : ℕ) → level i ≤ 5) × IsTubedList (plan drawing.now) level list.now }
     requires low_count { length low.now ≡ length list.now.edges.items }
     requires high_count { length high.now ≡ length list.now.edges.items }
     requires low { AreBelow events low.now }

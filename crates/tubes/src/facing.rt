@@ -19,8 +19,8 @@ use straight_predicates::{Turn, turn};
 /// Which side of each edge faces the tube of its curve from within, in one pass; of the list of the
 /// drawing's edges at some level. One byte for each edge. The only error is out of memory.
 pub fn facings(alloc: Global, drawing: &Drawing, list: &EdgeList) -> Result<Vec<Facing>, Memory>
-    requires { (level : ℕ) × (level ≤ 5) × IsTubedList (plan drawing.now) level list.now }
-    ensures { IfOk result (λ facings. (level : ℕ) → IsTubedList (plan drawing.now) level list.now
+    requires { (level : ℕ → ℕ) × ((i : ℕ) → level i ≤ 5) × IsTubedList (plan drawing.now) level list.now }
+    ensures { IfOk result (λ facings. (level : ℕ → ℕ) → IsTubedList (plan drawing.now) level list.now
         → AreFacings (plan drawing.now) level facings.items) }
 {
     let mut facings = Vec::with_capacity(alloc, list.edges.len())?;

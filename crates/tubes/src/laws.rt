@@ -61,24 +61,24 @@ pub fn tubes_of_half_arcs()
 /// its half arcs have tubes by the number of their curve, and each edge joins the two points of
 /// the owned edge of that number. Of a drawing of straights it is the list of its straights.
 pub fn edges_of_tubed_drawing()
-    ensures tubes { (d : Plan) (level i : ℕ)
-        → HasTube (arc (curve d i)) level → IsTube (arc (curve d i)) (drawn_bays d level i) }
-    ensures count { (d : Plan) (level : ℕ) (list : EdgeList) → IsTubedList d level list
+    ensures tubes { (d : Plan) (level : ℕ → ℕ) (i : ℕ)
+        → HasTube (arc (curve d i)) (level i) → IsTube (arc (curve d i)) (drawn_bays d level i) }
+    ensures count { (d : Plan) (level : ℕ → ℕ) (list : EdgeList) → IsTubedList d level list
         → length list.edges.items ≡ length (edge_list (drawn_bays d level) 0 d.curves) }
-    ensures edges { (d : Plan) (level : ℕ) (list : EdgeList) → IsTubedList d level list
+    ensures edges { (d : Plan) (level : ℕ → ℕ) (list : EdgeList) → IsTubedList d level list
         → (e : ℕ) → e < length list.edges.items → Connects (edge_of list.edges.items e)
         (owned d (drawn_bays d level) e).from (owned d (drawn_bays d level) e).to }
-    ensures straights { (d : Plan) (level : ℕ) (list : EdgeList)
+    ensures straights { (d : Plan) (level : ℕ → ℕ) (list : EdgeList)
         → IsTubedList d level list → AreStraights d → list.edges.items ≡ edges_of d }
 {}
 
 /// The lists of edges and of their owners at a level are those of the owned edges by number.
 pub fn tubed_lists()
-    ensures edges { (d : Plan) (level : ℕ) (list : EdgeList)
+    ensures edges { (d : Plan) (level : ℕ → ℕ) (list : EdgeList)
         → IsTubedList d level list → list.edges.items ≡ edges_at d level }
-    ensures sizes { (d : Plan) (level : ℕ) (list : EdgeList)
+    ensures sizes { (d : Plan) (level : ℕ → ℕ) (list : EdgeList)
         → IsTubedList d level list → length list.owners.items ≡ length list.edges.items }
-    ensures owners { (d : Plan) (level : ℕ) (list : EdgeList) (z : Owner) (e : ℕ)
+    ensures owners { (d : Plan) (level : ℕ → ℕ) (list : EdgeList) (z : Owner) (e : ℕ)
         → IsTubedList d level list → e < length list.edges.items
         → get_or list.owners.items e z ≡ owner_as (owned_at d level e) }
 {}
@@ -88,25 +88,25 @@ pub fn tubed_lists()
 /// own, and a complete run is one with tubes, each of which has two bays at least; where there is
 /// such an event the level does not settle.
 pub fn settled_levels()
-    ensures run { (d : Plan) (level : ℕ) (list : EdgeList) (steps : List Step)
+    ensures run { (d : Plan) (level : ℕ → ℕ) (list : EdgeList) (steps : List Step)
         → IsTubedList d level list → IsSettledAt d level
         → Run (length list.edges.items) (edge_of list.edges.items) steps
         → IsSettledDrawing d (drawn_bays d level) (length list.edges.items)
         (edge_of list.edges.items) steps }
-    ensures level { (d : Plan) (level : ℕ) (steps : List Step)
+    ensures level { (d : Plan) (level : ℕ → ℕ) (steps : List Step)
         → HaveTubes d level
         → IsSettledDrawing d (drawn_bays d level) (length (edges_at d level)) (edge_at d level)
         steps → IsSettledAt d level }
-    ensures corners { (d : Plan) (level : ℕ) (table : List Timed) (p : Point)
+    ensures corners { (d : Plan) (level : ℕ → ℕ) (table : List Timed) (p : Point)
         → IsTimetable (length (edges_at d level)) (edge_at d level) table
         → IsFirstForeign d level table None → IsOwnCorner d level p }
-    ensures own { (d : Plan) (level : ℕ) (list : EdgeList) (steps : List Step)
+    ensures own { (d : Plan) (level : ℕ → ℕ) (list : EdgeList) (steps : List Step)
         → IsTubedList d level list → ((p : Point) → IsOwnCorner d level p)
         → Run (length list.edges.items) (edge_of list.edges.items) steps
         → IsTubedRun d (drawn_bays d level) (length list.edges.items) (edge_of list.edges.items)
         steps }
-    ensures wide { (d : Plan) (level : ℕ) → HaveTubes d level → AreWide d (drawn_bays d level) }
-    ensures foreign { (d : Plan) (level k : ℕ) (table : List Timed)
+    ensures wide { (d : Plan) (level : ℕ → ℕ) → HaveTubes d level → AreWide d (drawn_bays d level) }
+    ensures foreign { (d : Plan) (level : ℕ → ℕ) (k : ℕ) (table : List Timed)
         → IsFirstForeign d level table (Some k) → IsSettledAt d level → ⊥ }
 {}
 
@@ -114,12 +114,12 @@ pub fn settled_levels()
 /// the first one of the outer chain as the tube has bays. Each edge has its curve: that of a tube a
 /// half arc, any other a straight.
 pub fn chains_have_edges()
-    ensures inner { (d : Plan) (level i : ℕ)
+    ensures inner { (d : Plan) (level : ℕ → ℕ) (i : ℕ)
         → HaveTubes d level → IsHalfArc d i
         → (first_edge (drawn_bays d level) 0 d.curves i < length (edges_at d level))
         × ((owned_at d level (first_edge (drawn_bays d level) 0 d.curves i)).curve ≡ i)
         × ((owned_at d level (first_edge (drawn_bays d level) 0 d.curves i)).part ≡ inner) }
-    ensures outer { (d : Plan) (level i : ℕ)
+    ensures outer { (d : Plan) (level : ℕ → ℕ) (i : ℕ)
         → IsHalfArc d i
         → ((first_edge (drawn_bays d level) 0 d.curves i + length (drawn_bays d level i))
         < length (edges_at d level))
@@ -127,20 +127,20 @@ pub fn chains_have_edges()
         + length (drawn_bays d level i))).curve ≡ i)
         × ((owned_at d level (first_edge (drawn_bays d level) 0 d.curves i
         + length (drawn_bays d level i))).part ≡ outer) }
-    ensures owner { (d : Plan) (level e : ℕ)
+    ensures owner { (d : Plan) (level : ℕ → ℕ) (e : ℕ)
         → e < length (edges_at d level) → (owned_at d level e).curve < length d.curves }
-    ensures half_arc { (d : Plan) (level e : ℕ)
+    ensures half_arc { (d : Plan) (level : ℕ → ℕ) (e : ℕ)
         → e < length (edges_at d level)
         → IsOfTube (owned_at d level e).part ↔ IsHalfArc d (owned_at d level e).curve }
-    ensures straight { (d : Plan) (level e : ℕ)
+    ensures straight { (d : Plan) (level : ℕ → ℕ) (e : ℕ)
         → e < length (edges_at d level)
         → ((owned_at d level e).part ≡ whole) ↔ IsStraight d (owned_at d level e).curve }
 {}
 
 /// Up to level 5 a curve has at most 129 edges: so 16,000,000 curves have fewer than 2^31.
 pub fn few_edges()
-    ensures { (d : Plan) (level : ℕ)
-        → level ≤ 5 → HaveTubes d level → length (edges_at d level) ≤ (129 * length d.curves) }
+    ensures { (d : Plan) (level : ℕ → ℕ)
+        → ((i : ℕ) → level i ≤ 5) → HaveTubes d level → length (edges_at d level) ≤ (129 * length d.curves) }
 {}
 
 /// A drawing of at most 16,000,000 curves has fewer than 2^31 edges up to level 5.

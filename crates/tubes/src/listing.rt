@@ -18,7 +18,7 @@ use straight_predicates::edge_between;
 /// at the level. The only error is out of memory.
 pub fn edge_list(alloc: Global, drawing: &Drawing, level: u8) -> Result<Option<EdgeList>, Memory>
     requires { level ≤ 5 }
-    ensures list { IfOk result (IsListAt (plan drawing.now) level) }
+    ensures list { IfOk result (IsListAt (plan drawing.now) (λ i. level)) }
     ensures usable { IfOk result (IsUsable (plan drawing.now)) }
 {
     let mut edges = Vec::with_capacity(alloc, drawing.curves.len())?;

@@ -64,7 +64,7 @@ module _ (s : Labelling) (g : Rooting s) where
 
     -- ---- beside the cell of a point
     module _ (i : ℕ) (lo up : Option ℕ)
-        (cell : IsCell (edges_at (d s) (level s)) (vs s) (object (d s) j) i lo up) where
+        (cell : IsCell (edges_at (d s) (λ n. level s)) (vs s) (object (d s) j) i lo up) where
       abbrev now : List ℕ
       now = live_from [] (take cell.events (vs s))
 

@@ -80,10 +80,10 @@ module _ (d : Plan) (level : ℕ) (table : List Timed) (ps : List ℕ) (edges : 
   vs = moves_at table ps
 
   abbrev m : ℕ
-  m = length (edges_at d level)
+  m = length (edges_at d (λ n. level))
 
   abbrev E : ℕ → Edge
-  E = edge_at d level
+  E = edge_at d (λ n. level)
 
   abbrev s : Subject
   s = subject_of d (record { level = level; positions = ps; notes = ns; places = places }) table
@@ -279,7 +279,7 @@ module _ (d : Plan) (level : ℕ) (table : List Timed) (ps : List ℕ) (edges : 
       where
         clear_over : (i : ℕ) (lo : Option ℕ) (es now : List ℕ) → es ≡ now → IsClearOver d level lo
             → lo ≡ edge_before now i → (e : ℕ) → AtBefore es i e
-            → faced d (drawn_bays d level) E (over e) ≡ 0
+            → faced d (drawn_bays d (λ n. level)) E (over e) ≡ 0
         clear_over i lo es now q clear is e b = subst (IsClearOver d level)
             (is ∙ is_before now i e (subst (λ (xs : List ℕ). AtBefore xs i e) q b)) clear
 
@@ -288,7 +288,7 @@ module _ (d : Plan) (level : ℕ) (table : List Timed) (ps : List ℕ) (edges : 
         by_spot (spot.On c) e w o = absurd o
         by_spot (spot.Cell i lo up) e w o =
             subst (IsChosenPlace s j) (sym (place_is lab j l places written (spot.Cell i lo up) e))
-            (λ t. in_no_tube d (drawn_bays d level) m E
+            (λ t. in_no_tube d (drawn_bays d (λ n. level)) m E
             (steps_from [] vs) case.settled.run case.settled.wide case.settled.settled (object d j)
             (pos 0) w.0.events i (w.0.located (pos 0))
             (clear_over i lo ((replay_of s).list w.0.events) (live_from [] (take w.0.events vs))

@@ -21,7 +21,7 @@ at_level c l q = λ i. record
 
 pub one_table : (d : Plan) (level : ℕ) (ts us : List Timed) → IsTableOf d level ts
     → IsTableOf d level us → ts ≡ us
-one_table d level ts us t u = one_timetable (length (edges_at d level)) (edge_at d level) ts us t u
+one_table d level ts us t u = one_timetable (length (edges_at d (λ n. level))) (edge_at d (λ n. level)) ts us t u
 
 -- claims by their parts
 abbrev Parts : ℕ → List ℕ → List HalfNote → List PointPlace → Claims

@@ -46,19 +46,19 @@ module _ (facings : List Facing) (owners : List Owner) where
   all_cells (c ∷ cells) h g (inr m) = all_cells cells (λ k x l. h (suc k) x (omega (arith, l))) g m
 
 -- ---- the run of a level's edges
-module _ (d : Plan) (level : ℕ) (facings : List Facing) (told : AreFacings d level facings)
+module _ (d : Plan) (level : ℕ) (facings : List Facing) (told : AreFacings d (λ n. level) facings)
     (owners : List Owner) (are : owners
-    ≡ map owner_as (runs.edge_list (drawn_bays d level) 0 d.curves))
+    ≡ map owner_as (runs.edge_list (drawn_bays d (λ n. level)) 0 d.curves))
     (vs : List Move) (fit : Fit [] vs)
-    (run : Run (length (edges_at d level)) (edge_at d level) (steps_from [] vs)) where
+    (run : Run (length (edges_at d (λ n. level))) (edge_at d (λ n. level)) (steps_from [] vs)) where
   abbrev m : ℕ
-  m = length (edges_at d level)
+  m = length (edges_at d (λ n. level))
 
   abbrev E : ℕ → Edge
-  E = edge_at d level
+  E = edge_at d (λ n. level)
 
   abbrev face : Half → ℕ
-  face h = faced d (drawn_bays d level) E h
+  face h = faced d (drawn_bays d (λ n. level)) E h
 
   within : (g : Gap) (e : ℕ) → Has g (closed_gaps vs) → ((g.lower ≡ Some e) ⊎ (g.upper ≡ Some e))
       → e < m
@@ -85,7 +85,7 @@ module _ (d : Plan) (level : ℕ) (facings : List Facing) (told : AreFacings d l
         sym (tagged (over e) (within c e has (inl low))) ∙ sym (ap (tag_over facings owners) low)
         ∙ paired c has ∙ ap (tag_under facings owners) up
 
-    pub cells_paired : AreCellsPaired d (drawn_bays d level) (replay (pos 0) m E (steps_from [] vs))
+    pub cells_paired : AreCellsPaired d (drawn_bays d (λ n. level)) (replay (pos 0) m E (steps_from [] vs))
     cells_paired = record {
       across = λ g h x. by_gap g h
           (across_gap vs fit (run_leaves_none m E vs run) (pos 0) m E g h x);
@@ -99,7 +99,7 @@ module _ (d : Plan) (level : ℕ) (facings : List Facing) (told : AreFacings d l
         by_gap g h (inr (inr b)) = sym (between h g b)
 
   -- and they do, where the cells of the replay pair
-  module _ (pairs : AreCellsPaired d (drawn_bays d level)
+  module _ (pairs : AreCellsPaired d (drawn_bays d (λ n. level))
       (replay (pos 0) m E (steps_from [] vs))) where
     no_tube : (h : Half) → AtBorder vs h → face h ≡ 0
     no_tube h c =
@@ -126,26 +126,26 @@ module _ (d : Plan) (level : ℕ) (facings : List Facing) (told : AreFacings d l
 -- ---- one level
 -- The tubes are wide, the run is one with tubes, and a settled run settles the level: as the law of
 -- settled levels says.
-module _ (d : Plan) (level : ℕ) (list : EdgeList) (t : IsTubedList d level list)
-    (facings : List Facing) (told : AreFacings d level facings) (vs : List Move) (fit : Fit [] vs)
-    (wide : AreWide d (drawn_bays d level))
-    (tubed : runs.IsTubedRun d (drawn_bays d level) (length list.edges.items)
+module _ (d : Plan) (level : ℕ) (list : EdgeList) (t : IsTubedList d (λ n. level) list)
+    (facings : List Facing) (told : AreFacings d (λ n. level) facings) (vs : List Move) (fit : Fit [] vs)
+    (wide : AreWide d (drawn_bays d (λ n. level)))
+    (tubed : runs.IsTubedRun d (drawn_bays d (λ n. level)) (length list.edges.items)
     (edge_of list.edges.items) (steps_from [] vs))
-    (level_settled : IsSettledDrawing d (drawn_bays d level) (length (edges_at d level))
-    (edge_at d level) (steps_from [] vs) → IsSettledAt d level)
+    (level_settled : IsSettledDrawing d (drawn_bays d (λ n. level)) (length (edges_at d (λ n. level)))
+    (edge_at d (λ n. level)) (steps_from [] vs) → IsSettledAt d (λ n. level))
     (paired : ArePaired facings list.owners.items (closed_gaps vs)) (low : level ≤ 5) where
-  own_tubes : runs.IsTubedRun d (drawn_bays d level) (length (edges_at d level)) (edge_at d level)
+  own_tubes : runs.IsTubedRun d (drawn_bays d (λ n. level)) (length (edges_at d (λ n. level))) (edge_at d (λ n. level))
       (steps_from [] vs)
   own_tubes = subst
-      (λ (es : List Edge). runs.IsTubedRun d (drawn_bays d level) (length es) (edge_of es)
+      (λ (es : List Edge). runs.IsTubedRun d (drawn_bays d (λ n. level)) (length es) (edge_of es)
       (steps_from [] vs)) t.edges tubed
 
-  settled : IsSettledDrawing d (drawn_bays d level) (length (edges_at d level)) (edge_at d level)
+  settled : IsSettledDrawing d (drawn_bays d (λ n. level)) (length (edges_at d (λ n. level))) (edge_at d (λ n. level))
       (steps_from [] vs)
   settled = record {
     run = own_tubes;
     wide = wide;
-    settled = paired_settle d (drawn_bays d level) (length (edges_at d level)) (edge_at d level)
+    settled = paired_settle d (drawn_bays d (λ n. level)) (length (edges_at d (λ n. level))) (edge_at d (λ n. level))
         (steps_from [] vs) own_tubes wide (pos 0)
         (cells_paired d level facings told list.owners.items t.owners vs fit own_tubes.run paired);
   }
@@ -161,32 +161,32 @@ module _ (d : Plan) (level : ℕ) (list : EdgeList) (t : IsTubedList d level lis
     fit = fit;
   }
 
-  pub is_settled : IsSettledAt d level
+  pub is_settled : IsSettledAt d (λ n. level)
   is_settled = level_settled settled
 
 -- A level that settles the drawing pairs the cells of its run.
-pub settled_pairs : (d : Plan) (level : ℕ) (list : EdgeList) → IsTubedList d level list
-    → (facings : List Facing) → AreFacings d level facings → (vs : List Move) → Fit [] vs
-    → IsSettledDrawing d (drawn_bays d level) (length list.edges.items) (edge_of list.edges.items)
+pub settled_pairs : (d : Plan) (level : ℕ) (list : EdgeList) → IsTubedList d (λ n. level) list
+    → (facings : List Facing) → AreFacings d (λ n. level) facings → (vs : List Move) → Fit [] vs
+    → IsSettledDrawing d (drawn_bays d (λ n. level)) (length list.edges.items) (edge_of list.edges.items)
     (steps_from [] vs)
-    → ((m : ℕ) (E : ℕ → Edge) → IsSettledDrawing d (drawn_bays d level) m E (steps_from [] vs)
-    → AreCellsPaired d (drawn_bays d level) (replay (pos 0) m E (steps_from [] vs)))
+    → ((m : ℕ) (E : ℕ → Edge) → IsSettledDrawing d (drawn_bays d (λ n. level)) m E (steps_from [] vs)
+    → AreCellsPaired d (drawn_bays d (λ n. level)) (replay (pos 0) m E (steps_from [] vs)))
     → ArePaired facings list.owners.items (closed_gaps vs)
 settled_pairs d level list t facings told vs fit settled law =
-    let s : IsSettledDrawing d (drawn_bays d level) (length (edges_at d level)) (edge_at d level)
+    let s : IsSettledDrawing d (drawn_bays d (λ n. level)) (length (edges_at d (λ n. level))) (edge_at d (λ n. level))
     (steps_from [] vs) =
-    subst (λ (es : List Edge). IsSettledDrawing d (drawn_bays d level) (length es) (edge_of es)
+    subst (λ (es : List Edge). IsSettledDrawing d (drawn_bays d (λ n. level)) (length es) (edge_of es)
     (steps_from [] vs)) t.edges settled in
     gaps_paired d level facings told list.owners.items t.owners vs fit s.run.run
-    (law (length (edges_at d level)) (edge_at d level) s)
+    (law (length (edges_at d (λ n. level))) (edge_at d (λ n. level)) s)
 
 -- ---- the owners of edges have curves of the drawing
 pub curves_below : (d : Plan) (level : ℕ) (list : EdgeList) (facings : List Facing)
-    → AreFacings d level facings → IsTubedList d level list → length d.curves < 2 ^ 30
-    → ((e : ℕ) → e < length (edges_at d level) → (owned_at d level e).curve < length d.curves)
+    → AreFacings d (λ n. level) facings → IsTubedList d (λ n. level) list → length d.curves < 2 ^ 30
+    → ((e : ℕ) → e < length (edges_at d (λ n. level)) → (owned_at d (λ n. level) e).curve < length d.curves)
     → (e : ℕ) → e < length list.owners.items → (owner_at list.owners.items e).curve < 2 ^ 30
 curves_below d level list facings told t few within e l =
-    let k : e < length (edges_at d level) =
+    let k : e < length (edges_at d (λ n. level)) =
     (let q = owner_count d level facings told list.owners.items t.owners in
     omega (arith, l, q)) in
     let o = ap (λ (x : Owner). x.curve)
@@ -194,8 +194,8 @@ curves_below d level list facings told t few within e l =
     let c = within e k in
     omega (arith, o, c, few)
 
-pub few_of : (d : Plan) (level : ℕ) (list : EdgeList) → IsTubedList d level list
-    → length (edges_at d level) ≤ (129 * length d.curves) → length d.curves ≤ 16000000
+pub few_of : (d : Plan) (level : ℕ) (list : EdgeList) → IsTubedList d (λ n. level) list
+    → length (edges_at d (λ n. level)) ≤ (129 * length d.curves) → length d.curves ≤ 16000000
     → length list.edges.items < 2147483648
 few_of d level list t f few = let q = ap length t.edges in omega (arith, f, q, few)
 

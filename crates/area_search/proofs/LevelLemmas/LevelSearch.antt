@@ -62,8 +62,8 @@ six_unsettled d k m none l low s = none l (omega (arith, low, m)) s
 
 -- ---- the edges at a level that settles
 module _ (d : Plan) (level : ℕ) (list : EdgeList)
-    (edges_are : list.edges.items ≡ edges_at d level) where
-  pub never_bad : IsSettledAt d level → ((a b : Edge) → Bad a b → Disjoint a b → ⊥)
+    (edges_are : list.edges.items ≡ edges_at d (λ n. level)) where
+  pub never_bad : IsSettledAt d (λ n. level) → ((a b : Edge) → Bad a b → Disjoint a b → ⊥)
       → ((a b : Edge) → Bad a b → Touch a b → ⊥) → (edges : List Edge) → edges ≡ list.edges.items
       → (e f : ℕ) → AreBad edges e f → ⊥
   never_bad s apart touch edges same e f h = by (subst (λ es. AreBad es e f) (same ∙ edges_are) h)
@@ -72,17 +72,17 @@ module _ (d : Plan) (level : ℕ) (list : EdgeList)
       no a b k (inl x) = apart a b k x
       no a b k (inr x) = touch a b k x
 
-      by : AreBad (edges_at d level) e f → ⊥
-      by k = no (edge_at d level e) (edge_at d level f) k.bad (s.meet e f k.first k.second k.differ)
+      by : AreBad (edges_at d (λ n. level)) e f → ⊥
+      by k = no (edge_at d (λ n. level) e) (edge_at d (λ n. level) f) k.bad (s.meet e f k.first k.second k.differ)
 
 -- ---- the curves of edges
 -- the owners at a level are curves of the drawing
 pub owners_there : (d : Plan) (level : ℕ) (list : EdgeList) (owners : List Owner)
     → owners ≡ list.owners.items → length list.owners.items ≡ length list.edges.items
-    → list.edges.items ≡ edges_at d level
+    → list.edges.items ≡ edges_at d (λ n. level)
     → ((e : ℕ) → e < length list.edges.items
-    → owner_at list.owners.items e ≡ owner_as (owned_at d level e))
-    → ((e : ℕ) → e < length (edges_at d level) → (owned_at d level e).curve < length d.curves)
+    → owner_at list.owners.items e ≡ owner_as (owned_at d (λ n. level) e))
+    → ((e : ℕ) → e < length (edges_at d (λ n. level)) → (owned_at d (λ n. level) e).curve < length d.curves)
     → AreOfCurves d owners
 owners_there d level list owners same size edges_are each there e l =
     let m : e < length list.owners.items = subst (λ (os : List Owner). e < length os) same l in

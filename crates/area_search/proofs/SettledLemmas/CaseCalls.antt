@@ -51,7 +51,7 @@ module _ (d : Plan) (level : ℕ) (edges : List Edge) (edge_owners : List Owner)
     (facings : List Facing) (vs : List Move)
     (case : IsCase d level edges edge_owners facings vs) where
   abbrev m : ℕ
-  m = length (edges_at d level)
+  m = length (edges_at d (λ n. level))
 
   pub owner_size : length edge_owners ≡ length facings
   owner_size = owner_count d level facings case.facings_are edge_owners case.owners_are
@@ -64,7 +64,7 @@ module _ (d : Plan) (level : ℕ) (edges : List Edge) (edge_owners : List Owner)
       case.owners_are in omega (arith, l, q)) in
       let o = ap (λ (x : Owner). x.curve)
       (owner_is d level facings case.facings_are edge_owners case.owners_are e k) in
-      elim (owned_is d (drawn_bays d level) m (edge_at d level)
+      elim (owned_is d (drawn_bays d (λ n. level)) m (edge_at d (λ n. level))
       (steps_from [] vs) case.settled.run e k) [
         | inl w ↦ (let a = w.number in let b = w.fits in omega (arith, o, a, b))
         | inr w ↦ (let a = w.number in let b = w.fits in omega (arith, o, a, b))
@@ -76,7 +76,7 @@ module _ (d : Plan) (level : ℕ) (edges : List Edge) (edge_owners : List Owner)
     known_small (Some e) f = let k = f e refl in omega (arith, k, few)
 
     in_run : (k e : ℕ) → k ≤ length vs → Has e (live_from [] (take k vs)) → e < m
-    in_run k e l h = run_known m (edge_at d level) vs k e case.settled.run.run l h
+    in_run k e l h = run_known m (edge_at d (λ n. level)) vs k e case.settled.run.run l h
 
     low_small : (es : List ℕ) (i : ℕ) (o : Option ℕ) → ((e : ℕ) → Has e es → e < m)
         → o ≡ edge_before es i → IsSmall o
@@ -159,7 +159,7 @@ module _ (d : Plan) (level : ℕ) (edges : List Edge) (edge_owners : List Owner)
         mesh = mesh;
         count = count;
         owners = owners;
-        name = λ h. label_by (length d.points) (faced d (drawn_bays d level) (edge_at d level) h)
+        name = λ h. label_by (length d.points) (faced d (drawn_bays d (λ n. level)) (edge_at d (λ n. level)) h)
             (slice_index owners (slice_index mesh.face (number h)));
         settled = case.settled;
         fit = case.fit;

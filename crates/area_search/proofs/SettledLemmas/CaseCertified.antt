@@ -83,10 +83,10 @@ module _ (d : Plan) (level : ℕ) (edges : List Edge) (edge_owners : List Owner)
     (named : AreNamed (length d.points) (length facings) facings edge_owners owners notes ns)
     (uncut : HasNoCut d) where
   abbrev m : ℕ
-  m = length (edges_at d level)
+  m = length (edges_at d (λ n. level))
 
   abbrev E : ℕ → Edge
-  E = edge_at d level
+  E = edge_at d (λ n. level)
 
   in_mesh : (h : Half) → edge_of h < m → number h < size mesh
   in_mesh h l =
@@ -110,13 +110,13 @@ module _ (d : Plan) (level : ℕ) (edges : List Edge) (edge_owners : List Owner)
   face_label h l = told.label (number h) (in_mesh h l)
 
   pub name_is : (h : Half) → edge_of h < m
-      → name h ≡ label_by (length d.points) (faced d (drawn_bays d level) E h)
+      → name h ≡ label_by (length d.points) (faced d (drawn_bays d (λ n. level)) E h)
       (slice_index owners (slice_index mesh.face (number h)))
   name_is h l =
       ap (λ (n : HalfNote). n.label) (note_is h l)
       ∙ ap (λ (t : ℕ). label_by (length d.points) t (slice_index owners (note_of notes h).label))
       (tag_is d level facings case.facings_are edge_owners case.owners_are h l)
-      ∙ ap (λ (f : ℕ). label_by (length d.points) (faced d (drawn_bays d level) E h)
+      ∙ ap (λ (f : ℕ). label_by (length d.points) (faced d (drawn_bays d (λ n. level)) E h)
       (slice_index owners f)) (face_label h l)
 
   abbrev pub s : Labelling
@@ -180,7 +180,7 @@ module _ (d : Plan) (level : ℕ) (edges : List Edge) (edge_owners : List Owner)
 
   found_by : (h : Half) → edge_of h < m → (k : Link)
       → IsLink mesh (closed_gaps vs) told.ranks (number h) k
-      → FoundLead (r s) (rank_in ns) (IsFaceRoot d (drawn_bays d level) (r s) name) h
+      → FoundLead (r s) (rank_in ns) (IsFaceRoot d (drawn_bays d (λ n. level)) (r s) name) h
       (lead_of mesh (number h) k)
   found_by h l link.Root i = (root_at h l i).2
   found_by h l link.Next i =
@@ -211,13 +211,13 @@ module _ (d : Plan) (level : ℕ) (edges : List Edge) (edge_owners : List Owner)
       )
 
   found : (h : Half) → edge_of h < m
-      → FoundLead (r s) (rank_in ns) (IsFaceRoot d (drawn_bays d level) (r s) name) h (lead h)
+      → FoundLead (r s) (rank_in ns) (IsFaceRoot d (drawn_bays d (λ n. level)) (r s) name) h (lead h)
   found h l = found_by h l (note_of notes h).link (told.link_is (number h) (in_mesh h l))
 
-  links_certify : CertifiedCurves d (drawn_bays d level) (r s) (numbers name)
-      (runs.half_within d (drawn_bays d level) E) (inside s) (outside s) (rank_in ns) lead
+  links_certify : CertifiedCurves d (drawn_bays d (λ n. level)) (r s) (numbers name)
+      (runs.half_within d (drawn_bays d (λ n. level)) E) (inside s) (outside s) (rank_in ns) lead
   links_certify =
-      certified (pos 0) d (drawn_bays d level) m E
+      certified (pos 0) d (drawn_bays d (λ n. level)) m E
       (steps_from [] vs) name case.settled.run case.settled.wide case.settled.settled
       (named_faces s) (numbers_are s) (placed s places written) (rank_in ns) lead found
 
@@ -259,12 +259,12 @@ module _ (d : Plan) (level : ℕ) (edges : List Edge) (edge_owners : List Owner)
         there = l;
         kind = e;
       }) in
-      let c = straight_cut_by_faces d (drawn_bays d level) m E
+      let c = straight_cut_by_faces d (drawn_bays d (λ n. level)) m E
       (steps_from [] vs) case.settled.run case.settled.wide case.settled.settled (pos 0) name
       (named_faces s) (first_at d level i) a.there a.part in
       uncut i l (subst (IsCut d) a.curve_is (c.1 (sym q)))
   sides_differ i l kind.HalfArc e = λ q.
-      let c = arc_cut_by_faces d (drawn_bays d level) m E
+      let c = arc_cut_by_faces d (drawn_bays d (λ n. level)) m E
       (steps_from [] vs) case.settled.run case.settled.wide case.settled.settled (pos 0) name
       (named_faces s) i l e in
       uncut i l (c.1 (sym (mark_is _) ∙ q ∙ mark_is _))

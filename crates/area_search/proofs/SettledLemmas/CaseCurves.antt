@@ -57,23 +57,23 @@ first_next bays j (c ∷ cs) (suc i) n l e =
 -- The first edges of the two chains of half arc i's tube are there, of the curve, and of their
 -- chains.
 pub record AreFirstOfArc (d : Plan) (level i : ℕ) : Type 0 where
-  pub inner_there : first_at d level i < length (edges_at d level)
-  pub inner_curve : (owned_at d level (first_at d level i)).curve ≡ i
-  pub inner_part : (owned_at d level (first_at d level i)).part ≡ inner
-  pub outer_there : (first_at d level i + length (drawn_bays d level i)) < length (edges_at d level)
-  pub outer_curve : (owned_at d level (first_at d level i + length (drawn_bays d level i))).curve
+  pub inner_there : first_at d level i < length (edges_at d (λ n. level))
+  pub inner_curve : (owned_at d (λ n. level) (first_at d level i)).curve ≡ i
+  pub inner_part : (owned_at d (λ n. level) (first_at d level i)).part ≡ inner
+  pub outer_there : (first_at d level i + length (drawn_bays d (λ n. level) i)) < length (edges_at d (λ n. level))
+  pub outer_curve : (owned_at d (λ n. level) (first_at d level i + length (drawn_bays d (λ n. level) i))).curve
       ≡ i
-  pub outer_part : (owned_at d level (first_at d level i + length (drawn_bays d level i))).part
+  pub outer_part : (owned_at d (λ n. level) (first_at d level i + length (drawn_bays d (λ n. level) i))).part
       ≡ outer
 
 -- from what the law of the tubes' chains says
 pub arc_first : (d : Plan) (level i : ℕ)
-    → (first_at d level i < length (edges_at d level))
-    × ((owned_at d level (first_at d level i)).curve ≡ i)
-    × ((owned_at d level (first_at d level i)).part ≡ inner)
-    → ((first_at d level i + length (drawn_bays d level i)) < length (edges_at d level))
-    × ((owned_at d level (first_at d level i + length (drawn_bays d level i))).curve ≡ i)
-    × ((owned_at d level (first_at d level i + length (drawn_bays d level i))).part ≡ outer)
+    → (first_at d level i < length (edges_at d (λ n. level)))
+    × ((owned_at d (λ n. level) (first_at d level i)).curve ≡ i)
+    × ((owned_at d (λ n. level) (first_at d level i)).part ≡ inner)
+    → ((first_at d level i + length (drawn_bays d (λ n. level) i)) < length (edges_at d (λ n. level)))
+    × ((owned_at d (λ n. level) (first_at d level i + length (drawn_bays d (λ n. level) i))).curve ≡ i)
+    × ((owned_at d (λ n. level) (first_at d level i + length (drawn_bays d (λ n. level) i))).part ≡ outer)
     → AreFirstOfArc d level i
 arc_first d level i (l, c, p) (m, e, q) =
     record {
@@ -88,13 +88,13 @@ arc_first d level i (l, c, p) (m, e, q) =
 module _ (d : Plan) (level : ℕ) (edges : List Edge) (owners : List Owner) (facings : List Facing)
     (vs : List Move) (is : IsCase d level edges owners facings vs) where
   abbrev bays : ℕ → List Bay
-  bays = drawn_bays d level
+  bays = drawn_bays d (λ n. level)
 
   abbrev m : ℕ
-  m = length (edges_at d level)
+  m = length (edges_at d (λ n. level))
 
   abbrev E : ℕ → Edge
-  E = edge_at d level
+  E = edge_at d (λ n. level)
 
   pub bay_size : (i : ℕ) → IsHalfArc d i → length (bays i) ≡ 2 ^ (level + 1)
   bay_size i h = tube_bays d level i (is.tubes i h)
@@ -130,11 +130,11 @@ module _ (d : Plan) (level : ℕ) (edges : List Edge) (owners : List Owner) (fac
   pub record IsFirstOfStraight (i : ℕ) : Type 0 where
     pub there : first_at d level i < m
     pub edge : IsEdgeOf (E (first_at d level i)) (curve d i)
-    pub curve_is : (owned_at d level (first_at d level i)).curve ≡ i
-    pub part : (owned_at d level (first_at d level i)).part ≡ whole
+    pub curve_is : (owned_at d (λ n. level) (first_at d level i)).curve ≡ i
+    pub part : (owned_at d (λ n. level) (first_at d level i)).part ≡ whole
 
-  pub straight_only : (e : ℕ) → e < m → IsStraight d (owned_at d level e).curve
-      → e ≡ first_at d level (owned_at d level e).curve
+  pub straight_only : (e : ℕ) → e < m → IsStraight d (owned_at d (λ n. level) e).curve
+      → e ≡ first_at d level (owned_at d (λ n. level) e).curve
   straight_only e l s =
       (run_edges d bays m E (steps_from [] vs) is.settled.run is.settled.wide).straight_only e l s
 
@@ -146,8 +146,8 @@ module _ (d : Plan) (level : ℕ) (edges : List Edge) (owners : List Owner) (fac
       record {
         there = subst (λ (e : ℕ). e < m) q x.1;
         edge = subst (λ (e : ℕ). IsEdgeOf (E e) (curve d i)) q x.3;
-        curve_is = subst (λ (e : ℕ). (owned_at d level e).curve ≡ i) q x.2;
-        part = subst (λ (e : ℕ). (owned_at d level e).part ≡ whole) q x.4;
+        curve_is = subst (λ (e : ℕ). (owned_at d (λ n. level) e).curve ≡ i) q x.2;
+        part = subst (λ (e : ℕ). (owned_at d (λ n. level) e).part ≡ whole) q x.4;
       }
 
   -- ---- a curve of the list, and the number of its first edge
@@ -182,9 +182,9 @@ module _ (d : Plan) (level : ℕ) (edges : List Edge) (owners : List Owner) (fac
         let b = edges_size d level edges owners facings vs is in omega (arith, a, b, f)
 
     pub inner_is : (IsHalfArc d i → AreFirstOfArc d level i) → c.kind ≡ kind.HalfArc
-        → IsOfTube (owned_at d level first).part
+        → IsOfTube (owned_at d (λ n. level) first).part
     inner_is t e =
-        subst (λ (n : ℕ). IsOfTube (owned_at d level n).part) (sym f)
+        subst (λ (n : ℕ). IsOfTube (owned_at d (λ n. level) n).part) (sym f)
         (subst IsOfTube (sym (t (arc_is e)).inner_part) tt)
 
     pub outer_at : (k : ℕ) → k ≡ 2 ^ (level + 1) → c.kind ≡ kind.HalfArc
@@ -199,9 +199,9 @@ module _ (d : Plan) (level : ℕ) (edges : List Edge) (owners : List Owner) (fac
         let n = outer_at k h e in omega (arith, a, b, n)
 
     pub outer_is : (IsHalfArc d i → AreFirstOfArc d level i) → (k : ℕ) → k ≡ 2 ^ (level + 1)
-        → c.kind ≡ kind.HalfArc → IsOfTube (owned_at d level (first + k)).part
+        → c.kind ≡ kind.HalfArc → IsOfTube (owned_at d (λ n. level) (first + k)).part
     outer_is t k h e =
-        subst (λ (n : ℕ). IsOfTube (owned_at d level n).part) (sym (outer_at k h e))
+        subst (λ (n : ℕ). IsOfTube (owned_at d (λ n. level) n).part) (sym (outer_at k h e))
         (subst IsOfTube (sym (t (arc_is e)).outer_part) tt)
 
     pub next_is : (n : ℕ) → n ≡ edges_of_kind c.kind level → first + n ≡ first_at d level (i + 1)

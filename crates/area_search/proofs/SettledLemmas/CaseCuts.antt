@@ -33,10 +33,10 @@ module _ (d : Plan) (level : ℕ) (edges : List Edge) (owners : List Owner) (fac
     (vs : List Move) (is : IsCase d level edges owners facings vs)
     (mesh : HalfEdges) (n : ℕ) (f : HasRunFaces d level vs mesh n) where
   abbrev m : ℕ
-  m = length (edges_at d level)
+  m = length (edges_at d (λ n. level))
 
   abbrev E : ℕ → Edge
-  E = edge_at d level
+  E = edge_at d (λ n. level)
 
   abbrev face : Half → ℕ
   face = face_in mesh.face
@@ -50,7 +50,7 @@ module _ (d : Plan) (level : ℕ) (edges : List Edge) (owners : List Owner) (fac
     by_edge =
         let q = straight_first d level edges owners facings vs is i s in
         subst (λ (j : ℕ). IsCut d j ↔ (face (over x) ≡ face (under x))) q.curve_is
-        (straight_cut_by_faces d (drawn_bays d level) m E
+        (straight_cut_by_faces d (drawn_bays d (λ n. level)) m E
         (steps_from [] vs) is.settled.run is.settled.wide is.settled.settled
         (pos 0) face f.faces x q.there q.part)
 
@@ -99,7 +99,7 @@ module _ (d : Plan) (level : ℕ) (edges : List Edge) (owners : List Owner) (fac
   arc_cut : (i : ℕ) → IsHalfArc d i → (b : Beside) → IsBesideKind kind.HalfArc d level mesh.face i b
       → IsCut d i ↔ (b.first ≡ b.second)
   arc_cut i h b (p, q) =
-      let t = arc_cut_by_faces d (drawn_bays d level) m E
+      let t = arc_cut_by_faces d (drawn_bays d (λ n. level)) m E
       (steps_from [] vs) is.settled.run is.settled.wide is.settled.settled
       (pos 0) face f.faces i h.there h.kind in (
         (λ c. p ∙ t.0 c ∙ sym q),

@@ -43,10 +43,10 @@ module _ (d : Plan) (level : ℕ) (edges : List Edge) (owners : List Owner) (fac
     (spots : List Spot) (placed : ArePlacedOff d level vs spots) (mesh : HalfEdges) (n : ℕ)
     (f : HasRunFaces d level vs mesh n) where
   abbrev pub m : ℕ
-  m = length (edges_at d level)
+  m = length (edges_at d (λ n. level))
 
   abbrev pub E : ℕ → Edge
-  E = edge_at d level
+  E = edge_at d (λ n. level)
 
   abbrev pub r : Replay
   r = replay (pos 0) m E (steps_from [] vs)
@@ -61,7 +61,7 @@ module _ (d : Plan) (level : ℕ) (edges : List Edge) (owners : List Owner) (fac
   fs_size = length-map spots (spot_face d level mesh.face) ∙ spots_size
 
   abbrev pub HasFace : Point → ℕ → Type 0
-  HasFace v k = PointHasFace d (drawn_bays d level) r (face_in mesh.face) v k
+  HasFace v k = PointHasFace d (drawn_bays d (λ n. level)) r (face_in mesh.face) v k
 
   -- ---- the face of a point by its spot
   pub by_spot : (v : Point) (s : Spot) → IsSpot d level vs v s → IsOffCurves s
@@ -75,14 +75,14 @@ module _ (d : Plan) (level : ℕ) (edges : List Edge) (owners : List Owner) (fac
       (by_spot (object d j) (spot_at spots j) (placed.spots_are.each j l) (placed.off j k))
 
   outer : (j : ℕ) → j < length d.points → IsOuter d (point (object d j)) ↔ (slice_index fs j ≡ 0)
-  outer j l = outer_point d (drawn_bays d level) m E
+  outer j l = outer_point d (drawn_bays d (λ n. level)) m E
       (steps_from [] vs) is.settled.run is.settled.wide is.settled.settled (pos 0)
       (face_in mesh.face) f.faces (object d j) (slice_index fs j) (own_face j l)
 
   joined : (i j : ℕ) → i < length d.points → j < length d.points
       → Joined d (point (object d i)) (point (object d j)) ↔ (slice_index fs i ≡ slice_index fs j)
   joined i j k l =
-      joined_points d (drawn_bays d level) m E
+      joined_points d (drawn_bays d (λ n. level)) m E
       (steps_from [] vs) is.settled.run is.settled.wide is.settled.settled (pos 0)
       (face_in mesh.face) f.faces (object d i) (object d j) (slice_index fs i)
       (slice_index fs j) (own_face i k) (own_face j l)

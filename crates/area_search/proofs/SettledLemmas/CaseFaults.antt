@@ -68,10 +68,10 @@ module _ (d : Plan) (level : ℕ) (edges : List Edge) (owners : List Owner) (fac
     (f : HasRunFaces d level vs mesh n) (chains : (i : ℕ) → IsHalfArc d i
     → AreFirstOfArc d level i) where
   abbrev m : ℕ
-  m = length (edges_at d level)
+  m = length (edges_at d (λ n. level))
 
   abbrev E : ℕ → Edge
-  E = edge_at d level
+  E = edge_at d (λ n. level)
 
   abbrev face : Half → ℕ
   face = face_in mesh.face
@@ -126,7 +126,7 @@ module _ (d : Plan) (level : ℕ) (edges : List Edge) (owners : List Owner) (fac
     above_is =
         let q = straight_first d level edges owners facings vs is i s in
         subst (λ (j : ℕ). IsEmptyAbove d (E x) j ↔ IsUnnamed d k (face (over x))) q.curve_is
-        (above_empty d (drawn_bays d level) m E
+        (above_empty d (drawn_bays d (λ n. level)) m E
         (steps_from [] vs) is.settled.run is.settled.wide is.settled.settled
         (pos 0) face f.faces k
         (own_face d level edges owners facings vs is spots placed mesh n f) x there q.part)
@@ -135,7 +135,7 @@ module _ (d : Plan) (level : ℕ) (edges : List Edge) (owners : List Owner) (fac
     below_is =
         let q = straight_first d level edges owners facings vs is i s in
         subst (λ (j : ℕ). IsEmptyBelow d (E x) j ↔ IsUnnamed d k (face (under x))) q.curve_is
-        (below_empty d (drawn_bays d level) m E
+        (below_empty d (drawn_bays d (λ n. level)) m E
         (steps_from [] vs) is.settled.run is.settled.wide is.settled.settled
         (pos 0) face f.faces k
         (own_face d level edges owners facings vs is spots placed mesh n f) x there q.part)
@@ -219,27 +219,27 @@ module _ (d : Plan) (level : ℕ) (edges : List Edge) (owners : List Owner) (fac
 
   -- ---- a half arc
   abbrev inner_face : ℕ → ℕ
-  inner_face i = beside_inner d (drawn_bays d level) E face i
+  inner_face i = beside_inner d (drawn_bays d (λ n. level)) E face i
 
   abbrev outer_face : ℕ → ℕ
-  outer_face i = beside_outer d (drawn_bays d level) E face i
+  outer_face i = beside_outer d (drawn_bays d (λ n. level)) E face i
 
-  tube_faces : AreFacesOfTubes d (drawn_bays d level) m E face
+  tube_faces : AreFacesOfTubes d (drawn_bays d (λ n. level)) m E face
   tube_faces =
       let u = run_weight m E (steps_from [] vs) [] is.settled.run.run in
-      run_faces d (drawn_bays d level) m E
+      run_faces d (drawn_bays d (λ n. level)) m E
       (steps_from [] vs) is.settled.run is.settled.wide is.settled.settled u.weight u.swept face
       (faces_to (pos 0) u.weight m E (steps_from [] vs) face f.faces)
 
   module _ (i : ℕ) (h : IsHalfArc d i) where
     inside_is : IsEmptyInside d i ↔ IsUnnamed d k (inner_face i)
-    inside_is = inside_empty d (drawn_bays d level) m E
+    inside_is = inside_empty d (drawn_bays d (λ n. level)) m E
         (steps_from [] vs) is.settled.run is.settled.wide is.settled.settled (pos 0) face f.faces k
         (own_face d level edges owners facings vs is spots placed mesh n f) i h.there h.kind
 
     outside_is : IsEmptyOutside d i ↔ IsUnnamed d k (outer_face i)
     outside_is =
-        outside_empty d (drawn_bays d level) m E
+        outside_empty d (drawn_bays d (λ n. level)) m E
         (steps_from [] vs) is.settled.run is.settled.wide is.settled.settled (pos 0) face f.faces k
         (own_face d level edges owners facings vs is spots placed mesh n f) i h.there h.kind
 
@@ -269,38 +269,38 @@ module _ (d : Plan) (level : ℕ) (edges : List Edge) (owners : List Owner) (fac
         let w = ended_is (is_inward (third_is_left (curve d i)) left) b e g in
         ((λ y. w.0 (arc_ended left y)), (λ u. let y = w.1 u in half_arc y.0 y.1 h y.2 y.3))
 
-    twin_there : (x : ℕ) → x < m → edge_of (twin (half_within d (drawn_bays d level) E x)) < m
+    twin_there : (x : ℕ) → x < m → edge_of (twin (half_within d (drawn_bays d (λ n. level)) E x)) < m
     twin_there x l =
         subst (λ (e : ℕ). e < m)
-        (sym (edge_twin (half_within d (drawn_bays d level) E x)
-        ∙ edge_within d (drawn_bays d level) E x)) l
+        (sym (edge_twin (half_within d (drawn_bays d (λ n. level)) E x)
+        ∙ edge_within d (drawn_bays d (λ n. level)) E x)) l
 
     pub inner_known : inner_face i < n
     inner_known =
-        known (twin (half_within d (drawn_bays d level) E (first_at d level i)))
+        known (twin (half_within d (drawn_bays d (λ n. level)) E (first_at d level i)))
         (twin_there (first_at d level i) (chains i h).inner_there)
 
     pub outer_known : outer_face i < n
     outer_known =
-        known (twin (half_within d (drawn_bays d level) E
-        (first_at d level i + length (drawn_bays d level i))))
-        (twin_there (first_at d level i + length (drawn_bays d level i))
+        known (twin (half_within d (drawn_bays d (λ n. level)) E
+        (first_at d level i + length (drawn_bays d (λ n. level) i))))
+        (twin_there (first_at d level i + length (drawn_bays d (λ n. level) i))
         (chains i h).outer_there)
 
-    pub inner_same : (e : ℕ) → e < m → (owned_at d level e).curve ≡ i
-        → (owned_at d level e).part ≡ inner
-        → face (twin (half_within d (drawn_bays d level) E e)) ≡ inner_face i
+    pub inner_same : (e : ℕ) → e < m → (owned_at d (λ n. level) e).curve ≡ i
+        → (owned_at d (λ n. level) e).part ≡ inner
+        → face (twin (half_within d (drawn_bays d (λ n. level)) E e)) ≡ inner_face i
     inner_same e l o p =
         (let a = chains i h in
         tube_faces.inner_chain e (first_at d level i) l a.inner_there p a.inner_part (o
         ∙ sym a.inner_curve))
 
-    pub outer_same : (e : ℕ) → e < m → (owned_at d level e).curve ≡ i
-        → (owned_at d level e).part ≡ outer
-        → face (twin (half_within d (drawn_bays d level) E e)) ≡ outer_face i
+    pub outer_same : (e : ℕ) → e < m → (owned_at d (λ n. level) e).curve ≡ i
+        → (owned_at d (λ n. level) e).part ≡ outer
+        → face (twin (half_within d (drawn_bays d (λ n. level)) E e)) ≡ outer_face i
     outer_same e l o p =
         (let a = chains i h in
-        tube_faces.outer_chain e (first_at d level i + length (drawn_bays d level i)) l
+        tube_faces.outer_chain e (first_at d level i + length (drawn_bays d (λ n. level) i)) l
         a.outer_there p a.outer_part (o ∙ sym a.outer_curve))
 
   -- ---- the faces of the points
@@ -471,7 +471,7 @@ module _ (d : Plan) (level : ℕ) (edges : List Edge) (owners : List Owner) (fac
       pub all_owned : HasNoFree d.curves besides names (length d.curves) → (h : Half)
           → IsClearHalf d level h → IsUnowned mesh.face names (number h) → ⊥
       all_owned none h clear u =
-          elim (owner_is d (drawn_bays d level) m E (steps_from [] vs) is.settled.run
+          elim (owner_is d (drawn_bays d (λ n. level)) m E (steps_from [] vs) is.settled.run
           (edge_of h) clear.there) [
             | inl s ↦
                 let t : IsStraight d s.index = record { there = s.fits; kind = s.straight } in
@@ -488,18 +488,18 @@ module _ (d : Plan) (level : ℕ) (edges : List Edge) (owners : List Owner) (fac
                 (straight_first_is s.index g.0 t) ∙ b.2
                 ∙ ap (slice_index mesh.face) same) u.inner u.none)
             | inr a ↦ by_part a.index a.fits a.bent a.number
-                (owned_at d level (edge_of h)).part refl a.part
+                (owned_at d (λ n. level) (edge_of h)).part refl a.part
           ]
         where
           by_part : (i : ℕ) → i < length d.curves → (curve d i).kind ≡ kind.HalfArc
-              → (owned_at d level (edge_of h)).curve ≡ i → (p : Part)
-              → (owned_at d level (edge_of h)).part ≡ p → IsOfTube p → ⊥
+              → (owned_at d (λ n. level) (edge_of h)).curve ≡ i → (p : Part)
+              → (owned_at d (λ n. level) (edge_of h)).part ≡ p → IsOfTube p → ⊥
           by_part i l b c whole e t = absurd t
           by_part i l b c inner e t =
               let r : IsHalfArc d i = record { there = l; kind = b } in
               let w = arc_faces i r in
-              let z : h ≡ twin (half_within d (drawn_bays d level) E (edge_of h)) = not_faced d
-              (drawn_bays d level) E h (subst IsOfTube (sym e) tt) clear.clear in
+              let z : h ≡ twin (half_within d (drawn_bays d (λ n. level)) E (edge_of h)) = not_faced d
+              (drawn_bays d (λ n. level)) E h (subst IsOfTube (sym e) tt) clear.clear in
               let q : face h ≡ inner_face i = ap face z
               ∙ inner_same i r (edge_of h) clear.there c e in
               let left = third_is_left (curve d i) in
@@ -510,8 +510,8 @@ module _ (d : Plan) (level : ℕ) (edges : List Edge) (owners : List Owner) (fac
           by_part i l b c outer e t =
               let r : IsHalfArc d i = record { there = l; kind = b } in
               let w = arc_faces i r in
-              let z : h ≡ twin (half_within d (drawn_bays d level) E (edge_of h)) = not_faced d
-              (drawn_bays d level) E h (subst IsOfTube (sym e) tt) clear.clear in
+              let z : h ≡ twin (half_within d (drawn_bays d (λ n. level)) E (edge_of h)) = not_faced d
+              (drawn_bays d (λ n. level)) E h (subst IsOfTube (sym e) tt) clear.clear in
               let q : face h ≡ outer_face i = ap face z
               ∙ outer_same i r (edge_of h) clear.there c e in
               let left = not (third_is_left (curve d i)) in

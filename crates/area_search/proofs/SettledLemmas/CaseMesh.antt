@@ -31,10 +31,10 @@ greatest_at (n ∷ ns) (suc h) l = (let k = greatest_at ns h (omega (arith, l)) 
 module _ (d : Plan) (level : ℕ) (edges : List Edge) (owners : List Owner) (facings : List Facing)
     (vs : List Move) (is : IsCase d level edges owners facings vs) where
   abbrev m : ℕ
-  m = length (edges_at d level)
+  m = length (edges_at d (λ n. level))
 
   abbrev E : ℕ → Edge
-  E = edge_at d level
+  E = edge_at d (λ n. level)
 
   same_size : length edges ≡ m
   same_size = edges_size d level edges owners facings vs is

@@ -43,14 +43,14 @@ pub record Labelling : Type 0 where
   pub count : ℕ
   pub owners : List ℕ
   pub name : Half → ℕ
-  pub settled : IsSettledDrawing d (drawn_bays d level) (length (edges_at d level))
-      (edge_at d level) (steps_from [] vs)
+  pub settled : IsSettledDrawing d (drawn_bays d (λ n. level)) (length (edges_at d (λ n. level)))
+      (edge_at d (λ n. level)) (steps_from [] vs)
   pub fit : Fit [] vs
   pub placed : ArePlacedOff d level vs spots
   pub faces : HasRunFaces d level vs mesh count
   pub own : HaveOwners d level mesh.face spots count owners
-  pub name_is : (h : Half) → edge_of h < length (edges_at d level)
-      → name h ≡ label_by (length d.points) (faced d (drawn_bays d level) (edge_at d level) h)
+  pub name_is : (h : Half) → edge_of h < length (edges_at d (λ n. level))
+      → name h ≡ label_by (length d.points) (faced d (drawn_bays d (λ n. level)) (edge_at d (λ n. level)) h)
       (slice_index owners (face_in mesh.face h))
 
 pub nth_face : (d : Plan) (level : ℕ) (faces : List ℕ) (spots : List Spot) (j : ℕ)
@@ -80,13 +80,13 @@ module _ (s : Labelling) where
   name = s.name
 
   abbrev pub bays : ℕ → List Bay
-  bays = drawn_bays d level
+  bays = drawn_bays d (λ n. level)
 
   abbrev pub m : ℕ
-  m = length (edges_at d level)
+  m = length (edges_at d (λ n. level))
 
   abbrev pub E : ℕ → Edge
-  E = edge_at d level
+  E = edge_at d (λ n. level)
 
   abbrev pub steps : List Step
   steps = steps_from [] vs

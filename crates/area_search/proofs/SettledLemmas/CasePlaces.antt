@@ -72,7 +72,7 @@ module _ (s : Labelling) where
 
     -- ---- in a cell
     module _ (i : ℕ) (lo up : Option ℕ) (is : spot_at (spots s) j ≡ spot.Cell i lo up)
-        (cell : IsCell (edges_at (d s) (level s)) (vs s) v i lo up)
+        (cell : IsCell (edges_at (d s) (λ n. level s)) (vs s) v i lo up)
         (clear : IsClearOver (d s) (level s) lo) where
       abbrev pub now : List ℕ
       now = live_from [] (take cell.events (vs s))

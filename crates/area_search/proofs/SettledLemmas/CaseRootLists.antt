@@ -87,9 +87,9 @@ spot_index (q ∷ ps) p (inr h) =
 pub record Rooting (s : Labelling) : Type 0 where
   pub mesh_is : IsRunMesh s.d s.level s.vs s.mesh
   pub facings : List Facing
-  pub facings_are : AreFacings s.d s.level facings
+  pub facings_are : AreFacings s.d (λ n. s.level) facings
   pub edge_owners : List Owner
-  pub owners_are : edge_owners ≡ map owner_as (runs.edge_list (drawn_bays s.d s.level) 0 s.d.curves)
+  pub owners_are : edge_owners ≡ map owner_as (runs.edge_list (drawn_bays s.d (λ n. s.level)) 0 s.d.curves)
   pub chains : Chains
   pub chains_are : AreChains s.spots (length s.spots) (length s.d.curves) chains
   pub border : List ℕ
@@ -178,7 +178,7 @@ module _ (s : Labelling) (g : Rooting s) where
     spot_there = let e = points s in omega (arith, l, e)
 
     in_cell_named : (i : ℕ) (lo up : Option ℕ) → spot_at (spots s) j ≡ spot.Cell i lo up
-        → IsCell (edges_at (d s) (level s)) (vs s) (object (d s) j) i lo up
+        → IsCell (edges_at (d s) (λ n. level s)) (vs s) (object (d s) j) i lo up
         → IsClearOver (d s) (level s) lo → Named
     in_cell_named i lo up is cell clear =
         let low = lower_some s j l i lo up is cell clear in (
@@ -412,7 +412,7 @@ module _ (s : Labelling) (g : Rooting s) where
   -- of a point
   module _ (j : ℕ) (l : j < length (d s).points) (i : ℕ) (lo up : Option ℕ)
       (is : spot_at (spots s) j ≡ spot.Cell i lo up)
-      (cell : IsCell (edges_at (d s) (level s)) (vs s) (object (d s) j) i lo up)
+      (cell : IsCell (edges_at (d s) (λ n. level s)) (vs s) (object (d s) j) i lo up)
       (clear : IsClearOver (d s) (level s) lo) where
     told : (h : Half) → edge_of h < m s → name s h ≡ suc j → Beside (r s) h (position cell.events i)
         → Root h

@@ -59,81 +59,81 @@ a_place p = omega (arith, ints)
 module _ (d : Plan) (level : ℕ) (edges : List Edge) (owners : List Owner) (facings : List Facing)
     (vs : List Move) (is : IsCase d level edges owners facings vs) where
   abbrev m : ℕ
-  m = length (edges_at d level)
+  m = length (edges_at d (λ n. level))
 
   abbrev E : ℕ → Edge
-  E = edge_at d level
+  E = edge_at d (λ n. level)
 
   abbrev r : Replay
   r = replay (pos 0) m E (steps_from [] vs)
 
   -- ---- on an edge
-  least_at : (v : Point) (e : ℕ) → IsLeastEdge edges v e → IsLeastEdge (edges_at d level) v e
+  least_at : (v : Point) (e : ℕ) → IsLeastEdge edges v e → IsLeastEdge (edges_at d (λ n. level)) v e
   least_at v e h = subst (λ (es : List Edge). IsLeastEdge es v e) is.edges_are h
 
   pub straight_spot : (v : Point) (e : ℕ) → IsLeastEdge edges v e
-      → (owned_at d level e).part ≡ whole → IsFirstOn d (owned_at d level e).curve (point v)
+      → (owned_at d (λ n. level) e).part ≡ whole → IsFirstOn d (owned_at d (λ n. level) e).curve (point v)
   straight_spot v e h p =
       let k = least_at v e h in
-      on_straight d (drawn_bays d level) m E
+      on_straight d (drawn_bays d (λ n. level)) m E
       (steps_from [] vs) is.settled.run is.settled.wide is.settled.settled v e k.known k.on
       k.least p
 
-  pub chain_tube : (v : Point) (e : ℕ) → IsLeastEdge edges v e → IsOfTube (owned_at d level e).part
-      → LiesInTube d (drawn_bays d level) (owned_at d level e).curve v
+  pub chain_tube : (v : Point) (e : ℕ) → IsLeastEdge edges v e → IsOfTube (owned_at d (λ n. level) e).part
+      → LiesInTube d (drawn_bays d (λ n. level)) (owned_at d (λ n. level) e).curve v
   chain_tube v e h p =
       let k = least_at v e h in
-      on_chain d (drawn_bays d level) m E
+      on_chain d (drawn_bays d (λ n. level)) m E
       (steps_from [] vs) is.settled.run is.settled.wide is.settled.settled v e k.known k.on
       k.least p
 
   module _ (v : Point) (e : ℕ) (h : IsLeastEdge edges v e) (o : Owner)
       (q : o ≡ owner_at owners e) where
-    owner_here : o ≡ owner_as (owned_at d level e)
+    owner_here : o ≡ owner_as (owned_at d (λ n. level) e)
     owner_here = q ∙ nth_owner d level edges owners facings vs is e no_owner (least_at v e h).known
 
     pub owner_straight : o.part ≡ part.Straight → IsFirstOn d o.curve (point v)
     owner_straight p =
         subst (λ (i : ℕ). IsFirstOn d i (point v)) (sym (ap (λ (x : Owner). x.curve) owner_here))
         (straight_spot v e h
-        (whole_part (owned_at d level e).part (sym (ap (λ (x : Owner). x.part) owner_here)
+        (whole_part (owned_at d (λ n. level) e).part (sym (ap (λ (x : Owner). x.part) owner_here)
         ∙ p)))
 
-    pub owner_tube : (o.part ≡ part.Straight → ⊥) → LiesInTube d (drawn_bays d level) o.curve v
+    pub owner_tube : (o.part ≡ part.Straight → ⊥) → LiesInTube d (drawn_bays d (λ n. level)) o.curve v
     owner_tube n =
-        subst (λ (i : ℕ). LiesInTube d (drawn_bays d level) i v)
+        subst (λ (i : ℕ). LiesInTube d (drawn_bays d (λ n. level)) i v)
         (sym (ap (λ (x : Owner). x.curve) owner_here))
         (chain_tube v e h
-        (tube_part (owned_at d level e).part
+        (tube_part (owned_at d (λ n. level) e).part
         (λ p. n (ap (λ (x : Owner). x.part) owner_here ∙ p))))
 
   -- ---- in a cell
   pub cell_here : (v : Point) (i : ℕ) (l u : Option ℕ) → IsCell edges vs v i l u
-      → IsCell (edges_at d level) vs v i l u
+      → IsCell (edges_at d (λ n. level)) vs v i l u
   cell_here v i l u c = subst (λ (es : List Edge). IsCell es vs v i l u) is.edges_are c
 
   pub before_cell : (v : Point) (i e : ℕ) (l u : Option ℕ)
-      (c : IsCell (edges_at d level) vs v i l u)
+      (c : IsCell (edges_at d (λ n. level)) vs v i l u)
       → l ≡ Some e → AtBefore (r.list c.events) i e
   before_cell v i e l u c q =
       subst (λ (es : List ℕ). AtBefore es i e) (sym (list_is [] vs c.events c.known))
       (before_is (live_from [] (take c.events vs)) i e (sym c.lower_is ∙ q))
 
-  pub lower_at : (v : Point) (i e : ℕ) (l u : Option ℕ) (c : IsCell (edges_at d level) vs v i l u)
+  pub lower_at : (v : Point) (i e : ℕ) (l u : Option ℕ) (c : IsCell (edges_at d (λ n. level)) vs v i l u)
       → AtBefore (r.list c.events) i e → l ≡ Some e
   lower_at v i e l u c b = c.lower_is
       ∙ is_before (live_from [] (take c.events vs)) i e
       (subst (λ (es : List ℕ). AtBefore es i e) (list_is [] vs c.events c.known) b)
 
   pub cell_tube : (v : Point) (i c : ℕ) (l u : Option ℕ) → IsCell edges vs v i l u
-      → IsTubeOver d level l (Some c) → LiesInTube d (drawn_bays d level) c v
+      → IsTubeOver d level l (Some c) → LiesInTube d (drawn_bays d (λ n. level)) c v
   cell_tube v i c l u h (e, q, f) =
       let k = cell_here v i l u h in
-      cell_in_tube d (drawn_bays d level) m E
+      cell_in_tube d (drawn_bays d (λ n. level)) m E
       (steps_from [] vs) is.settled.run is.settled.wide is.settled.settled v (pos 0) k.events i
       (k.located (pos 0)) e c (before_cell v i e l u k q) f
 
-  pub cell_in : (v : Point) (i : ℕ) (l u : Option ℕ) → IsCell (edges_at d level) vs v i l u
+  pub cell_in : (v : Point) (i : ℕ) (l u : Option ℕ) → IsCell (edges_at d (λ n. level)) vs v i l u
       → IsOver m l
   cell_in v i None u c = tt
   cell_in v i (Some e) u c =
@@ -147,7 +147,7 @@ module _ (d : Plan) (level : ℕ) (edges : List Edge) (owners : List Owner) (fac
       (cell_in v i l u (cell_here v i l u h))
 
   pub clear_is : (l : Option ℕ) (e : ℕ) → IsClearOver d level l → l ≡ Some e
-      → faced d (drawn_bays d level) E (over e) ≡ 0
+      → faced d (drawn_bays d (λ n. level)) E (over e) ≡ 0
   clear_is l e h q = subst (IsClearOver d level) q h
 
   -- ---- off the curves
@@ -159,20 +159,20 @@ module _ (d : Plan) (level : ℕ) (edges : List Edge) (owners : List Owner) (fac
       h.0.off (λ e. let l = h.1 in absurd (omega (arith, ints, e, l)))
   off_spot v (spot.Cell i l u) h o =
       let k = h.0 in
-      cell_off_curves d (drawn_bays d level) m E
+      cell_off_curves d (drawn_bays d (λ n. level)) m E
       (steps_from [] vs) is.settled.run is.settled.wide is.settled.settled v (pos 0) k.events i
       (k.located (pos 0))
       (λ e b. clear_is l e h.1 (lower_at v i e l u k b))
 
   -- ---- sides
-  pub tube_side : (v : Point) (c : ℕ) → LiesInTube d (drawn_bays d level) c v
+  pub tube_side : (v : Point) (c : ℕ) → LiesInTube d (drawn_bays d (λ n. level)) c v
       → HasSide (arc (curve d c)) (point v)
   tube_side v c h =
       let t = is.tubes c (record { there = h.there; kind = h.bent }) in
-      tube_has_sides (arc (curve d c)) (drawn_bays d level c) (point v) (tube_circle d level c t)
+      tube_has_sides (arc (curve d c)) (drawn_bays d (λ n. level) c) (point v) (tube_circle d level c t)
       (corners_near d level c t) (a_place v) h.holds
 
-  pub spot_by_side : (v : Point) (c : ℕ) (s : Side) → LiesInTube d (drawn_bays d level) c v
+  pub spot_by_side : (v : Point) (c : ℕ) (s : Side) → LiesInTube d (drawn_bays d (λ n. level)) c v
       → HasSign s (power (arc (curve d c)) (point v)) → (t : Spot)
       → (s ≡ side.Inside → t ≡ spot.InTube c true) → (s ≡ side.On → t ≡ spot.On c)
       → (s ≡ side.Outside → t ≡ spot.InTube c false) → IsSpot d level vs v t
@@ -185,7 +185,7 @@ module _ (d : Plan) (level : ℕ) (edges : List Edge) (owners : List Owner) (fac
       → HasSide (arc (curve d c)) (point v)
   on_arc_side v c h k =
       let t = is.tubes c h in
-      arc_points_have_sides (curve d c) (drawn_bays d level c) v h.kind (tube_circle d level c t)
+      arc_points_have_sides (curve d c) (drawn_bays d (λ n. level) c) v h.kind (tube_circle d level c t)
       (is.settled.run.tube c h.there h.kind) (corners_near d level c t) k
 
   -- ---- the first point on a curve

@@ -36,10 +36,10 @@ module _ (d : Plan) (level : ℕ) (edges : List Edge) (owners : List Owner) (fac
     (chains : (i : ℕ) → IsHalfArc d i → AreFirstOfArc d level i) (besides : List Beside)
     (are : AreBeside d level mesh.face (length d.curves) besides) where
   abbrev m : ℕ
-  m = length (edges_at d level)
+  m = length (edges_at d (λ n. level))
 
   abbrev E : ℕ → Edge
-  E = edge_at d level
+  E = edge_at d (λ n. level)
 
   abbrev face : Half → ℕ
   face = face_in mesh.face
@@ -52,12 +52,12 @@ module _ (d : Plan) (level : ℕ) (edges : List Edge) (owners : List Owner) (fac
 
   abbrev pub Face : Vector → ℕ → Type 0
   Face z k =
-      run_places.Face d (drawn_bays d level) m E (steps_from [] vs) is.settled.run is.settled.wide
+      run_places.Face d (drawn_bays d (λ n. level)) m E (steps_from [] vs) is.settled.run is.settled.wide
       is.settled.settled face f.faces z k
 
   -- ---- the number of a place is 0 or that of a face beside a curve
   by_owner : (k : ℕ)
-      → Owns d (drawn_bays d level) m E
+      → Owns d (drawn_bays d (λ n. level)) m E
       (steps_from [] vs) is.settled.run is.settled.wide is.settled.settled face f.faces k
       → (k ≡ 0) ⊎ Met k
   by_owner k (outer e) = inl e
@@ -75,7 +75,7 @@ module _ (d : Plan) (level : ℕ) (edges : List Edge) (owners : List Owner) (fac
   pub face_met : (z : Vector) → Place z → (k : ℕ) → Face z k → (k ≡ 0) ⊎ Met k
   face_met z Z k h =
       by_owner k
-      (face_owns d (drawn_bays d level) m E (steps_from [] vs) is.settled.run is.settled.wide
+      (face_owns d (drawn_bays d (λ n. level)) m E (steps_from [] vs) is.settled.run is.settled.wide
       is.settled.settled face f.faces z Z k h)
 
   -- ---- both sides of a curve
@@ -84,7 +84,7 @@ module _ (d : Plan) (level : ℕ) (edges : List Edge) (owners : List Owner) (fac
 
   arc_is_crossed : (i : ℕ) → IsHalfArc d i → Crossed i
   arc_is_crossed i h =
-      let (p, q, x) = arc_segment d (drawn_bays d level) m E (steps_from [] vs) is.settled.run
+      let (p, q, x) = arc_segment d (drawn_bays d (λ n. level)) m E (steps_from [] vs) is.settled.run
       is.settled.wide is.settled.settled face f.faces i h in
       record {
         p = p;
@@ -96,7 +96,7 @@ module _ (d : Plan) (level : ℕ) (edges : List Edge) (owners : List Owner) (fac
       ends : (u v : Vector) → CrossesHalfArc d i u v → AreEnds d Face (side i) u v
       ends u v x =
           let e = arc_faces d level edges owners facings vs is mesh n f chains besides are i h in
-          let a = arc_ends d (drawn_bays d level) m E (steps_from [] vs) is.settled.run
+          let a = arc_ends d (drawn_bays d (λ n. level)) m E (steps_from [] vs) is.settled.run
           is.settled.wide is.settled.settled face f.faces i h u v x in
           record {
             p_place = x.p_place;
@@ -125,7 +125,7 @@ module _ (d : Plan) (level : ℕ) (edges : List Edge) (owners : List Owner) (fac
         → Face p (face (over x)) × Face q (face (under x))
     faces_of p q c =
         let o = straight_first d level edges owners facings vs is i s in
-        straight_ends d (drawn_bays d level) m E (steps_from [] vs) is.settled.run
+        straight_ends d (drawn_bays d (λ n. level)) m E (steps_from [] vs) is.settled.run
         is.settled.wide is.settled.settled face f.faces i x o.there o.curve_is o.part p q c
 
     ends : (u v : Vector) → Crosses d i u v → AreEnds d Face (side i) u v
@@ -156,7 +156,7 @@ module _ (d : Plan) (level : ℕ) (edges : List Edge) (owners : List Owner) (fac
     found : (p : Vector) × (q : Vector) × Crosses d i p q
     found =
         let o = straight_first d level edges owners facings vs is i s in
-        let (p, q, c) = straight_segment d (drawn_bays d level) m E (steps_from [] vs)
+        let (p, q, c) = straight_segment d (drawn_bays d (λ n. level)) m E (steps_from [] vs)
         is.settled.run is.settled.wide is.settled.settled face f.faces i x o.there o.curve_is
         o.part s.there s.kind in
         elim (straight_beside d level edges owners facings vs is mesh n f chains besides are i s) [

@@ -47,13 +47,13 @@ points_from now (v ∷ vs) = ap (λ (ps : List Point). v.at ∷ ps) (points_from
 
 module _ (d : Plan) (level : ℕ) (edges : List Edge) (owners : List Owner) (facings : List Facing)
     (vs : List Move) (is : IsCase d level edges owners facings vs)
-    (straight_list : edges_at d level ≡ edges_of d) (count : length (edges_of d) ≡ length d.curves)
+    (straight_list : edges_at d (λ n. level) ≡ edges_of d) (count : length (edges_of d) ≡ length d.curves)
     (law : AreEdgesOf (edge d) d) (straights : AreStraights d) (partition : IsPartition d) where
   abbrev steps : List Step
   steps = steps_from [] vs
 
   -- what is said of the edges at the level holds of the drawing's straights
-  moved : (P : ℕ → List Edge → Type 0) → P (length (edges_at d level)) (edges_at d level)
+  moved : (P : ℕ → List Edge → Type 0) → P (length (edges_at d (λ n. level))) (edges_at d (λ n. level))
       → P (length d.curves) (edges_of d)
   moved P h = subst (λ (n : ℕ). P n (edges_of d)) count
       (subst (λ (es : List Edge). P (length es) es) straight_list h)
@@ -62,7 +62,7 @@ module _ (d : Plan) (level : ℕ) (edges : List Edge) (owners : List Owner) (fac
   run_of = record { edges = law; run = moved (λ n es. Run n (edge_of es) steps) is.settled.run.run }
 
   pub turned_of : (mesh : HalfEdges) (k : ℕ)
-      → IsTurned (length (edges_at d level)) (edge_at d level) steps mesh k
+      → IsTurned (length (edges_at d (λ n. level))) (edge_at d (λ n. level)) steps mesh k
       → IsTurned (length d.curves) (edge d) steps mesh k
   turned_of mesh k t = moved (λ n es. IsTurned n (edge_of es) steps mesh k) t
 
@@ -75,7 +75,7 @@ module _ (d : Plan) (level : ℕ) (edges : List Edge) (owners : List Owner) (fac
   -- ---- points
   abbrev CellFace : List ℕ → Point → ℕ → Option ℕ → Option ℕ → Type 0
   CellFace faces v i l u =
-      (c : IsCell (edges_at d level) vs v i l u) → (w : ℤ)
+      (c : IsCell (edges_at d (λ n. level)) vs v i l u) → (w : ℤ)
       → face_of (drawn w d (edge d) steps) (face_in faces) (position c.events i)
       ≡ face_over faces l
 
@@ -118,17 +118,17 @@ module _ (d : Plan) (level : ℕ) (edges : List Edge) (owners : List Owner) (fac
     pub point_faces : (faces : List ℕ) → length (map (cell_face faces) spots) ≡ length d.points
     point_faces faces = length-map spots (cell_face faces) ∙ placed.size
 
-    among : (n : ℕ) → n ≡ 2 * length (edges_at d level) → (v : Point) (s : Spot)
+    among : (n : ℕ) → n ≡ 2 * length (edges_at d (λ n. level)) → (v : Point) (s : Spot)
         → IsSpot d level vs v s → IsCellSpot n s
     among n e v (spot.On c) h = tt
     among n e v (spot.InTube c b) h = tt
     among n e v (spot.Cell i None up) h = tt
     among n e v (spot.Cell i (Some k) up) h =
-        let l : k < length (edges_at d level) = cell_in d level edges owners facings vs is v i
+        let l : k < length (edges_at d (λ n. level)) = cell_in d level edges owners facings vs is v i
         (Some k) up h.0 in
         omega (arith, l, e)
 
-    pub cell_spots : (n : ℕ) → n ≡ 2 * length (edges_at d level) → (j : ℕ) → j < length spots
+    pub cell_spots : (n : ℕ) → n ≡ 2 * length (edges_at d (λ n. level)) → (j : ℕ) → j < length spots
         → IsCellSpot n (spot_at spots j)
     cell_spots n e j l =
         let size = placed.size in
@@ -144,7 +144,7 @@ module _ (d : Plan) (level : ℕ) (edges : List Edge) (owners : List Owner) (fac
       below v (spot.InTube c b) h = f.some
       below v (spot.Cell i None up) h = f.some
       below v (spot.Cell i (Some k) up) h =
-          let l : k < length (edges_at d level) = cell_in d level edges owners facings vs is v i
+          let l : k < length (edges_at d (λ n. level)) = cell_in d level edges owners facings vs is v i
           (Some k) up h.0 in
           let e = f.size_is in
           f.below (number (over k)) (omega (arith, l, e))

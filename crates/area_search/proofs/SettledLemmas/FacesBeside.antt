@@ -41,10 +41,10 @@ module _ (d : Plan) (level : ℕ) (edges : List Edge) (owners : List Owner) (fac
     (chains : (i : ℕ) → IsHalfArc d i → AreFirstOfArc d level i) (besides : List Beside)
     (are : AreBeside d level mesh.face (length d.curves) besides) where
   abbrev m : ℕ
-  m = length (edges_at d level)
+  m = length (edges_at d (λ n. level))
 
   abbrev E : ℕ → Edge
-  E = edge_at d level
+  E = edge_at d (λ n. level)
 
   abbrev face : Half → ℕ
   face = face_in mesh.face
@@ -141,10 +141,10 @@ module _ (d : Plan) (level : ℕ) (edges : List Edge) (owners : List Owner) (fac
 
   -- ---- a half arc
   abbrev pub inner_face : ℕ → ℕ
-  inner_face i = beside_inner d (drawn_bays d level) E face i
+  inner_face i = beside_inner d (drawn_bays d (λ n. level)) E face i
 
   abbrev pub outer_face : ℕ → ℕ
-  outer_face i = beside_outer d (drawn_bays d level) E face i
+  outer_face i = beside_outer d (drawn_bays d (λ n. level)) E face i
 
   pub arc_faces : (i : ℕ) → IsHalfArc d i
       → ((beside i).first ≡ inner_face i) × ((beside i).second ≡ outer_face i)
@@ -152,20 +152,20 @@ module _ (d : Plan) (level : ℕ) (edges : List Edge) (owners : List Owner) (fac
       subst (λ (t : CurveKind). IsBesideKind t d level mesh.face i (beside i)) h.kind
       (are.each i h.there)
 
-  pub tube_faces : AreFacesOfTubes d (drawn_bays d level) m E face
+  pub tube_faces : AreFacesOfTubes d (drawn_bays d (λ n. level)) m E face
   tube_faces =
       let u = run_weight m E (steps_from [] vs) [] is.settled.run.run in
-      run_faces d (drawn_bays d level) m E (steps_from [] vs) is.settled.run is.settled.wide
+      run_faces d (drawn_bays d (λ n. level)) m E (steps_from [] vs) is.settled.run is.settled.wide
       is.settled.settled u.weight u.swept face
       (faces_to (pos 0) u.weight m E (steps_from [] vs) face f.faces)
 
   abbrev within : ℕ → Half
-  within = half_within d (drawn_bays d level) E
+  within = half_within d (drawn_bays d (λ n. level)) E
 
   twin_there : (e : ℕ) → e < m → edge_of (twin (within e)) < m
   twin_there e l =
       subst (λ (y : ℕ). y < m)
-      (sym (edge_twin (within e) ∙ edge_within d (drawn_bays d level) E e)) l
+      (sym (edge_twin (within e) ∙ edge_within d (drawn_bays d (λ n. level)) E e)) l
 
   pub inner_known : (i : ℕ) → IsHalfArc d i → inner_face i < n
   inner_known i h =
@@ -174,21 +174,21 @@ module _ (d : Plan) (level : ℕ) (edges : List Edge) (owners : List Owner) (fac
 
   pub outer_known : (i : ℕ) → IsHalfArc d i → outer_face i < n
   outer_known i h =
-      let e = first_at d level i + length (drawn_bays d level i) in
+      let e = first_at d level i + length (drawn_bays d (λ n. level) i) in
       face_known (twin (within e)) (twin_there e (chains i h).outer_there)
 
-  pub inner_same : (i : ℕ) → IsHalfArc d i → (e : ℕ) → e < m → (owned_at d level e).curve ≡ i
-      → (owned_at d level e).part ≡ inner → face (twin (within e)) ≡ inner_face i
+  pub inner_same : (i : ℕ) → IsHalfArc d i → (e : ℕ) → e < m → (owned_at d (λ n. level) e).curve ≡ i
+      → (owned_at d (λ n. level) e).part ≡ inner → face (twin (within e)) ≡ inner_face i
   inner_same i h e l o p =
       let a = chains i h in
       tube_faces.inner_chain e (first_at d level i) l a.inner_there p a.inner_part
       (o ∙ sym a.inner_curve)
 
-  pub outer_same : (i : ℕ) → IsHalfArc d i → (e : ℕ) → e < m → (owned_at d level e).curve ≡ i
-      → (owned_at d level e).part ≡ outer → face (twin (within e)) ≡ outer_face i
+  pub outer_same : (i : ℕ) → IsHalfArc d i → (e : ℕ) → e < m → (owned_at d (λ n. level) e).curve ≡ i
+      → (owned_at d (λ n. level) e).part ≡ outer → face (twin (within e)) ≡ outer_face i
   outer_same i h e l o p =
       let a = chains i h in
-      tube_faces.outer_chain e (first_at d level i + length (drawn_bays d level i)) l a.outer_there
+      tube_faces.outer_chain e (first_at d level i + length (drawn_bays d (λ n. level) i)) l a.outer_there
       p a.outer_part (o ∙ sym a.outer_curve)
 
   -- ---- the two faces are there
@@ -252,7 +252,7 @@ module _ (d : Plan) (level : ℕ) (edges : List Edge) (owners : List Owner) (fac
 
   pub clear_met : (h : Half) → IsClearHalf d level h → Met (face h)
   clear_met h clear =
-      elim (owner_is d (drawn_bays d level) m E (steps_from [] vs) is.settled.run
+      elim (owner_is d (drawn_bays d (λ n. level)) m E (steps_from [] vs) is.settled.run
       (edge_of h) clear.there) [
         | inl o ↦
             let s : IsStraight d o.index = record { there = o.fits; kind = o.straight } in
@@ -261,19 +261,19 @@ module _ (d : Plan) (level : ℕ) (edges : List Edge) (owners : List Owner) (fac
             (subst (λ (j : ℕ). IsStraight d j) (sym o.number) s) ∙ ap (first_at d level) o.number)
         | inr a ↦
             by_part a.index (record { there = a.fits; kind = a.bent }) a.number
-            (owned_at d level (edge_of h)).part refl a.part
+            (owned_at d (λ n. level) (edge_of h)).part refl a.part
       ]
     where
-      by_part : (i : ℕ) → IsHalfArc d i → (owned_at d level (edge_of h)).curve ≡ i → (p : Part)
-          → (owned_at d level (edge_of h)).part ≡ p → IsOfTube p → Met (face h)
+      by_part : (i : ℕ) → IsHalfArc d i → (owned_at d (λ n. level) (edge_of h)).curve ≡ i → (p : Part)
+          → (owned_at d (λ n. level) (edge_of h)).part ≡ p → IsOfTube p → Met (face h)
       by_part i r c whole e t = absurd t
       by_part i r c inner e t =
-          let z : h ≡ twin (within (edge_of h)) = not_faced d (drawn_bays d level) E h
+          let z : h ≡ twin (within (edge_of h)) = not_faced d (drawn_bays d (λ n. level)) E h
           (subst IsOfTube (sym e) tt) clear.clear in
           subst Met (sym (ap face z ∙ inner_same i r (edge_of h) clear.there c e))
           (inner_met i r)
       by_part i r c outer e t =
-          let z : h ≡ twin (within (edge_of h)) = not_faced d (drawn_bays d level) E h
+          let z : h ≡ twin (within (edge_of h)) = not_faced d (drawn_bays d (λ n. level)) E h
           (subst IsOfTube (sym e) tt) clear.clear in
           subst Met (sym (ap face z ∙ outer_same i r (edge_of h) clear.there c e))
           (outer_met i r)

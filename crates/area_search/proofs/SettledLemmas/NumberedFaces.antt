@@ -71,10 +71,10 @@ module _ (d : Plan) (level : ℕ) (edges : List Edge) (owners : List Owner) (fac
     (are : AreBeside d level mesh.face (length d.curves) besides) (names : List ℕ) (count : ℕ)
     (size : length names ≡ n) (named : AreFaceNumbers (faces_met besides) names count) where
   abbrev m : ℕ
-  m = length (edges_at d level)
+  m = length (edges_at d (λ n. level))
 
   abbrev E : ℕ → Edge
-  E = edge_at d level
+  E = edge_at d (λ n. level)
 
   abbrev face : Half → ℕ
   face = face_in mesh.face
@@ -84,7 +84,7 @@ module _ (d : Plan) (level : ℕ) (edges : List Edge) (owners : List Owner) (fac
 
   abbrev far_point : Point
   far_point =
-      places.far d (drawn_bays d level) m E (steps_from [] vs) is.settled.run is.settled.wide
+      places.far d (drawn_bays d (λ n. level)) m E (steps_from [] vs) is.settled.run is.settled.wide
       is.settled.settled face f.faces
 
   abbrev far : Vector
@@ -92,14 +92,14 @@ module _ (d : Plan) (level : ℕ) (edges : List Edge) (owners : List Owner) (fac
 
   far_off : IsOff d far
   far_off =
-      places.point_off d (drawn_bays d level) m E (steps_from [] vs) is.settled.run
+      places.point_off d (drawn_bays d (λ n. level)) m E (steps_from [] vs) is.settled.run
       is.settled.wide is.settled.settled face f.faces far_point 0
-      (places.far_face d (drawn_bays d level) m E (steps_from [] vs) is.settled.run
+      (places.far_face d (drawn_bays d (λ n. level)) m E (steps_from [] vs) is.settled.run
       is.settled.wide is.settled.settled face f.faces)
 
   far_number : HasNumber far 0
   far_number =
-      places.far_number d (drawn_bays d level) m E (steps_from [] vs) is.settled.run
+      places.far_number d (drawn_bays d (λ n. level)) m E (steps_from [] vs) is.settled.run
       is.settled.wide is.settled.settled face f.faces
 
   -- what the laws of places say of this drawing
@@ -107,11 +107,11 @@ module _ (d : Plan) (level : ℕ) (edges : List Edge) (owners : List Owner) (fac
   at =
       numbers.at d n f.some besides are.size
       (besides_known d level edges owners facings vs is mesh n f chains besides are) HasNumber
-      (places.numbered d (drawn_bays d level) m E (steps_from [] vs) is.settled.run
+      (places.numbered d (drawn_bays d (λ n. level)) m E (steps_from [] vs) is.settled.run
       is.settled.wide is.settled.settled face f.faces)
-      (places.joined_is d (drawn_bays d level) m E (steps_from [] vs) is.settled.run
+      (places.joined_is d (drawn_bays d (λ n. level)) m E (steps_from [] vs) is.settled.run
       is.settled.wide is.settled.settled face f.faces)
-      (places.outer_is d (drawn_bays d level) m E (steps_from [] vs) is.settled.run
+      (places.outer_is d (drawn_bays d (λ n. level)) m E (steps_from [] vs) is.settled.run
       is.settled.wide is.settled.settled face f.faces)
       (face_met d level edges owners facings vs is mesh n f chains besides are) far
       (a_place far_point)
@@ -122,11 +122,11 @@ module _ (d : Plan) (level : ℕ) (edges : List Edge) (owners : List Owner) (fac
   face_places =
       numbers.places d n f.some besides are.size
       (besides_known d level edges owners facings vs is mesh n f chains besides are) HasNumber
-      (places.numbered d (drawn_bays d level) m E (steps_from [] vs) is.settled.run
+      (places.numbered d (drawn_bays d (λ n. level)) m E (steps_from [] vs) is.settled.run
       is.settled.wide is.settled.settled face f.faces)
-      (places.joined_is d (drawn_bays d level) m E (steps_from [] vs) is.settled.run
+      (places.joined_is d (drawn_bays d (λ n. level)) m E (steps_from [] vs) is.settled.run
       is.settled.wide is.settled.settled face f.faces)
-      (places.outer_is d (drawn_bays d level) m E (steps_from [] vs) is.settled.run
+      (places.outer_is d (drawn_bays d (λ n. level)) m E (steps_from [] vs) is.settled.run
       is.settled.wide is.settled.settled face f.faces)
       (face_met d level edges owners facings vs is mesh n f chains besides are) far
       (a_place far_point)
@@ -138,11 +138,11 @@ module _ (d : Plan) (level : ℕ) (edges : List Edge) (owners : List Owner) (fac
   place_in =
       numbers.place_in d n f.some besides are.size
       (besides_known d level edges owners facings vs is mesh n f chains besides are) HasNumber
-      (places.numbered d (drawn_bays d level) m E (steps_from [] vs) is.settled.run
+      (places.numbered d (drawn_bays d (λ n. level)) m E (steps_from [] vs) is.settled.run
       is.settled.wide is.settled.settled face f.faces)
-      (places.joined_is d (drawn_bays d level) m E (steps_from [] vs) is.settled.run
+      (places.joined_is d (drawn_bays d (λ n. level)) m E (steps_from [] vs) is.settled.run
       is.settled.wide is.settled.settled face f.faces)
-      (places.outer_is d (drawn_bays d level) m E (steps_from [] vs) is.settled.run
+      (places.outer_is d (drawn_bays d (λ n. level)) m E (steps_from [] vs) is.settled.run
       is.settled.wide is.settled.settled face f.faces)
       (face_met d level edges owners facings vs is mesh n f chains besides are) far
       (a_place far_point)
@@ -155,11 +155,11 @@ module _ (d : Plan) (level : ℕ) (edges : List Edge) (owners : List Owner) (fac
   curve_is i l =
       numbers.curve_is d n f.some besides are.size
       (besides_known d level edges owners facings vs is mesh n f chains besides are) HasNumber
-      (places.numbered d (drawn_bays d level) m E (steps_from [] vs) is.settled.run
+      (places.numbered d (drawn_bays d (λ n. level)) m E (steps_from [] vs) is.settled.run
       is.settled.wide is.settled.settled face f.faces)
-      (places.joined_is d (drawn_bays d level) m E (steps_from [] vs) is.settled.run
+      (places.joined_is d (drawn_bays d (λ n. level)) m E (steps_from [] vs) is.settled.run
       is.settled.wide is.settled.settled face f.faces)
-      (places.outer_is d (drawn_bays d level) m E (steps_from [] vs) is.settled.run
+      (places.outer_is d (drawn_bays d (λ n. level)) m E (steps_from [] vs) is.settled.run
       is.settled.wide is.settled.settled face f.faces)
       (face_met d level edges owners facings vs is mesh n f chains besides are) far
       (a_place far_point)
@@ -176,11 +176,11 @@ module _ (d : Plan) (level : ℕ) (edges : List Edge) (owners : List Owner) (fac
   side_of k l inner =
       let s = numbers.number_on_side d n f.some besides are.size
       (besides_known d level edges owners facings vs is mesh n f chains besides are) HasNumber
-      (places.numbered d (drawn_bays d level) m E (steps_from [] vs) is.settled.run
+      (places.numbered d (drawn_bays d (λ n. level)) m E (steps_from [] vs) is.settled.run
       is.settled.wide is.settled.settled face f.faces)
-      (places.joined_is d (drawn_bays d level) m E (steps_from [] vs) is.settled.run
+      (places.joined_is d (drawn_bays d (λ n. level)) m E (steps_from [] vs) is.settled.run
       is.settled.wide is.settled.settled face f.faces)
-      (places.outer_is d (drawn_bays d level) m E (steps_from [] vs) is.settled.run
+      (places.outer_is d (drawn_bays d (λ n. level)) m E (steps_from [] vs) is.settled.run
       is.settled.wide is.settled.settled face f.faces)
       (face_met d level edges owners facings vs is mesh n f chains besides are) far
       (a_place far_point)
@@ -196,7 +196,7 @@ module _ (d : Plan) (level : ℕ) (edges : List Edge) (owners : List Owner) (fac
       place_in (point (object d j)) (a_place (object d j))
       (off_spot d level edges owners facings vs is (object d j) s h o)
       (spot_face d level mesh.face s)
-      (places.object_number d (drawn_bays d level) m E (steps_from [] vs) is.settled.run
+      (places.object_number d (drawn_bays d (λ n. level)) m E (steps_from [] vs) is.settled.run
       is.settled.wide is.settled.settled face f.faces j l (spot_face d level mesh.face s)
       (spot_has_face d level edges owners facings vs is mesh.face (object d j) s h o))
 

@@ -75,7 +75,7 @@ module _ (d : Plan) (level : ℕ) (edges : List Edge) (owners : List Owner) (fac
   place_close : AreDrawn → (p : Point) → IsInside d.window.low d.window.high p
       → IsCloseToAll edges p
   place_close drawn p h =
-      (usable (with_points d (one p)) level edges drawn
+      (usable (with_points d (one p)) (λ n. level) edges drawn
       (one_inside d.window.low d.window.high p h)
       (λ i k. is.tubes i (record { there = k.there; kind = k.kind })) is.edges_are).points 0
       (omega arith)

@@ -46,13 +46,13 @@ module _ (d : Plan) (level : ℕ) (edges : List Edge) (edge_owners : List Owner)
     (chains : (i : ℕ) → IsHalfArc d i → AreFirstOfArc d level i) (owners : List ℕ)
     (own : HaveOwners d level mesh.face spots n owners) where
   abbrev m : ℕ
-  m = length (edges_at d level)
+  m = length (edges_at d (λ n. level))
 
   abbrev E : ℕ → Edge
-  E = edge_at d level
+  E = edge_at d (λ n. level)
 
   abbrev within : ℕ → Half
-  within = half_within d (drawn_bays d level) E
+  within = half_within d (drawn_bays d (λ n. level)) E
 
   abbrev F : Half → ℕ
   F h = slice_index mesh.face (number h)
@@ -79,8 +79,8 @@ module _ (d : Plan) (level : ℕ) (edges : List Edge) (edge_owners : List Owner)
   clear_twin : (x : ℕ) → x < m → IsClearHalf d level (twin (within x))
   clear_twin x l = record {
     there = subst (λ (e : ℕ). e < m)
-        (sym (edge_twin (within x) ∙ edge_within d (drawn_bays d level) E x)) l;
-    clear = faced_twin d (drawn_bays d level) E x;
+        (sym (edge_twin (within x) ∙ edge_within d (drawn_bays d (λ n. level)) E x)) l;
+    clear = faced_twin d (drawn_bays d (λ n. level)) E x;
   }
 
   outer_face : (v : Point) (s : Spot) → IsSpot d level vs v s → IsOffCurves s → owner_of s ≡ 0
@@ -91,7 +91,7 @@ module _ (d : Plan) (level : ℕ) (edges : List Edge) (edge_owners : List Owner)
       let a = chains c (record { there = h.0.there; kind = h.0.bent }) in
       zero_face (twin (within x)) (clear_twin x a.inner_there) e
   outer_face v (spot.InTube c false) h o e =
-      let x = first_at d level c + length (drawn_bays d level c) in
+      let x = first_at d level c + length (drawn_bays d (λ n. level) c) in
       let a = chains c (record { there = h.0.there; kind = h.0.bent }) in
       zero_face (twin (within x)) (clear_twin x a.outer_there) e
   outer_face v (spot.Cell i None u) h o e = refl
@@ -105,7 +105,7 @@ module _ (d : Plan) (level : ℕ) (edges : List Edge) (edge_owners : List Owner)
   outer_is : (v : Point) (s : Spot) → IsSpot d level vs v s → IsOffCurves s
       → IsOuter d (point v) ↔ (face_of s ≡ 0)
   outer_is v s h o =
-      outer_point d (drawn_bays d level) m E (steps_from [] vs) is.settled.run is.settled.wide
+      outer_point d (drawn_bays d (λ n. level)) m E (steps_from [] vs) is.settled.run is.settled.wide
       is.settled.settled (pos 0) (face_in mesh.face) f.faces v (face_of s)
       (by_spot d level edges edge_owners facings vs is spots placed mesh n f v s h o)
 
@@ -113,7 +113,7 @@ module _ (d : Plan) (level : ℕ) (edges : List Edge) (edge_owners : List Owner)
       → j < length d.points
       → Joined d (point v) (point (object d j)) ↔ (face_of s ≡ slice_index fs j)
   joined_is v s h o j l =
-      joined_points d (drawn_bays d level) m E (steps_from [] vs) is.settled.run is.settled.wide
+      joined_points d (drawn_bays d (λ n. level)) m E (steps_from [] vs) is.settled.run is.settled.wide
       is.settled.settled (pos 0) (face_in mesh.face) f.faces v (object d j) (face_of s)
       (slice_index fs j)
       (by_spot d level edges edge_owners facings vs is spots placed mesh n f v s h o)

@@ -42,16 +42,16 @@ module _ (d : Plan) (level : ℕ) (edges : List Edge) (owners : List Owner) (fac
     (are : AreBeside d level mesh.face (length d.curves) besides)
     (outline : IsRunMesh d level vs mesh) where
   abbrev m : ℕ
-  m = length (edges_at d level)
+  m = length (edges_at d (λ n. level))
 
   abbrev E : ℕ → Edge
-  E = edge_at d level
+  E = edge_at d (λ n. level)
 
   abbrev o : ℕ → Owned
-  o e = owned_at d level e
+  o e = owned_at d (λ n. level) e
 
   abbrev within : ℕ → Half
-  within = half_within d (drawn_bays d level) E
+  within = half_within d (drawn_bays d (λ n. level)) E
 
   abbrev face : Half → ℕ
   face = face_in mesh.face
@@ -68,7 +68,7 @@ module _ (d : Plan) (level : ℕ) (edges : List Edge) (owners : List Owner) (fac
       let x = half_of g in
       let q : number x ≡ g = number_half g in
       let e : edge_of x < m = below_number x m (omega (arith, k, c, q)) in
-      elim (some_side d (drawn_bays d level) m E (steps_from [] vs) is.settled.run x e) [
+      elim (some_side d (drawn_bays d (λ n. level)) m E (steps_from [] vs) is.settled.run x e) [
         | inl w ↦ absurd (faced x q w.0 w.1)
         | inr w ↦ (w.0, subst (On w.0) q w.1)
       ]
@@ -84,7 +84,7 @@ module _ (d : Plan) (level : ℕ) (edges : List Edge) (owners : List Owner) (fac
           ∙ ap (slice_index mesh.face) (sym a.is) in
           let w = (beside.tube_faces d level edges owners facings vs is mesh n f chains besides
           are).own (edge_of x) a.half e a.there tube one in
-          not_within d (drawn_bays d level) m E (steps_from [] vs) is.settled.run s h
+          not_within d (drawn_bays d (λ n. level)) m E (steps_from [] vs) is.settled.run s h
           (edge_of a.half) a a.there w.0 (sym a.is ∙ ap number w.2)
 
   -- ---- the face on a side of a straight
@@ -123,7 +123,7 @@ module _ (d : Plan) (level : ℕ) (edges : List Edge) (owners : List Owner) (fac
 
     whole_part : (e : ℕ) → e < m → (o e).curve ≡ i → (o e).part ≡ whole
     whole_part e l c =
-        elim (owner_is d (drawn_bays d level) m E (steps_from [] vs) is.settled.run e l) [
+        elim (owner_is d (drawn_bays d (λ n. level)) m E (steps_from [] vs) is.settled.run e l) [
           | inl r ↦ r.part
           | inr a ↦ absurd (let q : kind.Straight ≡ kind.HalfArc = sym s.kind
               ∙ ap (λ (k : ℕ). (curve d k).kind) (sym c ∙ a.number) ∙ a.bent in cc)
@@ -162,7 +162,7 @@ module _ (d : Plan) (level : ℕ) (edges : List Edge) (owners : List Owner) (fac
   module _ (i : ℕ) (r : IsHalfArc d i) where
     arc_part : (e : ℕ) → e < m → (o e).curve ≡ i → IsOfTube (o e).part
     arc_part e l c =
-        elim (owner_is d (drawn_bays d level) m E (steps_from [] vs) is.settled.run e l) [
+        elim (owner_is d (drawn_bays d (λ n. level)) m E (steps_from [] vs) is.settled.run e l) [
           | inl s ↦ absurd (let q : kind.Straight ≡ kind.HalfArc = sym s.straight
               ∙ ap (λ (k : ℕ). (curve d k).kind) (sym s.number ∙ c) ∙ r.kind in cc)
           | inr a ↦ a.part
@@ -172,8 +172,8 @@ module _ (d : Plan) (level : ℕ) (edges : List Edge) (owners : List Owner) (fac
         → a.half ≡ twin (within (edge_of a.half))
     free s h a t =
         elim (half_or_twin a.half (within (edge_of a.half))
-        (sym (edge_within d (drawn_bays d level) E (edge_of a.half)))) [
-          | inl q ↦ absurd (not_within d (drawn_bays d level) m E (steps_from [] vs) is.settled.run
+        (sym (edge_within d (drawn_bays d (λ n. level)) E (edge_of a.half)))) [
+          | inl q ↦ absurd (not_within d (drawn_bays d (λ n. level)) m E (steps_from [] vs) is.settled.run
               s h (edge_of a.half) a a.there t (sym a.is ∙ ap number q))
           | inr q ↦ q
         ]

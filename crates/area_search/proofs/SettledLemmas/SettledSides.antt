@@ -70,16 +70,16 @@ chain_first c outer left t f g = ap (is_first_kind c.kind c) (g refl) ∙ outer_
 module _ (d : Plan) (level : ℕ) (edges : List Edge) (owners : List Owner) (facings : List Facing)
     (vs : List Move) (is : IsCase d level edges owners facings vs) where
   abbrev m : ℕ
-  m = length (edges_at d level)
+  m = length (edges_at d (λ n. level))
 
   abbrev E : ℕ → Edge
-  E = edge_at d level
+  E = edge_at d (λ n. level)
 
   abbrev bays : ℕ → List Bay
-  bays = drawn_bays d level
+  bays = drawn_bays d (λ n. level)
 
   abbrev o : ℕ → Owned
-  o e = owned_at d level e
+  o e = owned_at d (λ n. level) e
 
   abbrev within : ℕ → Half
   within = half_within d bays E

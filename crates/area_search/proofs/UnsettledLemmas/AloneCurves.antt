@@ -80,15 +80,15 @@ turned d marks i j p = record {
 }
 
 either_order : (d : Plan) (P : ℕ → ℕ → Type 0) → ((i j : ℕ) → P i j → P j i)
-    → ((i j : ℕ) → i < j → P i j → Breaks d 5 i j → ⊥) → (i j : ℕ) → (i ≡ j → ⊥) → P i j
-    → Breaks d 5 i j → ⊥
+    → ((i j : ℕ) → i < j → P i j → Breaks d (λ n. 5) i j → ⊥) → (i j : ℕ) → (i ≡ j → ⊥) → P i j
+    → Breaks d (λ n. 5) i j → ⊥
 either_order d P turn f i j n p b =
     by_lt i j (λ (l : i < j). f i j l p b)
-    (λ (m : j ≤ i). by_lt j i (λ (k : j < i). f j i k (turn i j p) (breaks_back d 5 i j b))
+    (λ (m : j ≤ i). by_lt j i (λ (k : j < i). f j i k (turn i j p) (breaks_back d (λ n. 5) i j b))
     (λ (k : i ≤ j). n (omega (arith, m, k))))
 
 -- ---- at first
-bare_breaks_none : (d : Plan) (i j : ℕ) → (i ≡ j → ⊥) → IsBare (curve d j) → Breaks d 5 i j → ⊥
+bare_breaks_none : (d : Plan) (i j : ℕ) → (i ≡ j → ⊥) → IsBare (curve d j) → Breaks d (λ n. 5) i j → ⊥
 bare_breaks_none d i j n b (missing e h m) = n e
 bare_breaks_none d i j n b (edges m g h w) =
     let t = h.tube (record { there = h.there; kind = b.half_arc }) in b.no_tube t.0 t.1 t.2
@@ -96,7 +96,7 @@ bare_breaks_none d i j n b (corners m g h w) =
     let t = h.tube (record { there = h.there; kind = b.half_arc }) in b.no_tube t.0 t.1 t.2
 
 pub apart_at_first : (d : Plan) (aside : List Bool) (ss : List SearchState)
-    → AreFirstTo d aside (length d.curves) ss → AreBreaksMarked d 5 aside → AreApart d ss
+    → AreFirstTo d aside (length d.curves) ss → AreBreaksMarked d (λ n. 5) aside → AreApart d ss
 apart_at_first d aside ss f marked =
     record {
       size = f.size;
@@ -104,14 +104,14 @@ apart_at_first d aside ss f marked =
           ((f.each j lj).seen sj);
     }
   where
-    unmarked : (i j : ℕ) → i < j → AreUnmarked d aside i j → Breaks d 5 i j → ⊥
+    unmarked : (i j : ℕ) → i < j → AreUnmarked d aside i j → Breaks d (λ n. 5) i j → ⊥
     unmarked i j l p b =
         elim (marked i j l p.second b) as (λ z. ⊥) [
           | inl e ↦ no_mark (sym p.mark_first ∙ e)
           | inr e ↦ no_mark (sym p.mark_second ∙ e)
         ]
 
-    by : (i j : ℕ) → (i ≡ j → ⊥) → i < length d.curves → j < length d.curves → Breaks d 5 i j
+    by : (i j : ℕ) → (i ≡ j → ⊥) → i < length d.curves → j < length d.curves → Breaks d (λ n. 5) i j
         → mark_of aside i ≡ false → (mark_of aside j ≡ false) ⊎ IsBare (curve d j) → ⊥
     by i j n li lj b u (inl v) =
         either_order d (AreUnmarked d aside) (turned d aside) unmarked i j n (record {
@@ -147,7 +147,7 @@ module _ (d : Plan) (ss next : List SearchState) (marks : List Bool) (points : L
     (after : next ≡ map after_settling ss)
     (law : (i j a b : ℕ) → a < length (plan r.drawing).curves → b < length (plan r.drawing).curves
     → curve d i ≡ curve (plan r.drawing) a → curve d j ≡ curve (plan r.drawing) b → (i ≡ j → ⊥)
-    → (a ≡ b → ⊥) → Breaks d 5 i j → Breaks (plan r.drawing) 5 a b)
+    → (a ≡ b → ⊥) → Breaks d (λ n. 5) i j → Breaks (plan r.drawing) (λ n. 5) a b)
     (none : HasNoBreak (plan r.drawing)) (a : AreApart d ss) where
   mark_at : (i : ℕ) → mark_of marks i ≡ is_left_out (standing_of ss i)
   mark_at i = ap (λ (ms : List Bool). mark_of ms i) out ∙ at_map is_left_out ss i Alone
@@ -156,12 +156,12 @@ module _ (d : Plan) (ss next : List SearchState) (marks : List Bool) (points : L
   next_at i = ap (λ (ts : List SearchState). standing_of ts i) after
       ∙ at_map after_settling ss i Alone
 
-  in_drawing : (i j : ℕ) → i < j → AreUnmarked d marks i j → Breaks d 5 i j → ⊥
+  in_drawing : (i j : ℕ) → i < j → AreUnmarked d marks i j → Breaks d (λ n. 5) i j → ⊥
   in_drawing i j l p b =
       no_break d marks points r is law none i j l p.second b p.mark_first p.mark_second
 
   both_there : (i j : ℕ) → (i ≡ j → ⊥) → i < length d.curves → j < length d.curves
-      → standing_of ss i ≡ Alone → standing_of ss j ≡ Tried → Breaks d 5 i j → ⊥
+      → standing_of ss i ≡ Alone → standing_of ss j ≡ Tried → Breaks d (λ n. 5) i j → ⊥
   both_there i j n li lj e t b =
       either_order d (AreUnmarked d marks) (turned d marks) in_drawing i j n
       (record {
@@ -209,12 +209,12 @@ apart_when_left d ss next l a = record {
 
 -- ---- in the end
 pub alone_in_the_end : (d : Plan) (ss : List SearchState) (marks : List Bool) → AreApart d ss
-    → All IsSeen ss → marks ≡ map is_alone ss → AreAlone d 5 marks
+    → All IsSeen ss → marks ≡ map is_alone ss → AreAlone d (λ n. 5) marks
 alone_in_the_end d ss marks a seen e = λ i j l m b.
     let li : i < length d.curves = omega (arith, l, m) in (
       mark_at i li ∙ not_alone i j (λ q. omega (arith, q, l)) li m b,
       mark_at j m
-          ∙ not_alone j i (λ q. omega (arith, q, l)) m li (breaks_back d 5 i j b),
+          ∙ not_alone j i (λ q. omega (arith, q, l)) m li (breaks_back d (λ n. 5) i j b),
     )
   where
     within : (i : ℕ) → i < length d.curves → i < length ss
@@ -224,7 +224,7 @@ alone_in_the_end d ss marks a seen e = λ i j l m b.
     mark_at i m = ap (λ (ms : List Bool). mark_of ms i) e
         ∙ at_map_within is_alone ss i false Alone (within i m)
 
-    not_alone : (i j : ℕ) → (i ≡ j → ⊥) → i < length d.curves → j < length d.curves → Breaks d 5 i j
+    not_alone : (i j : ℕ) → (i ≡ j → ⊥) → i < length d.curves → j < length d.curves → Breaks d (λ n. 5) i j
         → is_alone (standing_of ss i) ≡ false
     not_alone i j n li lj b = by (standing_of ss i) refl
       where

@@ -60,7 +60,7 @@ module _ (d : Plan) (marks : List Bool) (a : AreArcMarks d.curves (length d.curv
           inl (a.half_arc i (let o = p.pair.order in let t = p.pair.there in omega (arith, o, t)) h)
       by (inr h) = inr (a.half_arc j p.pair.there h)
 
-  pub arcs_aside : ((i j : ℕ) → Breaks d 5 i j → IsHalfArc d i ⊎ IsHalfArc d j)
+  pub arcs_aside : ((i j : ℕ) → Breaks d (λ n. 5) i j → IsHalfArc d i ⊎ IsHalfArc d j)
       → (on : Option OnCurve) → IsLeastOf (LiesOnStraight d) on → AreAside d marks on
   arcs_aside law on f = record {
     size = a.size;
@@ -152,9 +152,9 @@ module _ (d : Plan) (marks : List Bool) (points : List Placed) (r : SubDrawing)
       })
 
   pub no_break : ((i j a b : ℕ) → a < length e.curves → b < length e.curves → curve d i ≡ curve e a
-      → curve d j ≡ curve e b → (i ≡ j → ⊥) → (a ≡ b → ⊥) → Breaks d 5 i j → Breaks e 5 a b)
+      → curve d j ≡ curve e b → (i ≡ j → ⊥) → (a ≡ b → ⊥) → Breaks d (λ n. 5) i j → Breaks e (λ n. 5) a b)
       → HasNoBreak e
-      → (i j : ℕ) → i < j → j < length d.curves → Breaks d 5 i j → mark_of marks i ≡ false
+      → (i j : ℕ) → i < j → j < length d.curves → Breaks d (λ n. 5) i j → mark_of marks i ≡ false
       → mark_of marks j ≡ false → ⊥
   no_break law none i j o t h u v =
       let x = placed i (omega (arith, o, t)) u in
@@ -240,8 +240,8 @@ module _ (d : Plan) (marks : List Bool) (points : List Placed) (r : SubDrawing)
           (subst (λ (k : ℕ). LiesOn e k x.a) q (lies_there all j i h.on x))
 
   pub few_are_aside : ((i j a b : ℕ) → a < length e.curves → b < length e.curves
-      → curve d i ≡ curve e a → curve d j ≡ curve e b → (i ≡ j → ⊥) → (a ≡ b → ⊥) → Breaks d 5 i j
-      → Breaks e 5 a b)
+      → curve d i ≡ curve e a → curve d j ≡ curve e b → (i ≡ j → ⊥) → (a ≡ b → ⊥) → Breaks d (λ n. 5) i j
+      → Breaks e (λ n. 5) a b)
       → HasAllPoints → length marks ≡ length d.curves → HasNoBadPair e → HasNoBreak e
       → (on found : Option OnCurve) → IsFirstOnCurve e on → IsNumbered r.numbers.items on found
       → AreAside d marks found

@@ -37,19 +37,19 @@ AreOfCurves d owners =
 -- the moves are a complete run over them, with their timetable and the cells between them.
 pub record IsSettlingLevel (d : Plan) (s : SettledLevel) : Type 0 where
   pub least : IsLeastLevel d s.level
-  pub case : IsCase d s.level (edges_at d s.level) s.owners.items s.facings.items s.swept.events
-  pub edges : s.edges.items ≡ edges_at d s.level
-  pub few : length (edges_at d s.level) < 2 ^ 31
-  pub timed : HasTimetable (edges_at d s.level) s.swept.events
+  pub case : IsCase d s.level (edges_at d (λ n. s.level)) s.owners.items s.facings.items s.swept.events
+  pub edges : s.edges.items ≡ edges_at d (λ n. s.level)
+  pub few : length (edges_at d (λ n. s.level)) < 2 ^ 31
+  pub timed : HasTimetable (edges_at d (λ n. s.level)) s.swept.events
   pub cells : gaps_of s.swept.cells.items ≡ closed_gaps s.swept.events
 
 -- What is shown of a level: that it settles the drawing; or that it does not, and then perhaps two
 -- curves that show it, which may be bad.
 abbrev pub IsShown : Plan → ℕ → Shown → Type 0
 IsShown d level (shown.Settled found) = IsSettlingLevel d found
-IsShown d level (shown.Unsettled pair) = (IsSettledAt d level → ⊥) × AreOfDrawing d pair
+IsShown d level (shown.Unsettled pair) = (IsSettledAt d (λ n. level) → ⊥) × AreOfDrawing d pair
 IsShown d level (shown.AtFault pair) =
-    (IsSettledAt d level → ⊥) × IsBadPair d pair.first pair.second
+    (IsSettledAt d (λ n. level) → ⊥) × IsBadPair d pair.first pair.second
 
 -- A pair that is bad; or none is named.
 abbrev pub IsBadIfAny : Plan → Option CurvePair → Type 0

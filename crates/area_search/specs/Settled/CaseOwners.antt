@@ -20,8 +20,8 @@ use Rattle.area_search.specs.Settled.Sides.{IsUnowned}
 
 -- The half-edge is one of the run's, and faces no tube from within.
 pub record IsClearHalf (d : Plan) (level : ℕ) (h : Half) : Type 0 where
-  pub there : edge_of h < length (edges_at d level)
-  pub clear : faced d (drawn_bays d level) (edge_at d level) h ≡ 0
+  pub there : edge_of h < length (edges_at d (λ n. level))
+  pub clear : faced d (drawn_bays d (λ n. level)) (edge_at d (λ n. level)) h ≡ 0
 
 -- The owner of each face is one more than its point, and 0 where it has none. No point lies in face
 -- 0 and no two lie in one face;

@@ -23,13 +23,13 @@ use Rattle.area_search.specs.Settled.Sides.{IsOnSide}
 -- ---- the faces beside curves
 -- the number of the first edge of a curve
 abbrev pub first_at : Plan → ℕ → ℕ → ℕ
-first_at d level i = first_edge (drawn_bays d level) 0 d.curves i
+first_at d level i = first_edge (drawn_bays d (λ n. level)) 0 d.curves i
 
 -- The face is that on the named side of straight i.
 abbrev pub IsFaceOn : Plan → ℕ → List ℕ → ℕ → Bool → ℕ → Type 0
 IsFaceOn d level faces i left n =
     (h : ℕ)
-    × IsOnSide (edge_at d level (first_at d level i)) (curve d i) (first_at d level i) left h
+    × IsOnSide (edge_at d (λ n. level) (first_at d level i)) (curve d i) (first_at d level i) left h
     × (n ≡ slice_index faces h)
 
 -- On the left and on the right of a straight, as seen from `from` to `to`; beside the inner and
@@ -39,9 +39,9 @@ IsBesideKind kind.Straight d level faces i b =
     IsFaceOn d level faces i true b.first × IsFaceOn d level faces i false b.second
 IsBesideKind kind.HalfArc d level faces i b =
     (b.first
-    ≡ beside_inner d (drawn_bays d level) (edge_at d level) (λ h. slice_index faces (number h)) i)
+    ≡ beside_inner d (drawn_bays d (λ n. level)) (edge_at d (λ n. level)) (λ h. slice_index faces (number h)) i)
     × (b.second
-    ≡ beside_outer d (drawn_bays d level) (edge_at d level) (λ h. slice_index faces (number h)) i)
+    ≡ beside_outer d (drawn_bays d (λ n. level)) (edge_at d (λ n. level)) (λ h. slice_index faces (number h)) i)
 
 abbrev pub IsBeside : Plan → ℕ → List ℕ → ℕ → Beside → Type 0
 IsBeside d level faces i b = IsBesideKind (curve d i).kind d level faces i b
@@ -62,7 +62,7 @@ pub record AreBeside (d : Plan) (level : ℕ) (faces : List ℕ) (n : ℕ)
 abbrev pub IsSpotOf : Plan → ℕ → Spot → Type 0
 IsSpotOf d level (spot.On c) = ⊤
 IsSpotOf d level (spot.InTube c inside) = IsHalfArc d c
-IsSpotOf d level (spot.Cell position lower upper) = IsOver (length (edges_at d level)) lower
+IsSpotOf d level (spot.Cell position lower upper) = IsOver (length (edges_at d (λ n. level))) lower
 
 -- the number of edges of a curve at a level
 abbrev pub edges_of_kind : CurveKind → ℕ → ℕ

@@ -41,17 +41,17 @@ use Rattle.area_search.specs.Settled.Writing.{positions_of}
 pub record IsCase (d : Plan) (level : ℕ) (edges : List Edge) (owners : List Owner)
     (facings : List Facing) (vs : List Move) : Type 0 where
   pub low : level ≤ 5
-  pub tubes : HaveTubes d level
-  pub edges_are : edges ≡ edges_at d level
-  pub owners_are : owners ≡ map owner_as (runs.edge_list (drawn_bays d level) 0 d.curves)
-  pub facings_are : AreFacings d level facings
-  pub settled : IsSettledDrawing d (drawn_bays d level) (length (edges_at d level))
-      (edge_at d level) (steps_from [] vs)
+  pub tubes : HaveTubes d (λ n. level)
+  pub edges_are : edges ≡ edges_at d (λ n. level)
+  pub owners_are : owners ≡ map owner_as (runs.edge_list (drawn_bays d (λ n. level)) 0 d.curves)
+  pub facings_are : AreFacings d (λ n. level) facings
+  pub settled : IsSettledDrawing d (drawn_bays d (λ n. level)) (length (edges_at d (λ n. level)))
+      (edge_at d (λ n. level)) (steps_from [] vs)
   pub fit : Fit [] vs
 
 -- the edges of a settled drawing in code
 abbrev pub edges_of : SettledDrawing → List Edge
-edges_of c = edges_at (plan c.drawing.now) c.level
+edges_of c = edges_at (plan c.drawing.now) (λ n. c.level)
 
 abbrev pub IsCaseOf : SettledDrawing → List Move → Type 0
 IsCaseOf c vs =
@@ -76,18 +76,18 @@ spot_at spots j = slice_index_or spots j no_spot
 -- the half-edge over the edge under a cell, if there is one, faces no tube
 abbrev pub IsClearOver : Plan → ℕ → Option ℕ → Type 0
 IsClearOver d level None = ⊤
-IsClearOver d level (Some e) = faced d (drawn_bays d level) (edge_at d level) (over e) ≡ 0
+IsClearOver d level (Some e) = faced d (drawn_bays d (λ n. level)) (edge_at d (λ n. level)) (over e) ≡ 0
 
 -- On a curve, and on none of a lesser number; or on no curve, in a tube and on a side of its
 -- circle; or on no curve, in no tube and in a cell of the run.
 abbrev pub IsSpot : Plan → ℕ → List Move → Point → Spot → Type 0
 IsSpot d level vs v (spot.On c) = IsFirstOn d c (point v)
 IsSpot d level vs v (spot.InTube c true) =
-    LiesInTube d (drawn_bays d level) c v × (power (arc (curve d c)) (point v) <ℤ pos 0)
+    LiesInTube d (drawn_bays d (λ n. level)) c v × (power (arc (curve d c)) (point v) <ℤ pos 0)
 IsSpot d level vs v (spot.InTube c false) =
-    LiesInTube d (drawn_bays d level) c v × (pos 0 <ℤ power (arc (curve d c)) (point v))
+    LiesInTube d (drawn_bays d (λ n. level)) c v × (pos 0 <ℤ power (arc (curve d c)) (point v))
 IsSpot d level vs v (spot.Cell position lower upper) =
-    IsCell (edges_at d level) vs v position lower upper × IsClearOver d level lower
+    IsCell (edges_at d (λ n. level)) vs v position lower upper × IsClearOver d level lower
 
 -- Each of these points has its spot.
 pub record AreSpotsOf (d : Plan) (level : ℕ) (vs : List Move) (points : List Point)
@@ -124,17 +124,17 @@ pub record ArePlacedOff (d : Plan) (level : ℕ) (vs : List Move) (spots : List 
 -- The half-edges have the face numbers of the run, which are below count.
 pub record HasRunFaces (d : Plan) (level : ℕ) (vs : List Move) (mesh : HalfEdges)
     (count : ℕ) : Type 0 where
-  pub size_is : size mesh ≡ 2 * length (edges_at d level)
+  pub size_is : size mesh ≡ 2 * length (edges_at d (λ n. level))
   pub entries : length mesh.face ≡ size mesh
   pub faces : IsFaces
-      (replay (pos 0) (length (edges_at d level)) (edge_at d level) (steps_from [] vs))
+      (replay (pos 0) (length (edges_at d (λ n. level))) (edge_at d (λ n. level)) (steps_from [] vs))
       (λ h. slice_index mesh.face (number h))
   pub below : (h : ℕ) → h < size mesh → slice_index mesh.face h < count
   pub some : 0 < count
 
 -- The mesh is that of the run, all events turned, and the half-edges of its cells are in it.
 pub record IsRunMesh (d : Plan) (level : ℕ) (vs : List Move) (mesh : HalfEdges) : Type 0 where
-  pub turned : IsTurned (length (edges_at d level)) (edge_at d level) (steps_from [] vs) mesh
+  pub turned : IsTurned (length (edges_at d (λ n. level))) (edge_at d (λ n. level)) (steps_from [] vs) mesh
       (length (steps_from [] vs))
   pub mesh_is : IsMesh mesh
   pub known : AreKnown (size mesh) (closed_gaps vs)
@@ -148,9 +148,9 @@ face_over faces (Some e) = slice_index faces (number (over e))
 abbrev pub spot_face : Plan → ℕ → List ℕ → Spot → ℕ
 spot_face d level faces (spot.On c) = 0
 spot_face d level faces (spot.InTube c true) =
-    beside_inner d (drawn_bays d level) (edge_at d level) (λ h. slice_index faces (number h)) c
+    beside_inner d (drawn_bays d (λ n. level)) (edge_at d (λ n. level)) (λ h. slice_index faces (number h)) c
 spot_face d level faces (spot.InTube c false) =
-    beside_outer d (drawn_bays d level) (edge_at d level) (λ h. slice_index faces (number h)) c
+    beside_outer d (drawn_bays d (λ n. level)) (edge_at d (λ n. level)) (λ h. slice_index faces (number h)) c
 spot_face d level faces (spot.Cell position lower upper) = face_over faces lower
 
 abbrev pub spot_faces : Plan → ℕ → List ℕ → List Spot → List ℕ

@@ -66,17 +66,17 @@ HasRunMesh c mesh =
 
 abbrev pub IsHalfOfSide : SettledDrawing → SideAt → ℕ → Type 0
 IsHalfOfSide c s h =
-    IsHalfOf (plan c.drawing.now) (length (edges_of c)) (edge_at (plan c.drawing.now) c.level)
-    (owned_at (plan c.drawing.now) c.level) s h
+    IsHalfOf (plan c.drawing.now) (length (edges_of c)) (edge_at (plan c.drawing.now) (λ n. c.level))
+    (owned_at (plan c.drawing.now) (λ n. c.level)) s h
 
 -- The half-edge faces the tube of its edge from within.
 abbrev pub IsHalfWithin : SettledDrawing → ℕ → Type 0
 IsHalfWithin c h =
-    IsOfTube (owned_at (plan c.drawing.now) c.level (h / 2)).part
-    × (h ≡ number (half_within (plan c.drawing.now) (drawn_bays (plan c.drawing.now) c.level)
-    (edge_at (plan c.drawing.now) c.level) (h / 2)))
+    IsOfTube (owned_at (plan c.drawing.now) (λ n. c.level) (h / 2)).part
+    × (h ≡ number (half_within (plan c.drawing.now) (drawn_bays (plan c.drawing.now) (λ n. c.level))
+    (edge_at (plan c.drawing.now) (λ n. c.level)) (h / 2)))
 
 abbrev pub AreNextSides : SettledDrawing → HalfEdges → ℕ → List ℕ → Type 0
 AreNextSides c mesh k next =
-    AreNextTo (plan c.drawing.now) (length (edges_of c)) (edge_at (plan c.drawing.now) c.level)
-    (owned_at (plan c.drawing.now) c.level) mesh k next
+    AreNextTo (plan c.drawing.now) (length (edges_of c)) (edge_at (plan c.drawing.now) (λ n. c.level))
+    (owned_at (plan c.drawing.now) (λ n. c.level)) mesh k next

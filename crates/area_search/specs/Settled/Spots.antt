@@ -15,7 +15,7 @@ use Rattle.area_search.specs.Settled.Cases.{AreOffCurves, IsClearOver, spot_at}
 abbrev pub IsTubeOver : Plan → ℕ → Option ℕ → Option ℕ → Type 0
 IsTubeOver d level lower None = IsClearOver d level lower
 IsTubeOver d level lower (Some c) =
-    (e : ℕ) × (lower ≡ Some e) × (faced d (drawn_bays d level) (edge_at d level) (over e) ≡ suc c)
+    (e : ℕ) × (lower ≡ Some e) × (faced d (drawn_bays d (λ n. level)) (edge_at d (λ n. level)) (over e) ≡ suc c)
 
 -- the first point on a curve, with its curve; all points are on none
 abbrev pub IsFirstSpotOn : List Spot → Option OnCurve → Type 0

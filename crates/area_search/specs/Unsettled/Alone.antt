@@ -52,7 +52,7 @@ after_leaving Seen = Seen
 pub record AreApart (d : Plan) (ss : List SearchState) : Type 0 where
   pub size : length ss ≡ length d.curves
   pub apart : (i j : ℕ) → (i ≡ j → ⊥) → i < length d.curves → j < length d.curves
-      → standing_of ss i ≡ Alone → IsSeen (standing_of ss j) → Breaks d 5 i j → ⊥
+      → standing_of ss i ≡ Alone → IsSeen (standing_of ss j) → Breaks d (λ n. 5) i j → ⊥
 
 -- A half arc that has no tube at the last level.
 pub record IsBare (c : Curve) : Type 0 where

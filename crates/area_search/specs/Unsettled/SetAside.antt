@@ -24,7 +24,7 @@ use Rattle.area_search.specs.Unsettled.CurvePoints.{LiesOnMarked}
 pub record AreAside (d : Plan) (marks : List Bool) (on_others : Option OnCurve) : Type 0 where
   pub size : length marks ≡ length d.curves
   pub pairs : (i j : ℕ) → IsArcPair d i j → IsOneMarked marks i j
-  pub breaks : AreBreaksMarked d 5 marks
+  pub breaks : AreBreaksMarked d (λ n. 5) marks
   pub points : IsLeastOf (LiesOnMarked d marks false) on_others
 
 -- Of the first k curves those of half arcs are marked, and no others.
@@ -56,7 +56,7 @@ pub record IsRest (d : Plan) (marks : List Bool) (points : List Placed) (r : Sub
 
 -- ---- the last level
 abbrev pub HasNoBreak : Plan → Type 0
-HasNoBreak d = (i j : ℕ) → Breaks d 5 i j → ⊥
+HasNoBreak d = (i j : ℕ) → Breaks d (λ n. 5) i j → ⊥
 
 -- What the last level shows: no two curves are bad or break it, and the first point on a curve, if
 -- there is one; or nothing.

@@ -23,7 +23,7 @@ pub(crate) fn shown_by_edges(drawing: &Drawing, owners: &[Owner], first: u32, se
     requires first { first < length owners.now }
     requires second { second < length owners.now }
     requires curves { AreOfCurves (plan drawing.now) owners.now }
-    ensures { (level : ℕ) → (IsSettledAt (plan drawing.now) level → ⊥)
+    ensures { (level : ℕ) → (IsSettledAt (plan drawing.now) (λ n. level) → ⊥)
         → IsShown (plan drawing.now) level result }
 {
     match in_order(curve_at(owners, first), curve_at(owners, second)) {
@@ -42,7 +42,7 @@ fn curve_at(owners: &[Owner], edge: u32) -> u32
 // What the two curves show, whose edges are bad.
 fn shown_by_curves(drawing: &Drawing, pair: CurvePair) -> Shown
     requires { AreOfDrawing (plan drawing.now) (Some pair) }
-    ensures { (level : ℕ) → (IsSettledAt (plan drawing.now) level → ⊥)
+    ensures { (level : ℕ) → (IsSettledAt (plan drawing.now) (λ n. level) → ⊥)
         → IsShown (plan drawing.now) level result }
 {
     if is_bad(drawing, pair.first, pair.second) {

@@ -62,7 +62,7 @@ fn shown_by_list(
     requires low { level ≤ 5 }
     requires least { SettlesNoneBelow (plan drawing.now) level }
     requires few { length list.edges.items < 2 ^ 31 }
-    requires list { IsTubedList (plan drawing.now) level list }
+    requires list { IsTubedList (plan drawing.now) (λ n. level) list }
     requires usable { AreUsable (plan drawing.now) list.edges.items }
     ensures { IfOk result (IsShown (plan drawing.now) level) }
 {
@@ -89,7 +89,7 @@ fn shown_by_run(
     requires low { level ≤ 5 }
     requires least { SettlesNoneBelow (plan drawing.now) level }
     requires few { length list.edges.items < 2 ^ 31 }
-    requires list { IsTubedList (plan drawing.now) level list }
+    requires list { IsTubedList (plan drawing.now) (λ n. level) list }
     requires usable { AreUsable (plan drawing.now) list.edges.items }
     requires run { Run (length list.edges.items) (edge_of list.edges.items) (steps_from []
         swept.events) }

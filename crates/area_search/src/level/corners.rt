@@ -27,13 +27,13 @@ pub(crate) fn has_foreign_corner(
 ) -> Result<bool, Memory>
     requires low { level ≤ 5 }
     requires few { length list.now.edges.items < 2 ^ 31 }
-    requires list { IsTubedList (plan drawing.now) level list.now }
+    requires list { IsTubedList (plan drawing.now) (λ n. level) list.now }
     requires usable { AreUsable (plan drawing.now) list.now.edges.items }
     requires timed { HasTimetable list.now.edges.items events.now }
     ensures own { IfOk result (λ found. found ≡ false → (p : AnyPoint)
-        → IsOwnCorner (plan drawing.now) level p) }
+        → IsOwnCorner (plan drawing.now) (λ n. level) p) }
     ensures foreign { IfOk result (λ found. IsTrue found
-        → IsSettledAt (plan drawing.now) level → ⊥) }
+        → IsSettledAt (plan drawing.now) (λ n. level) → ⊥) }
 {
     tubes::laws::settled_levels();
     if are_corners_own(drawing, list, events) {

@@ -16,7 +16,7 @@ use tubes::tube;
 /// is out of memory.
 pub(crate) fn is_tube_missing(alloc: Global, drawing: &Drawing, level: u8) -> Result<bool, Memory>
     requires { level ≤ 5 }
-    ensures { IfOk result (λ missing. IsTrue missing → IsListAt (plan drawing.now) level None) }
+    ensures { IfOk result (λ missing. IsTrue missing → IsListAt (plan drawing.now) (λ n. level) None) }
 {
     for number in 0..drawing.curves.len() {
         if has_no_tube(alloc, &drawing.curves[number], level)? {

@@ -1,8 +1,9 @@
 // The faces of a drawing that some level settles, by numbers.
-ghost use Rattle.std.specs.Prelude.{◌≡◌, ◌≤◌, false, IfOk, length};
+ghost use Rattle.std.specs.Prelude.{◌≡◌, false, IfOk};
 ghost use Rattle.fault_lists.specs.DrawingFaces.{HasFaces, IsNumbered};
 ghost use Rattle.fault_lists.specs.Rings.{GoRound};
 ghost use Rattle.plane.specs.Rule.Plans.{plan};
+ghost use Rattle.tubes.specs.FewEdges.{HasFewEdges};
 ghost use Rattle.area_search.specs.Level.LevelAnswers.{AreSettledFaces};
 ghost use Rattle.area_search.specs.Level.LevelAnswers.{IsSettlingLevel, pair_if_any};
 
@@ -25,15 +26,14 @@ pub enum SettledFaces {
     Unsettled(Option<BadPair>),
 }
 
-/// The faces of a drawing of at most 16,000,000 curves, where some level settles it, and the sides
-/// that follow one another round them. No curve is left out, so no face is open. The only error is
-/// out of memory. It takes what the levels take, as for `find_area`, then a replay and the search
-/// of the faces; 8 bytes a point, 20 a curve and 1 a face stay.
+/// The faces of a drawing with few edges, where some level settles it, and the sides that follow
+/// one another round them. No curve is left out, so no face is open. The only error is out of
+/// memory. It takes what the levels take, as for `find_area`, then a replay and the search of the
+/// faces; 8 bytes a point, 20 a curve and 1 a face stay.
 pub fn settled_faces(alloc: Global, drawing: &Drawing) -> Result<SettledFaces, Memory>
-    requires { length (plan drawing.now).curves ≤ 16000000 }
+    requires { HasFewEdges (plan drawing.now) }
     ensures { IfOk result (AreSettledFaces (plan drawing.now)) }
 {
-    tubes::laws::few_curves_have_few_edges();
     match all_levels(alloc, drawing)? {
         LevelsShown::Settled(found) => {
             let faces = faces_of_level(alloc, drawing, found)?;

@@ -31,7 +31,7 @@ pub(crate) fn settled_facings(
 ) -> Result<Option<Vec<Facing>>, Memory>
     requires low { level ≤ 5 }
     requires few { length list.now.edges.items < 2 ^ 31 }
-    requires list { IsTubedList (plan drawing.now) level list.now }
+    requires list { IsTubedList (plan drawing.now) (λ n. level) list.now }
     requires usable { AreUsable (plan drawing.now) list.now.edges.items }
     requires run { Run (length list.now.edges.items) (edge_of list.now.edges.items) (steps_from []
         swept.now.events) }
@@ -40,8 +40,8 @@ pub(crate) fn settled_facings(
     requires cells { gaps_of swept.now.cells.items ≡ closed_gaps swept.now.events }
     ensures case { IfOk result (λ r. IfSome r (λ facings. IsCase (plan drawing.now) level
         list.now.edges.items list.now.owners.items facings.items swept.now.events)) }
-    ensures settled { IfOk result (λ r. IfSome r (λ _. IsSettledAt (plan drawing.now) level)) }
-    ensures unsettled { IfOk result (λ r. r ≡ None → IsSettledAt (plan drawing.now) level → ⊥) }
+    ensures settled { IfOk result (λ r. IfSome r (λ _. IsSettledAt (plan drawing.now) (λ n. level))) }
+    ensures unsettled { IfOk result (λ r. r ≡ None → IsSettledAt (plan drawing.now) (λ n. level) → ⊥) }
 {
     tubes::laws::settled_levels();
     tubes::laws::chains_have_edges();

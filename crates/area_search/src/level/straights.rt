@@ -44,11 +44,11 @@ pub fn faces_of_straights(alloc: Global, drawing: &Drawing) -> Result<FacedDrawi
 // The same, by the edges of level 0, which settles the drawing.
 fn faces_of_list(alloc: Global, drawing: &Drawing, list: EdgeList) -> Result<FacedDrawing, Memory>
     requires few { length list.edges.items < 2 ^ 31 }
-    requires list { IsTubedList (plan drawing.now) 0 list }
+    requires list { IsTubedList (plan drawing.now) (λ n. 0) list }
     requires usable { AreUsable (plan drawing.now) list.edges.items }
     requires straights { AreStraights (plan drawing.now) }
     requires partition { IsPartition (plan drawing.now) }
-    requires settled { IsSettledAt (plan drawing.now) 0 }
+    requires settled { IsSettledAt (plan drawing.now) (λ n. 0) }
     ensures { IfOk result (IsFacedDrawing (plan drawing.now)) }
 {
     tubes::laws::tubed_lists();
@@ -68,11 +68,11 @@ fn faces_of_swept(
     swept: Swept,
 ) -> Result<FacedDrawing, Memory>
     requires few { length list.edges.items < 2 ^ 31 }
-    requires list { IsTubedList (plan drawing.now) 0 list }
+    requires list { IsTubedList (plan drawing.now) (λ n. 0) list }
     requires usable { AreUsable (plan drawing.now) list.edges.items }
     requires straights { AreStraights (plan drawing.now) }
     requires partition { IsPartition (plan drawing.now) }
-    requires settled { IsSettledAt (plan drawing.now) 0 }
+    requires settled { IsSettledAt (plan drawing.now) (λ n. 0) }
     requires run { Run (length list.edges.items) (edge_of list.edges.items) (steps_from []
         swept.events) }
     requires fit { Fit [] swept.events }

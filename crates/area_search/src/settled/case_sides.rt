@@ -134,10 +134,10 @@ fn face_outside(settled: &SettledDrawing, mesh: &Mesh, edge: u32) -> u32
     requires few { length (edges_of settled.now) < 2 ^ 31 }
     requires size { size mesh.now ≡ 2 * length (edges_of settled.now) }
     requires there { edge < length (edges_of settled.now) }
-    requires tube { IsOfTube (owned_at (plan settled.now.drawing.now) settled.now.level edge).part }
+    requires tube { IsOfTube (owned_at (plan settled.now.drawing.now) (λ n. settled.now.level) edge).part }
     ensures { result ≡ slice_index mesh.now.face (number (twin (half_within
-        (plan settled.now.drawing.now) (drawn_bays (plan settled.now.drawing.now) settled.now.level)
-        (edge_at (plan settled.now.drawing.now) settled.now.level) edge))) }
+        (plan settled.now.drawing.now) (drawn_bays (plan settled.now.drawing.now) (λ n. settled.now.level))
+        (edge_at (plan settled.now.drawing.now) (λ n. settled.now.level)) edge))) }
 {
     let outside = if settled.facings[edge as usize] == Facing::Below {
         HalfEdgeId::over(edge)

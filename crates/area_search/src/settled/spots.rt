@@ -93,7 +93,7 @@ fn tube_over(swept: &SweptDrawing, lower: Option<u32>) -> Option<u32>
 fn spot_in_tube(swept: &SweptDrawing, number: u32, at: Point) -> Spot
     requires swept { IsSweptDrawing swept.now }
     requires tube { LiesInTube (plan swept.now.drawing.now)
-        (drawn_bays (plan swept.now.drawing.now) swept.now.level) number at }
+        (drawn_bays (plan swept.now.drawing.now) (λ n. swept.now.level)) number at }
     ensures { IsSpot (plan swept.now.drawing.now) swept.now.level
         swept.now.run.now.events at result }
 {

@@ -33,8 +33,8 @@ pub(crate) fn alone_curves(
 ) -> Result<Vec<bool>, Memory>
     requires few { length (plan drawing.now).curves ≤ 16000000 }
     requires size { length aside.now ≡ length drawing.now.curves.items }
-    requires marked { AreBreaksMarked (plan drawing.now) 5 aside.now }
-    ensures { IfOk result (λ marks. AreAlone (plan drawing.now) 5 marks.items) }
+    requires marked { AreBreaksMarked (plan drawing.now) (λ n. 5) aside.now }
+    ensures { IfOk result (λ marks. AreAlone (plan drawing.now) (λ n. 5) marks.items) }
 {
     if has_many_pairs(alloc, drawing, aside)? {
         let first = first_standings(alloc, drawing, aside)?;
@@ -53,7 +53,7 @@ fn still_alone(
 ) -> Result<Option<Vec<bool>>, Memory>
     requires few { length (plan drawing.now).curves ≤ 16000000 }
     requires apart { AreApart (plan drawing.now) first.items }
-    ensures { IfOk result (λ r. IfSome r (λ marks. AreAlone (plan drawing.now) 5 marks.items)) }
+    ensures { IfOk result (λ r. IfSome r (λ marks. AreAlone (plan drawing.now) (λ n. 5) marks.items)) }
 {
     let mut standings = first;
     for _ in 0..ROUNDS {

@@ -52,7 +52,7 @@ fn settle_list(
     firm: &[bool],
 ) -> Result<LastLevel, Memory>
     requires few { length list.edges.items < 2 ^ 31 }
-    requires list { IsTubedList (plan drawing.now) 5 list }
+    requires list { IsTubedList (plan drawing.now) (λ n. 5) list }
     requires usable { AreUsable (plan drawing.now) list.edges.items }
     ensures { IfOk result (IsSettling (plan drawing.now)) }
 {
@@ -100,7 +100,7 @@ fn settle_run(
     firm: &[bool],
 ) -> Result<LastLevel, Memory>
     requires few { length list.edges.items < 2 ^ 31 }
-    requires list { IsTubedList (plan drawing.now) 5 list }
+    requires list { IsTubedList (plan drawing.now) (λ n. 5) list }
     requires usable { AreUsable (plan drawing.now) list.edges.items }
     requires run { Run (length list.edges.items) (edge_of list.edges.items) (steps_from []
         swept.now.events) }
@@ -133,7 +133,7 @@ fn near_cells(
     swept: &Swept,
     firm: &[bool],
 ) -> Result<LastLevel, Memory>
-    requires list { IsTubedList (plan drawing.now) 5 list.now }
+    requires list { IsTubedList (plan drawing.now) (λ n. 5) list.now }
     ensures { IfOk result (IsSettling (plan drawing.now)) }
 {
     tubes::laws::chains_have_edges();

@@ -21,7 +21,7 @@ ghost use Rattle.area_drawings.specs.KeptDrawings.{has_kept_large, is_kept_large
 ghost use Rattle.area_drawings.specs.KeptViews.{kept_in};
 ghost use Rattle.delivery.specs.KeptRows.{all_found, transfer_so_far};
 ghost use Rattle.delivery.specs.KeptViews.{HasTaken, found_in, found_of};
-ghost use Rattle.delivery.specs.Pieces.{AreKept, HasText, IsJudged, IsKept};
+ghost use Rattle.delivery.specs.Pieces.{AreKept, AreWanted, HasText, IsJudged, IsJudgedFor, IsKept};
 
 use super::found::TableFound;
 use super::keeping::{RowKeeper, count_objects};
@@ -39,6 +39,15 @@ use std::alloc::Global;
 use std::mem::swap;
 use table_layout::{AreaOf, Layout, TableId};
 
+/// What is to be answered of rows without a finding.
+#[derive(Clone, Copy)]
+pub enum Wanted {
+    /// The drawings of all areas, and the answers to all SURFACEs.
+    Everything,
+    /// The drawings of all areas, and nothing of the SURFACEs.
+    AreasAlone,
+}
+
 /// What the text of a transfer comes to.
 #[derive(Drop)]
 pub enum Judged {
@@ -49,7 +58,7 @@ pub enum Judged {
     /// No finding, and an area that is over its limit.
     Oversized,
     /// No finding: the number of objects, the drawings of all areas, and the answers to all
-    /// SURFACEs.
+    /// SURFACEs, where these are wanted.
     Clean(u128, Vec<Drawing>, Vec<SurfaceAnswer>),
 }
 
@@ -220,11 +229,16 @@ pub(super) fn has_any(found: &[Finding]) -> bool
 }
 
 /// What the rows of a text come to.
-pub fn judge_rows(alloc: Global, layout: &Layout, kept: TransferKept) -> Result<Judged, Memory>
+pub fn judge_rows(
+    alloc: Global,
+    layout: &Layout,
+    kept: TransferKept,
+    wanted: Wanted,
+) -> Result<Judged, Memory>
     requires valid { IsValid (layout_view layout.now) }
     requires text { (text : List ℕ) × AreKept HasTaken (layout_view layout.now) text kept }
     ensures { (text : List ℕ) → AreKept HasTaken (layout_view layout.now) text kept.entry
-        → IfOk result (IsJudged (layout_view layout.now) text) }
+        → IfOk result (IsJudgedFor wanted (layout_view layout.now) text) }
 {
     strokes_counted();
     fed_transfer();
@@ -244,7 +258,7 @@ pub fn judge_rows(alloc: Global, layout: &Layout, kept: TransferKept) -> Result<
     if oversized {
         return Ok(Judged::Oversized);
     }
-    judge_clean(alloc, layout, objects, &places, &sorted)
+    judge_clean(alloc, layout, objects, &places, &sorted, wanted)
 }
 
 // What rows come to that have no finding, by what is kept of them and by their keys.
@@ -254,6 +268,7 @@ fn judge_clean(
     objects: u128,
     places: &[TablePlaces],
     keys: &Keys,
+    wanted: Wanted,
 ) -> Result<Judged, Memory>
     requires valid { IsValid (layout_view layout.now) }
     requires rows { (rows : List (ℕ × GivenRow))
@@ -266,12 +281,36 @@ fn judge_clean(
         → has_large (transfer_so_far (layout_view layout.now) rows)
         (layout_view layout.now).areas ≡ false
         → objects ≡ objects_in (transfer_so_far (layout_view layout.now) rows)
-        → IfOk result (IsJudged (layout_view layout.now) text) }
+        → IfOk result (IsJudgedFor wanted (layout_view layout.now) text) }
 {
-    let all = surfaces_of(alloc, layout)?;
-    let surfaces = surface_answers(alloc, layout, places, keys, &all)?;
+    let surfaces = wanted_answers(alloc, layout, places, keys, wanted)?;
     let drawings = drawings_from(alloc, layout, places)?;
     Ok(Judged::Clean(objects, drawings, surfaces))
+}
+
+// The answers to all SURFACEs, where these are wanted; else none.
+fn wanted_answers(
+    alloc: Global,
+    layout: &Layout,
+    places: &[TablePlaces],
+    keys: &Keys,
+    wanted: Wanted,
+) -> Result<Vec<SurfaceAnswer>, Memory>
+    requires valid { IsValid (layout_view layout.now) }
+    requires rows { (rows : List (ℕ × GivenRow))
+        × AreKeptClean (layout_view layout.now) rows (kept_in places.now) keys.now }
+    ensures { (rows : List (ℕ × GivenRow))
+        → AreKeptClean (layout_view layout.now) rows (kept_in places.now) keys.now
+        → IfOk result (λ answers. AreWanted wanted (layout_view layout.now)
+        (transfer_so_far (layout_view layout.now) rows) answers.items) }
+{
+    match wanted {
+        Wanted::Everything => {
+            let all = surfaces_of(alloc, layout)?;
+            surface_answers(alloc, layout, places, keys, &all)
+        }
+        Wanted::AreasAlone => Ok(Vec::new(alloc)),
+    }
 }
 
 /// What a text comes to whose lines were all taken: what is kept of its rows, or the line at fault.
@@ -286,7 +325,7 @@ pub fn judge_end(
         → IfOk result (IsJudged (layout_view layout.now) text) }
 {
     match kept {
-        Ok(kept) => judge_rows(alloc, layout, kept),
+        Ok(kept) => judge_rows(alloc, layout, kept, Wanted::Everything),
         Err(refusal) => malformed(refusal),
     }
 }

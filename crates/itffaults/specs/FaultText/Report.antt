@@ -2,7 +2,7 @@
 use Rattle.std.specs.Prelude.{ℕ, Bool, ◌||◌, if◌then◌else◌, List, [], ◌++◌, codes, decimal}
 use Rattle.std.specs.List.{flat_map, list_any}
 use Rattle.area_faults.specs.declared.kinds.AreaFaults.{AreaFaults}
-use Rattle.area_faults.specs.declared.kinds.AreaFaults.TheVariants.{Many, Told, Unsettled}
+use Rattle.area_faults.specs.declared.kinds.AreaFaults.TheVariants.{Bent, Many, Told, Unsettled}
 use Rattle.area_search.specs.declared.kinds.AreaAnswer.{AreaAnswer}
 use Rattle.area_search.specs.declared.kinds.AreaAnswer.TheVariants as found
 use Rattle.itffaults.specs.declared.fault_text.verdicts.Verdict.{Verdict}
@@ -16,9 +16,11 @@ answer_word (found.Proved c) = codes " PROVED"
 answer_word (found.Undecided i j) = codes " UNDECIDED"
 answer_word (found.Fault f) = codes " FIRST"
 
--- what is said where the lists are not of all faults, with a blank before it
+-- what is said where the lists are of the bent drawing, or not of all faults, with a blank before
+-- it
 abbrev pub told_word : AreaFaults → List ℕ
 told_word (Told f) = []
+told_word (Bent f b) = codes " BENT"
 told_word (Unsettled f a) = answer_word a
 told_word (Many ms) = codes " MANY"
 

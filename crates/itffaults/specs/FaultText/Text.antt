@@ -10,7 +10,7 @@ use Rattle.plane.specs.declared.kinds.CurveKind.TheVariants as kind
 use Rattle.plane.specs.declared.kinds.Placed.{Placed}
 use Rattle.plane.specs.declared.kinds.Point.{Point}
 use Rattle.area_faults.specs.declared.kinds.AreaFaults.{AreaFaults}
-use Rattle.area_faults.specs.declared.kinds.AreaFaults.TheVariants.{Many, Told, Unsettled}
+use Rattle.area_faults.specs.declared.kinds.AreaFaults.TheVariants.{Bent, Many, Told, Unsettled}
 use Rattle.area_search.specs.declared.kinds.AreaAnswer.{AreaAnswer}
 use Rattle.area_search.specs.declared.kinds.AreaAnswer.TheVariants as found
 use Rattle.area_search.specs.declared.kinds.AreaFinding.{AreaFinding}
@@ -176,10 +176,13 @@ answer_words d (found.Undecided i j) =
     codes "UNDECIDED " ++ pair_text (curve d i).line (curve d j).line
 answer_words d (found.Fault f) = codes "FIRST " ++ fault_words d f
 
--- What is told of an area. Where no level settles it, no face is judged, and the answer of the
+-- What is told of an area. Where its forks are bent, what is at fault in faces is told by the
+-- curves of the bent drawing. Where no level settles it, no face is judged, and the answer of the
 -- search follows.
 abbrev pub told_text : ℕ → Plan → AreaFaults → List ℕ
 told_text s d (Told f) = first_text s d f ++ faces_text s d f
+told_text s d (Bent f b) =
+    first_text s d f ++ codes "BENT\n" ++ faces_text s (plan b.drawing) f
 told_text s d (Unsettled f a) =
     first_text s d f ++ codes "UNSETTLED\n" ++ answer_words d a ++ codes "\n"
 told_text s d (Many ms) = flat_map (meeting_line s d) ms.items ++ codes "MANY\n"

@@ -2,7 +2,7 @@
 use Rattle.std.specs.Prelude.{ℕ, Bool, true, false, ◌||◌, nat_lt, length}
 use Rattle.std.specs.Prelude.{if◌then◌else◌}
 use Rattle.area_faults.specs.declared.kinds.AreaFaults.{AreaFaults}
-use Rattle.area_faults.specs.declared.kinds.AreaFaults.TheVariants.{Many, Told, Unsettled}
+use Rattle.area_faults.specs.declared.kinds.AreaFaults.TheVariants.{Bent, Many, Told, Unsettled}
 use Rattle.area_search.specs.declared.kinds.AreaAnswer.{AreaAnswer}
 use Rattle.area_search.specs.declared.kinds.AreaAnswer.TheVariants as found
 use Rattle.fault_lists.specs.declared.kinds.Faults.{Faults}
@@ -42,6 +42,7 @@ first_counts meetings on =
 -- how many faults of each kind are told; where no level settles the area, no face is judged
 abbrev pub counts_of : AreaFaults → Counts
 counts_of (Told f) = told_counts f
+counts_of (Bent f b) = told_counts f
 counts_of (Unsettled f a) = first_counts (length f.meetings.items) (length f.on.items)
 counts_of (Many ms) = first_counts (length ms.items) 0
 
@@ -66,6 +67,7 @@ outer_verdict false = Clean
 -- fault is told; no level settles it.
 abbrev pub bare_verdict : AreaFaults → Verdict
 bare_verdict (Told f) = outer_verdict f.faces.outer_open
+bare_verdict (Bent f b) = outer_verdict f.faces.outer_open
 bare_verdict (Unsettled f a) = answer_verdict a
 bare_verdict (Many ms) = Open
 

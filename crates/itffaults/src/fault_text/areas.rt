@@ -158,6 +158,11 @@ fn add_told(
             add_first(text, drawing, scale, faults)?;
             add_faces(text, drawing, scale, faults)
         }
+        AreaFaults::Bent(faults, bent) => {
+            add_first(text, drawing, scale, faults)?;
+            text.add(b"BENT\n")?;
+            add_faces(text, &bent.drawing, scale, faults)
+        }
         AreaFaults::Unsettled(faults, answer) => {
             add_first(text, drawing, scale, faults)?;
             text.add(b"UNSETTLED\n")?;

@@ -48,12 +48,14 @@ fn answer_word(answer: &AreaAnswer) -> &'static [u8]
     }
 }
 
-// What is said where the lists are not of all faults, with a blank before it.
+// What is said where the lists are of the bent drawing, or not of all faults, with a blank before
+// it.
 fn told_word(told: &AreaFaults) -> &'static [u8]
     ensures { result.now ≡ told_word told.now }
 {
     match told {
         AreaFaults::Told(_) => b"",
+        AreaFaults::Bent(_, _) => b" BENT",
         AreaFaults::Unsettled(_, answer) => answer_word(answer),
         AreaFaults::Many(_) => b" MANY",
     }

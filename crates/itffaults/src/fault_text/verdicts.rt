@@ -88,7 +88,7 @@ pub fn counts_of(told: &AreaFaults) -> Counts
     ensures { result ≡ counts_of told.now }
 {
     match told {
-        AreaFaults::Told(faults) => told_counts(faults),
+        AreaFaults::Told(faults) | AreaFaults::Bent(faults, _) => told_counts(faults),
         AreaFaults::Unsettled(faults, _) => first_counts(faults.meetings.len(), faults.on.len()),
         AreaFaults::Many(meetings) => first_counts(meetings.len(), 0),
     }
@@ -136,7 +136,9 @@ fn bare_verdict(told: &AreaFaults) -> Verdict
     ensures { result ≡ bare_verdict told.now }
 {
     match told {
-        AreaFaults::Told(faults) => outer_verdict(faults.faces.outer_open),
+        AreaFaults::Told(faults) | AreaFaults::Bent(faults, _) => {
+            outer_verdict(faults.faces.outer_open)
+        }
         AreaFaults::Unsettled(_, answer) => answer_verdict(answer),
         AreaFaults::Many(_) => Verdict::Unsettled,
     }

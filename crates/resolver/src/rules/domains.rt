@@ -26,7 +26,7 @@ fn check_types<'a>(
         (flat_map (domain_faults (scope_of scope.now)) (domains_at domains.now))) }
 {
     for domain in domains {
-        check_type(&domain.kind, &domain.name, alloc, scope, earliest)?;
+        check_type(alloc, &domain.kind, &domain.name, scope, earliest)?;
     }
     Ok(())
 }

@@ -30,7 +30,7 @@ fn check_attributes<'a>(
         (attributes_faults (scope_of scope.now) (attributes_of attributes.now))) }
 {
     for attribute in attributes {
-        check_attribute(attribute, alloc, scope, earliest)?;
+        check_attribute(alloc, attribute, scope, earliest)?;
     }
     Ok(())
 }

@@ -106,8 +106,8 @@ fn check_line_attributes<'a>(
 
 // Reports each element that has the name of an earlier one of its list, in the parts of an element.
 fn check_parts<'a>(
-    element: &'a Element,
     alloc: Global,
+    element: &'a Element,
     earliest: &mut Earliest<'a>,
 ) -> Result<(), Memory>
     ensures { OnOk result (Reports earliest.old earliest.new
@@ -115,7 +115,7 @@ fn check_parts<'a>(
 {
     check_elements(alloc, &element.parts, earliest)?;
     for part in &element.parts {
-        check_parts(part, alloc, earliest)?;
+        check_parts(alloc, part, earliest)?;
     }
     Ok(())
 }
@@ -123,8 +123,8 @@ fn check_parts<'a>(
 // Checks an enumeration.
 #[tactic(auto, using(crate::proofs::Hints::first_append))]
 fn check_enumeration<'a>(
-    elements: &'a [Element],
     alloc: Global,
+    elements: &'a [Element],
     earliest: &mut Earliest<'a>,
 ) -> Result<(), Memory>
     ensures { OnOk result (Reports earliest.old earliest.new
@@ -133,16 +133,16 @@ fn check_enumeration<'a>(
 {
     check_elements(alloc, elements, earliest)?;
     for element in elements {
-        check_parts(element, alloc, earliest)?;
+        check_parts(alloc, element, earliest)?;
     }
     Ok(())
 }
 
 // Checks a type that is no line.
 fn check_plain_type<'a>(
+    alloc: Global,
     kind: &'a TypeSyntax,
     owner: &'a Ident,
-    alloc: Global,
     scope: &Scope<'_, 'a>,
     earliest: &mut Earliest<'a>,
 ) -> Result<(), Memory>
@@ -151,7 +151,7 @@ fn check_plain_type<'a>(
         (plain_faults (scope_of scope.now) (ident_of owner.now) (type_of kind.now))) }
 {
     match kind {
-        TypeSyntax::Enumeration(elements) => return check_enumeration(elements, alloc, earliest),
+        TypeSyntax::Enumeration(elements) => return check_enumeration(alloc, elements, earliest),
         TypeSyntax::Named(name) => check_type_name(scope, name, earliest),
         TypeSyntax::Text(length) => {
             earliest.report(!is_text_length(*length), ModelCode::Bounds, owner);
@@ -164,9 +164,9 @@ fn check_plain_type<'a>(
 /// Checks a type that is written at the attribute or domain `owner`.
 #[cycle(rules)]
 pub fn check_type<'a>(
+    alloc: Global,
     kind: &'a TypeSyntax,
     owner: &'a Ident,
-    alloc: Global,
     scope: &Scope<'_, 'a>,
     earliest: &mut Earliest<'a>,
 ) -> Result<(), Memory>
@@ -177,13 +177,13 @@ pub fn check_type<'a>(
 {
     match kind {
         TypeSyntax::Polyline(line) => {
-            check_line(line, owner, Shape::Polyline, alloc, scope, earliest)
+            check_line(alloc, line, owner, Shape::Polyline, scope, earliest)
         }
         TypeSyntax::Surface(line) => {
-            check_line(line, owner, Shape::Surface, alloc, scope, earliest)
+            check_line(alloc, line, owner, Shape::Surface, scope, earliest)
         }
-        TypeSyntax::Area(line) => check_line(line, owner, Shape::Area, alloc, scope, earliest),
-        _ => check_plain_type(kind, owner, alloc, scope, earliest),
+        TypeSyntax::Area(line) => check_line(alloc, line, owner, Shape::Area, scope, earliest),
+        _ => check_plain_type(alloc, kind, owner, scope, earliest),
     }
 }
 
@@ -191,10 +191,10 @@ pub fn check_type<'a>(
 #[tactic(auto, using(crate::proofs::Hints::short_first))]
 #[cycle(rules)]
 fn check_line<'a>(
+    alloc: Global,
     line: &'a LineSyntax,
     owner: &'a Ident,
     shape: Shape,
-    alloc: Global,
     scope: &Scope<'_, 'a>,
     earliest: &mut Earliest<'a>,
 ) -> Result<(), Memory>
@@ -207,7 +207,7 @@ fn check_line<'a>(
     check_names(alloc, &line.attributes, &line.idents, earliest)?;
     check_line_attributes(scope, &line.attributes, earliest);
     for attribute in &line.attributes {
-        check_attribute(attribute, alloc, scope, earliest)?;
+        check_attribute(alloc, attribute, scope, earliest)?;
     }
     Ok(())
 }
@@ -215,8 +215,8 @@ fn check_line<'a>(
 /// Checks an attribute.
 #[cycle(rules)]
 pub fn check_attribute<'a>(
-    attribute: &'a AttributeSyntax,
     alloc: Global,
+    attribute: &'a AttributeSyntax,
     scope: &Scope<'_, 'a>,
     earliest: &mut Earliest<'a>,
 ) -> Result<(), Memory>
@@ -226,7 +226,7 @@ pub fn check_attribute<'a>(
         (attribute_faults (scope_of scope.now) (attribute_of attribute.now))) }
 {
     match &attribute.content {
-        Content::Value(kind) => check_type(kind, &attribute.name, alloc, scope, earliest),
+        Content::Value(kind) => check_type(alloc, kind, &attribute.name, scope, earliest),
         Content::Reference(name) => {
             check_reference(scope, name, earliest);
             Ok(())

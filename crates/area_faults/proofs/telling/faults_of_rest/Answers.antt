@@ -39,7 +39,7 @@ returns c =
     c.deref-in-Some-2.result.now c.deref-2.ensures.value c.deref-in-Some-2.ensures.value h)) in
     let s = settled_straights c.straights_are_settled.ensures d
     c.in_ok-faults-in-Some.faults.meetings.items c.requires.straights t.told.meetings in
-    all_faults d c.in_ok-faults-in-Some.faults t s
+    all_faults d d (λ i. i) c.in_ok-faults-in-Some.faults t s
     (c.in_ok-faults-in-Some.ensures.rings c.in_ok-faces-in-Some.ensures.rings)
     (c.in_ok-faults-in-Some.ensures.open_rings c.in_ok-faces-in-Some.ensures.rings)
 
@@ -47,5 +47,5 @@ pub returns-in-None : goal.returns-in-None
 returns-in-None c = record {
   some = some_of_all (plan c.args.drawing.now) c.args.meetings.items c.requires.meetings;
   unsettled = c.requires.unsettled;
-  more = inr (c.in_ok-points_on_marked.ensures.none c.in-None.is);
+  more = inr (c.requires.meetings, c.in_ok-points_on_marked.ensures.none c.in-None.is);
 }

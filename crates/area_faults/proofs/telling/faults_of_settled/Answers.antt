@@ -17,9 +17,9 @@ told-requires-clause-curves c = c.requires.faces.2.curve_count
 pub returns : goal.returns
 returns c =
     let d = plan c.args.drawing.now in
-    all_faults d c.in_ok-faults.faults
+    all_faults d d (λ i. i) c.in_ok-faults.faults
     (c.in_ok-faults.ensures.faults (λ i. false)
-    (none_out d c.new-meetings.result.items c.new-meetings.ensures.items) c.requires.faces
+    (none_out d (λ i. i) c.new-meetings.result.items c.new-meetings.ensures.items) c.requires.faces
     (no_pairs d _ refl)) (λ e. c.requires.settled)
     (c.in_ok-faults.ensures.rings c.requires.rings)
     (c.in_ok-faults.ensures.open_rings c.requires.rings)

@@ -1,42 +1,7 @@
-use Rattle.std.proofs.Common.{refl, rules}
 use Rattle.plane.specs.Rule.Plans.{plan}
-use Rattle.fault_lists.specs.FaceLists.{IsBroken, IsEmptyFace}
-use Rattle.area_faults.proofs.LeastTold.{least_sides}
-use Rattle.area_faults.proofs.ToldRings.{have_rings}
 use Rattle.area_faults.proofs.telling.told.Goals as goal
 
-pub returns-clause-rings : goal.returns-clause-rings
-returns-clause-rings c = λ go.
-    have_rings (plan c.args.drawing.now) c.args.faces.now (IsEmptyFace c.args.faces.now)
-    c.in_ok-found.found.empty.items c.in_ok-found.ensures.empty c.in_ok-empty.empty.items
-    (search rules) go
-
-pub returns-clause-open_rings : goal.returns-clause-open_rings
-returns-clause-open_rings c = λ go.
-    have_rings (plan c.args.drawing.now) c.args.faces.now (IsBroken c.args.faces.now)
-    c.in_ok-found.found.«open».items c.in_ok-found.ensures.broken c.in_ok-open.«open».items
-    (search rules) go
-
 pub returns-clause-faults : goal.returns-clause-faults
-returns-clause-faults c = λ out left faces pairs. record {
-  told = record {
-    meetings = c.requires.meetings;
-    on = c.in_ok-on.ensures (plan c.args.drawing.now) out faces pairs;
-    out = out;
-    out_is = left;
-    r = faces.0;
-    rest = faces.1;
-    over = c.numbers_tell_faults.ensures
-        (plan c.args.drawing.now) faces.0 out faces.1 c.args.faces.now c.in_ok-found.found faces.2
-        c.in_ok-found.ensures;
-    empty = c.numbers_tell_rings.ensures
-        (plan c.args.drawing.now) faces.0 out faces.1 c.args.faces.now
-        c.in_ok-found.found.empty.items c.in_ok-empty.empty.items faces.2 (search rules);
-    broken = c.numbers_tell_rings.ensures
-        (plan c.args.drawing.now) faces.0 out faces.1 c.args.faces.now
-        c.in_ok-found.found.«open».items c.in_ok-open.«open».items faces.2 (search rules);
-  };
-  least = least_sides (plan c.args.drawing.now) faces.0 out faces.1 c.args.faces.now
-      c.in_ok-found.found faces.2 c.in_ok-found.ensures;
-  out = refl;
-}
+returns-clause-faults c = λ out left faces pairs.
+    c.in_ok-faults.ensures.faults (plan c.args.drawing.now) (λ i. i) out c.requires.meetings
+    (c.in_ok-on.ensures (plan c.args.drawing.now) out faces pairs) left faces

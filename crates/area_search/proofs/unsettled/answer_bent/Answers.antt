@@ -7,7 +7,7 @@ use Rattle.area_search.proofs.unsettled.answer_bent.Goals as goal
 
 pub first_undecided-requires-clause-marked : goal.first_undecided-requires-clause-marked
 first_undecided-requires-clause-marked c =
-    subst (AreBreaksMarked (plan c.args.drawing.now) 5) (sym c.deref.ensures.value)
+    subst (AreBreaksMarked (plan c.args.drawing.now) (λ n. 5)) (sym c.deref.ensures.value)
     c.requires.aside.breaks
 
 pub returns-in-Some : goal.returns-in-Some

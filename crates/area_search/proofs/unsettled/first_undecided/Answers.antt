@@ -6,7 +6,7 @@ use Rattle.area_search.proofs.unsettled.first_undecided.Goals as goal
 
 pub first_break_among-requires-clause-alone : goal.first_break_among-requires-clause-alone
 first_break_among-requires-clause-alone c =
-    subst (AreAlone (plan c.args.drawing.now) 5) (sym c.deref.ensures.value) c.in_ok-alone.ensures
+    subst (AreAlone (plan c.args.drawing.now) (λ n. 5)) (sym c.deref.ensures.value) c.in_ok-alone.ensures
 
 pub returns : goal.returns
 returns c = undecided c.in-Some.pair.first c.in-Some.pair.second c.requires.clear

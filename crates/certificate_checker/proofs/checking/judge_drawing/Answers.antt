@@ -12,7 +12,7 @@ judge_list-requires c =
     let d = plan c.args.drawing.now in
     record {
       low = search rules;
-      list = subst (IsListAt d c.args.certificate.now.level) c.in-Some.is
+      list = subst (IsListAt d (λ n. c.args.certificate.now.level)) c.in-Some.is
           c.in_ok-edge_list.ensures.list;
       usable = subst (IsUsable d) c.in-Some.is c.in_ok-edge_list.ensures.usable;
     }
@@ -20,7 +20,7 @@ judge_list-requires c =
 pub returns-in-None : goal.returns-in-None
 returns-in-None c =
     let d = plan c.args.drawing.now in
-    let x = subst (IsListAt d c.args.certificate.now.level) c.in-None.is
+    let x = subst (IsListAt d (λ n. c.args.certificate.now.level)) c.in-None.is
     c.in_ok-edge_list.ensures.list in
     sizes refl refl
     (λ h k. no_tube (arc (curve d x.0)) c.args.certificate.now.level (h.tubes x.0 x.1) x.2)

@@ -12,8 +12,8 @@ judge_case-requires-clause-fit c =
     let level = c.args.certificate.now.level in
     fits _ c.args.list.now c.requires.listed c.deref-2.ensures.value c.deref-3.ensures.value
     c.deref-6.ensures.value (let f = c.args.drawing.now.few_points in omega (arith, f))
-    (subst (AreFacings d level) (sym c.deref-4.ensures.value)
-    (c.in_ok-facings.ensures level c.requires.listed.edges))
+    (subst (AreFacings d (λ n. level)) (sym c.deref-4.ensures.value)
+    (c.in_ok-facings.ensures (λ n. level) c.requires.listed.edges))
     (subst (AreFirsts d level) (sym c.deref-5.ensures.value) c.in_ok-firsts.ensures)
     (subst (λ (ps : List PointPlace). AreHeld d level ps c.deref-7.result.now) c.deref.ensures.value
     (subst (AreHeld d level c.deref.result.now)

@@ -40,7 +40,7 @@ returns-in-Some c =
     (table_at d level c.args.list.now.edges.items table c.requires.list.edges c.requires.table)
     (counts_at d (claims c.args.certificate.now) table c.deref.result.now (c.deref.ensures.value
     ∙ c.requires.list.edges) (c.has_counts.ensures.0 y))
-    (subst (IsFirstForeign d level table) c.in-Some.is f)
+    (subst (IsFirstForeign d (λ n. level) table) c.in-Some.is f)
 
 pub judge_events-requires-clause-listed : goal.judge_events-requires-clause-listed
 judge_events-requires-clause-listed c =
@@ -61,7 +61,7 @@ judge_events-requires-clause-listed c =
           c.requires.table;
       counts = counts_at d (claims c.args.certificate.now) table c.deref.result.now
           (c.deref.ensures.value ∙ c.requires.list.edges) (c.has_counts.ensures.0 y);
-      corners = subst (IsFirstForeign d level table) c.in-None.is f;
+      corners = subst (IsFirstForeign d (λ n. level) table) c.in-None.is f;
     }
 
 pub judge_events-requires-clause-of : goal.judge_events-requires-clause-of

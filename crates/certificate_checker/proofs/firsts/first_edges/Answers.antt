@@ -37,7 +37,7 @@ loop-i-preserved c =
     record {
       size = search rules;
       next = omega (arith, a, n, b, i);
-      each = pushed (λ (k m : ℕ). m ≡ first_edge (drawn_bays d c.args.level) 0 d.curves k)
+      each = pushed (λ (k m : ℕ). m ≡ first_edge (drawn_bays d (λ n. c.args.level)) 0 d.curves k)
           c.loop-i.firsts.items c.push.new.self.items c.loop-i.next 0 c.loop-i.i
           c.loop-i.invariant.size c.in_ok-push.ensures.items c.loop-i.invariant.each i;
     }

@@ -6,7 +6,8 @@ use Rattle.commands.specs.CommandViews.{transfer_of, target_of}
 use Rattle.commands.specs.Gathering.{texts, ReadsAll}
 use Rattle.reports.specs.OutcomeViews.{outcome_of}
 use Rattle.commands.proofs.Results.{if_ok}
-use Rattle.delivery.specs.Pieces.{IsSourceJudged}
+use Rattle.delivery.specs.Pieces.{IsSourceJudgedFor}
+use Rattle.delivery.specs.declared.judging.closing.Wanted.TheVariants.{Everything}
 use Rattle.delivery.specs.declared.transfers.TransferReading.{TransferReading}
 use Rattle.delivery.proofs.Sources.{text_of, unread_ends}
 use Rattle.delivery.proofs.deciding.decide_checked.Goals as goal
@@ -18,8 +19,8 @@ checked-requires-clause-text g c =
     → Type 0 = ReadRose (g.S.Shelf.read_faults c.args.shelf.now)
     (g.S.Shelf.read_faults c.judge_source.new.shelf) in
     let l = layout_view c.args.layout.now in
-    let t = text_of held counted l c.args.source c.in-Judged.judged
-    (subst (λ (r : TransferReading). IsSourceJudged held counted l
+    let t = text_of Everything held counted l c.args.source c.in-Judged.judged
+    (subst (λ (r : TransferReading). IsSourceJudgedFor Everything held counted l
     (transfer_of c.args.source) r) c.in-Judged.is c.in_ok-judged.ensures.judged) in
     (t.0, t.1)
 
@@ -30,8 +31,8 @@ returns-in-Judged-clause-outcome g c =
     → Type 0 = ReadRose (g.S.Shelf.read_faults c.args.shelf.now)
     (g.S.Shelf.read_faults c.judge_source.new.shelf) in
     let l = layout_view c.args.layout.now in
-    let t = text_of held counted l c.args.source c.in-Judged.judged
-    (subst (λ (r : TransferReading). IsSourceJudged held counted l
+    let t = text_of Everything held counted l c.args.source c.in-Judged.judged
+    (subst (λ (r : TransferReading). IsSourceJudgedFor Everything held counted l
     (transfer_of c.args.source) r) c.in-Judged.is c.in_ok-judged.ensures.judged) in
     if_ok _ _ c.checked.result
     (λ o h. record {
@@ -50,11 +51,12 @@ returns-in-Unread-clause-outcome g c =
     (g.S.Shelf.read_faults c.judge_source.new.shelf) in
     let l = layout_view c.args.layout.now in
     let u = subst
-    (λ (r : TransferReading). IsSourceJudged held counted l (transfer_of c.args.source) r)
+    (λ (r : TransferReading).
+    IsSourceJudgedFor Everything held counted l (transfer_of c.args.source) r)
     c.in-Unread.is c.in_ok-judged.ensures.judged in
     if_ok _ _ c.not_read.result
     (λ o h.
-    let e = unread_ends held counted l c.args.source c.in-Unread.refusal (outcome_of o)
+    let e = unread_ends Everything held counted l c.args.source c.in-Unread.refusal (outcome_of o)
     (λ q text. ReadsAll held counted l ([] ++ (text ∷ [])) [] q) u h in
     record {
       gathered = e.0;

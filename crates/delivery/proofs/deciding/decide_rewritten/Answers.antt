@@ -12,6 +12,7 @@ use Rattle.reports.specs.OutcomeViews.{outcome_of}
 use Rattle.delivery.specs.Pieces.{AreFileRows}
 use Rattle.delivery.specs.Rewriting.{misread}
 use Rattle.delivery.specs.declared.transfers.RowsReading.{RowsReading}
+use Rattle.delivery.specs.declared.judging.closing.Wanted.TheVariants.{Everything}
 use Rattle.delivery.proofs.Steps.{rows_unread, unread_ends}
 use Rattle.delivery.proofs.deciding.decide_rewritten.Goals as goal
 
@@ -77,10 +78,12 @@ returns-in-Unread-clause-outcome g c =
     let r = subst
     (λ (r : RowsReading CanonFeed). AreFileRows HoldsRows held name l (counted name) r)
     c.in-Unread.is c.in_ok-kept-2.ensures.rows in
-    let u = rows_unread CanonFeed HoldsRows held name l (counted name) c.in-Unread.refusal r in
+    let u = rows_unread Everything CanonFeed HoldsRows held name l (counted name)
+    c.in-Unread.refusal r in
     if_ok _ _ c.not_read.result
     (λ o h.
-    let e = unread_ends held counted (counted name) name l c.in-Unread.refusal (outcome_of o)
+    let e = unread_ends Everything held counted (counted name) name l c.in-Unread.refusal
+    (outcome_of o)
     (λ q text. ReadsAll held counted l ([] ++ (text ∷ [])) [] q) u (λ n. n) h in
     record {
       gathered = e.0;

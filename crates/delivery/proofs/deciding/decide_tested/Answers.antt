@@ -13,6 +13,7 @@ use Rattle.delivery.specs.LinkRows.{HasLinked}
 use Rattle.delivery.specs.Pieces.{AreFileRows}
 use Rattle.delivery.specs.declared.judging.linking.LinksKept.{LinksKept}
 use Rattle.delivery.specs.declared.transfers.RowsReading.{RowsReading}
+use Rattle.delivery.specs.declared.judging.closing.Wanted.TheVariants.{Everything}
 use Rattle.delivery.proofs.Steps.{ends_on, rose_after, rows_unread, unread_ends}
 use Rattle.delivery.proofs.deciding.decide_tested.Goals as goal
 
@@ -128,10 +129,12 @@ returns-in-Unread-clause-outcome g c =
     let r =
     subst (λ (r : RowsReading LinksKept). AreFileRows HasLinked held name l (counted name) r)
     c.in-Unread.is c.in_ok-kept-2.ensures.rows in
-    let u = rows_unread LinksKept HasLinked held name l (counted name) c.in-Unread.refusal r in
+    let u = rows_unread Everything LinksKept HasLinked held name l (counted name)
+    c.in-Unread.refusal r in
     if_ok _ _ c.not_read.result
     (λ o h.
-    let e = unread_ends held counted (counted name) name l c.in-Unread.refusal (outcome_of o)
+    let e = unread_ends Everything held counted (counted name) name l c.in-Unread.refusal
+    (outcome_of o)
     (λ q text. ReadsAll held counted l ([] ++ (text ∷ [])) (links ∷ []) q) u (λ n. n) h in
     record {
       gathered = e.0;

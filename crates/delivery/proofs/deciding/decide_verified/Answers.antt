@@ -10,7 +10,8 @@ use Rattle.reports.specs.OutcomeViews.{outcome_of}
 use Rattle.commands.proofs.ReadingSteps.{reads_by, reads_then}
 use Rattle.commands.proofs.Results.{if_ok}
 use Rattle.delivery.specs.Ending.{OutcomeAfter}
-use Rattle.delivery.specs.Pieces.{IsSourceJudged}
+use Rattle.delivery.specs.Pieces.{IsSourceJudgedFor}
+use Rattle.delivery.specs.declared.judging.closing.Wanted.TheVariants.{AreasAlone}
 use Rattle.delivery.specs.declared.transfers.TransferReading.{TransferReading}
 use Rattle.delivery.proofs.Sources.{text_of, unread_ends}
 use Rattle.delivery.proofs.Steps.{rose_after, ends_on}
@@ -23,8 +24,8 @@ decide_filed-requires g c =
     → Type 0 = ReadRose (g.S.Shelf.read_faults c.args.shelf.now)
     (g.S.Shelf.read_faults c.judge_source.new.shelf) in
     let l = layout_view c.args.layout.now in
-    let t = text_of held counted l c.args.source c.in-Judged.judged
-    (subst (λ (r : TransferReading). IsSourceJudged held counted l
+    let t = text_of AreasAlone held counted l c.args.source c.in-Judged.judged
+    (subst (λ (r : TransferReading). IsSourceJudgedFor AreasAlone held counted l
     (transfer_of c.args.source) r) c.in-Judged.is c.in_ok-judged.ensures.judged) in
     record { text = (t.0, t.1) }
 
@@ -43,9 +44,9 @@ returns-in-Judged-clause-outcome g c =
     let l = layout_view c.args.layout.now in
     let source = transfer_of c.args.source in
     let filed = from_file Certificate c.args.certificates.now in
-    let t = text_of held first l c.args.source c.in-Judged.judged
-    (subst (λ (r : TransferReading). IsSourceJudged held first l source r) c.in-Judged.is
-    c.in_ok-judged.ensures.judged) in
+    let t = text_of AreasAlone held first l c.args.source c.in-Judged.judged
+    (subst (λ (r : TransferReading). IsSourceJudgedFor AreasAlone held first l source r)
+    c.in-Judged.is c.in_ok-judged.ensures.judged) in
     if_ok _ _ c.decide_filed.result
     (λ o h.
     let moved : OutcomeAfter held near (verifies source filed) l (t.0 ∷ []) (filed ∷ [])
@@ -80,11 +81,12 @@ returns-in-Unread-clause-outcome g c =
     let l = layout_view c.args.layout.now in
     let filed = from_file Certificate c.args.certificates.now in
     let u = subst
-    (λ (r : TransferReading). IsSourceJudged held counted l (transfer_of c.args.source) r)
+    (λ (r : TransferReading).
+    IsSourceJudgedFor AreasAlone held counted l (transfer_of c.args.source) r)
     c.in-Unread.is c.in_ok-judged.ensures.judged in
     if_ok _ _ c.not_read.result
     (λ o h.
-    let e = unread_ends held counted l c.args.source c.in-Unread.refusal (outcome_of o)
+    let e = unread_ends AreasAlone held counted l c.args.source c.in-Unread.refusal (outcome_of o)
     (λ q text. ReadsAll held counted l ([] ++ (text ∷ [])) (filed ∷ []) q) u h in
     record {
       gathered = e.0;

@@ -5,7 +5,6 @@ use Rattle.commands.specs.declared.files.File.TheVariants.{Transfer}
 use Rattle.reports.specs.OutcomeViews.{outcome_of}
 use Rattle.commands.proofs.Results.{if_ok}
 use Rattle.delivery.specs.Pieces.{IsTransfer}
-use Rattle.delivery.specs.declared.drawn.Delivered.{Delivered}
 use Rattle.delivery.specs.declared.transfers.TransferReading.{TransferReading}
 use Rattle.delivery.proofs.EarlyEnds.{drawn_file, not_read_early, not_read_passes}
 use Rattle.delivery.proofs.EarlyEnds.{unread_check}

@@ -11,7 +11,8 @@ use Rattle.area_drawings.proofs.FewCurves.{few_curves}
 use Rattle.area_drawings.proofs.Zips.{drawn_count}
 use Rattle.delivery.specs.FiledTexts.{AreVerified}
 use Rattle.delivery.specs.Judging.{sound}
-use Rattle.delivery.specs.Pieces.{IsSound}
+use Rattle.delivery.specs.Pieces.{IsSoundFor}
+use Rattle.delivery.specs.declared.judging.closing.Wanted.TheVariants.{AreasAlone}
 use Rattle.delivery.specs.declared.rows.Sound.{Sound}
 use Rattle.commands.proofs.Results.{if_ok}
 use Rattle.delivery.proofs.Steps.{ended_for}
@@ -21,8 +22,8 @@ pub verify_drawn-requires-clause-drawn : goal.verify_drawn-requires-clause-drawn
 verify_drawn-requires-clause-drawn c =
     let l = layout_view c.args.layout.now in
     let text = c.requires.text.0 in
-    let j = subst (λ (x : Sound). IsSound l text x) c.in-Drawn.is
-    (c.in_ok-count.ensures l text c.requires.text.1) in
+    let j = subst (λ (x : Sound). IsSoundFor AreasAlone l text x) c.in-Drawn.is
+    (c.in_ok-count.ensures AreasAlone l text c.requires.text.1) in
     ap length c.deref.ensures.value
     ∙ drawn_count l j.0 c.args.layout.now.areas.items c.in-Drawn.drawings.items j.5
 
@@ -31,8 +32,8 @@ verify_drawn-requires-clause-small c =
     let l = layout_view c.args.layout.now in
     let text = c.requires.text.0 in
     let j =
-    subst (λ (x : Sound). IsSound l text x) c.in-Drawn.is
-    (c.in_ok-count.ensures l text c.requires.text.1) in
+    subst (λ (x : Sound). IsSoundFor AreasAlone l text x) c.in-Drawn.is
+    (c.in_ok-count.ensures AreasAlone l text c.requires.text.1) in
     subst (λ (ds : List Drawing). All IsSmallPlan (plans ds)) (sym c.deref.ensures.value)
     (few_curves l j.0 (plans c.in-Drawn.drawings.items) j.3 j.5)
 
@@ -41,16 +42,16 @@ verify_drawn-requires-clause-tolerances c =
     let l = layout_view c.args.layout.now in
     let text = c.requires.text.0 in
     let j =
-    subst (λ (x : Sound). IsSound l text x) c.in-Drawn.is
-    (c.in_ok-count.ensures l text c.requires.text.1) in
+    subst (λ (x : Sound). IsSoundFor AreasAlone l text x) c.in-Drawn.is
+    (c.in_ok-count.ensures AreasAlone l text c.requires.text.1) in
     subst (λ (ds : List Drawing). AllZip (HasTolerance l) l.areas ds)
     (sym c.deref.ensures.value) j.6
 
 pub returns-in-Drawn : goal.returns-in-Drawn
 returns-in-Drawn c text spelling h r =
     let l = layout_view c.args.layout.now in
-    let j = subst (λ (x : Sound). IsSound l text x) c.in-Drawn.is
-    (c.in_ok-count.ensures l text h) in
+    let j = subst (λ (x : Sound). IsSoundFor AreasAlone l text x) c.in-Drawn.is
+    (c.in_ok-count.ensures AreasAlone l text h) in
     if_ok _ _ c.verify_drawn.result (λ o e. sound (j.0, j.1, j.2, j.3, e))
     (c.verify_drawn.ensures spelling j.0 r j.4
     (subst (λ (ds : List Drawing). AreDrawings l j.0 (plans ds))
@@ -60,4 +61,5 @@ pub returns-in-Ended : goal.returns-in-Ended
 returns-in-Ended c text spelling h r =
     let l = layout_view c.args.layout.now in
     ended_for l text (AreVerified l spelling) (outcome_of c.in-Ended.outcome)
-    (subst (λ (x : Sound). IsSound l text x) c.in-Ended.is (c.in_ok-count.ensures l text h))
+    (subst (λ (x : Sound). IsSoundFor AreasAlone l text x) c.in-Ended.is
+    (c.in_ok-count.ensures AreasAlone l text h))

@@ -16,7 +16,7 @@ returns-in-Unread-clause-transfer g c =
     let old = g.S.Shelf.read_faults c.args.shelf.now in
     let new = g.S.Shelf.read_faults c.read_for.new.shelf in
     let rose = Rose (old name) (new name) in
-    rows_unread TransferKept HasTaken held name l rose c.in-Unread.refusal
+    rows_unread c.args.wanted TransferKept HasTaken held name l rose c.in-Unread.refusal
     (subst (λ (r : RowsReading TransferKept). AreFileRows HasTaken held name l rose r)
     c.in-Unread.is c.in_ok-refusal.ensures.rows)
 

@@ -3,10 +3,10 @@ use Rattle.fault_lists.proofs.laws.each_fault_is_told.Goals as goal
 
 pub returns : goal.returns
 returns c = record {
-  meeting = λ d f i j all bad. all.meetings.all i j bad;
-  on = λ d f j i all lies. all.on.all j i lies;
-  outside = λ d f all j. outside_told d f all j;
-  two = λ d f all i j. two_told d f all i j;
-  empty = λ d f all z. empty_told d f all z;
-  cut = λ d f all i c l. cut_told d f all i c l;
+  meeting = λ d g origin f i j all bad. all.meetings.all i j bad;
+  on = λ d g origin f j i all lies. all.on.all j i lies;
+  outside = λ d g origin f all j. outside_told d g origin f all j;
+  two = λ d g origin f all i j. two_told d g origin f all i j;
+  empty = λ d g origin f all z. empty_told d g origin f all z;
+  cut = λ d g origin f all i c l. cut_told d g origin f all i c l;
 }

@@ -1,3 +1,4 @@
+use Rattle.ports.specs.Faults.{Rose}
 use Rattle.itffaults.proofs.Calls.{all_small, all_tolerant, as_many, tells, told_memory}
 use Rattle.itffaults.proofs.Calls.{told_writes}
 use Rattle.itffaults.proofs.running.tell_clean.Goals as goal
@@ -26,6 +27,7 @@ publish-requires g c = record { sound = λ e. told_writes _ _ _ _ _ _ _ c.in-Ok.
 pub returns-in-Ok-clause-told : goal.returns-in-Ok-clause-told
 returns-in-Ok-clause-told g c n model transfer h =
     tells (g.S.Shelf.held c.args.shelf.now) model transfer c.args.clean.now h c.args.name.now
+    (Rose (g.S.Shelf.write_faults c.args.shelf.now) (g.S.Shelf.write_faults c.publish.new.shelf))
     c.publish.result (g.S.Shelf.held c.publish.new.shelf) (g.K.Sink.written c.args.out.now)
     (g.K.Sink.written c.publish.new.out) c.in-Ok.telling.text c.in-Ok.telling.report.items
     c.in-Ok.telling.status

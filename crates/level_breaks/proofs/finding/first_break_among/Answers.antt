@@ -18,12 +18,12 @@ returns-clause-settled c = λ e.
     c.deref-3.ensures.value
     (subst (λ (cs : List Curve). IsFirstBare cs c.deref-3.result.now c.first_bare-bare.result)
     c.deref-2.ensures.value c.first_bare-bare.ensures) in
-    none_is_settled d c.args.level ts c.in_ok-tubes.ensures c.in_ok-pair.pair
+    none_is_settled d (λ n. c.args.level) ts c.in_ok-tubes.ensures c.in_ok-pair.pair
     c.first_bare-bare.result c.in_ok-pair.ensures.some c.in_ok-pair.ensures.none first
     (any_meet c.meetings_are_decided.ensures.decided c.meetings_are_decided.ensures.fine)
-    (c.own_edges_of_tubes.ensures.meet d (drawn_bays d c.args.level))
-    (c.own_edges_of_tubes.ensures.enter d (drawn_bays d c.args.level))
-    (c.edges_of_tubed_drawing.ensures.tubes d c.args.level) n.0 n.1
+    (c.own_edges_of_tubes.ensures.meet d (drawn_bays d (λ n. c.args.level)))
+    (c.own_edges_of_tubes.ensures.enter d (drawn_bays d (λ n. c.args.level)))
+    (c.edges_of_tubed_drawing.ensures.tubes d (λ n. c.args.level)) n.0 n.1
 
 pub returns-clause-breaks : goal.returns-clause-breaks
 returns-clause-breaks c =
@@ -35,6 +35,6 @@ returns-clause-breaks c =
     (subst (λ (cs : List Curve). IsFirstBare cs c.deref-3.result.now c.first_bare-bare.result)
     c.deref-2.ensures.value c.first_bare-bare.ensures) in
     some_mapped c.lesser.result _ _
-    (lesser_is_first d c.args.level ts c.in_ok-tubes.ensures c.in_ok-pair.pair
+    (lesser_is_first d (λ n. c.args.level) ts c.in_ok-tubes.ensures c.in_ok-pair.pair
     c.first_bare-bare.result c.in_ok-pair.ensures.some c.in_ok-pair.ensures.none first)
     c.lesser.ensures.some

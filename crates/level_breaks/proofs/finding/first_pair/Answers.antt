@@ -12,7 +12,7 @@ least-requires-clause-near c = λ i j l m.
     let t = c.args.tubes.now in
     let bs = boxes_of_drawing d t c.deref.result.now c.in_ok-boxes.boxes.items c.deref-3.result.now
     c.deref.ensures.value c.deref-3.ensures.value c.in_ok-boxes.ensures in
-    broken_near d c.args.level c.boxes_hold_means.ensures.straight c.boxes_hold_means.ensures.tube t
+    broken_near d (λ n. c.args.level) c.boxes_hold_means.ensures.straight c.boxes_hold_means.ensures.tube t
     c.deref-3.result.now c.args.marked.now c.requires.tubes bs c.requires.marked i j l
     (subst (λ (n : ℕ). j < n) bs.size m)
 
@@ -22,7 +22,7 @@ returns-clause-some c =
     let n = boxes_count d c.args.tubes.now c.deref.result.now c.in_ok-boxes.boxes.items
     c.deref-3.result.now c.deref.ensures.value c.deref-3.ensures.value c.in_ok-boxes.ensures in
     subst (λ (k : ℕ). IfOk c.least.result
-    (λ r. IfSome r (λ p. IsLeastPair (Breaks d c.args.level) k p))) n c.least.ensures.some
+    (λ r. IfSome r (λ p. IsLeastPair (Breaks d (λ n. c.args.level)) k p))) n c.least.ensures.some
 
 pub returns-clause-none : goal.returns-clause-none
 returns-clause-none c =
@@ -30,4 +30,4 @@ returns-clause-none c =
     let n = boxes_count d c.args.tubes.now c.deref.result.now c.in_ok-boxes.boxes.items
     c.deref-3.result.now c.deref.ensures.value c.deref-3.ensures.value c.in_ok-boxes.ensures in
     subst (λ (k : ℕ). IfOk c.least.result (λ r. r ≡ None → (i j : ℕ) → i < j → j < k
-    → Breaks d c.args.level i j → ⊥)) n c.least.ensures.none
+    → Breaks d (λ n. c.args.level) i j → ⊥)) n c.least.ensures.none

@@ -7,14 +7,14 @@ use Rattle.level_breaks.proofs.laws.straights_are_settled.Goals as goal
 
 pub returns : goal.returns
 returns c d s none =
-    settled d 0 (λ i h. absurd (no_half_arc d s i h))
+    settled d (λ n. 0) (λ i h. absurd (no_half_arc d s i h))
     (λ i j l h. elim (one_is_half_arc
-    (λ a b e f k m p q. (c.edges_of_straights.ensures.bad a b e f k m p q).0) d 0
+    (λ a b e f k m p q. (c.edges_of_straights.ensures.bad a b e f k m p q).0) d (λ n. 0)
     (no_bad_straights d none) i j h) [
       | inl a ↦ no_half_arc d s i a
       | inr a ↦ no_half_arc d s j a
     ])
     (any_meet c.meetings_are_decided.ensures.decided c.meetings_are_decided.ensures.fine)
-    (c.own_edges_of_tubes.ensures.meet d (drawn_bays d 0))
-    (c.own_edges_of_tubes.ensures.enter d (drawn_bays d 0))
-    (c.edges_of_tubed_drawing.ensures.tubes d 0)
+    (c.own_edges_of_tubes.ensures.meet d (drawn_bays d (λ n. 0)))
+    (c.own_edges_of_tubes.ensures.enter d (drawn_bays d (λ n. 0)))
+    (c.edges_of_tubed_drawing.ensures.tubes d (λ n. 0))

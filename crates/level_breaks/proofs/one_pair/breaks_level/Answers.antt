@@ -1,4 +1,4 @@
-use Rattle.std.proofs.Common.{arith}
+use Rattle.std.proofs.Common.{arith, ℕ}
 use Rattle.plane.specs.Rule.Plans.{plan}
 use Rattle.tubes.specs.TubedEdges.{drawn_bays}
 use Rattle.level_breaks.proofs.PairBreaks.{breaks_is, fit_at, indexed_at, made_at, placed}
@@ -19,7 +19,7 @@ tube_for-requires-2-clause-fit c =
 pub are_breaking-requires : goal.are_breaking-requires
 are_breaking-requires c = λ eg eh.
     let d = plan c.args.drawing.now in
-    let l = c.args.level in
+    let l : ℕ → ℕ = λ n. c.args.level in
     let i = c.args.first in
     let j = c.args.second in
     let o = c.requires.order in
@@ -32,12 +32,12 @@ are_breaking-requires c = λ eg eh.
     (made_at d l j c.index-next.result.now c.in_ok-next_tube.next_tube c.grouped-other.result
     (indexed_at d j c.index-next.result.now _ c.requires.there c.index-next.ensures)
     c.in_ok-next_tube.ensures c.grouped-other.ensures.curve c.grouped-other.ensures.tube
-    c.grouped-other.ensures.reach) c.requires.level c.args.drawing.now.curves_drawn eg eh
+    c.grouped-other.ensures.reach) (λ n. c.requires.level) c.args.drawing.now.curves_drawn eg eh
 
 pub returns : goal.returns
 returns c =
     let d = plan c.args.drawing.now in
-    let l = c.args.level in
+    let l : ℕ → ℕ = λ n. c.args.level in
     let i = c.args.first in
     let j = c.args.second in
     let o = c.requires.order in

@@ -8,7 +8,8 @@ use Rattle.line_sweep.proofs.sweeping.block_at.Goals as goal
 
 pub find_block-requires-clause-known : goal.find_block-requires-clause-known
 find_block-requires-clause-known c =
-    live_known c.args.edges.now (table_of c.args.table.now) c.args.event _ _ _ _ _ c.requires.sorted
+    live_known c.args.edges.now (table_of c.args.table.now) c.args.event _ _ _ _ _ _
+    c.requires.sorted
     c.requires.table c.requires.event c.requires.swept
 
 pub find_block-requires-clause-close : goal.find_block-requires-clause-close
@@ -24,7 +25,7 @@ returns-in-Ok-clause-block c =
 
 pub returns-in-Err-clause-refused : goal.returns-in-Err-clause-refused
 returns-in-Err-clause-refused c =
-    through_is_bad c.args.edges.now (table_of c.args.table.now) c.args.event _ _ _ _ _
+    through_is_bad c.args.edges.now (table_of c.args.table.now) c.args.event _ _ _ _ _ _
     c.requires.sorted c.requires.table c.requires.event c.requires.swept c.in-Err.edge
     c.edge_of_event.result
     (subst (λ p. IsThrough (edge_of c.args.edges.now) c.args.state.now.live p c.in-Err.edge)

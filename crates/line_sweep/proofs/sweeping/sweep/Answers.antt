@@ -15,8 +15,8 @@ run-requires-clause-begun c =
     let b = c.in_ok-state.ensures in
     let none = ap (moves_at_blocks (table_of c.in_ok-table.table)) b.blocks
     ∙ no_moves (table_of c.in_ok-table.table) in
-    begun c.args.edges.now (table_of c.in_ok-table.table) _ _ _ _ _ c.in_ok-table.ensures b.live
-    b.since b.ended none (ap gaps_of b.cells)
+    begun c.args.edges.now (table_of c.in_ok-table.table) _ _ _ _ _ _ c.in_ok-table.ensures b.live
+    b.held b.ended none (ap gaps_of b.cells)
 
 pub new-requires-2 : goal.new-requires-2
 new-requires-2 c = record {
@@ -29,7 +29,8 @@ pub returns-clause-run : goal.returns-clause-run
 returns-clause-run c =
     subst (λ vs. Run (length c.args.edges.now) (edge_of c.args.edges.now) (steps_from [] vs))
     (sym c.new-2.ensures)
-    (run_at_end c.args.edges.now (table_of c.in_ok-table.table) _ _ _ _ _ c.in_ok-run.ensures.done)
+    (run_at_end c.args.edges.now (table_of c.in_ok-table.table) _ _ _ _ _ _
+    c.in_ok-run.ensures.done)
 
 pub returns-clause-fit : goal.returns-clause-fit
 returns-clause-fit c = subst (Fit []) (sym c.new-2.ensures) c.in_ok-run.ensures.done.fit
@@ -40,9 +41,10 @@ returns-clause-cells c = c.in_ok-run.ensures.done.closed ∙ ap closed_gaps (sym
 pub returns-clause-timed : goal.returns-clause-timed
 returns-clause-timed c =
     subst (HasTimetable c.args.edges.now) (sym c.new-2.ensures)
-    (timed_at_end c.args.edges.now (table_of c.in_ok-table.table) _ _ _ _ _ c.in_ok-table.ensures
+    (timed_at_end c.args.edges.now (table_of c.in_ok-table.table) _ _ _ _ _ _ c.in_ok-table.ensures
     c.in_ok-run.ensures.done)
 
 pub returns-clause-clear : goal.returns-clause-clear
 returns-clause-clear c =
-    clear_at_end c.args.edges.now (table_of c.in_ok-table.table) _ _ _ _ _ c.in_ok-run.ensures.done
+    clear_at_end c.args.edges.now (table_of c.in_ok-table.table) _ _ _ _ _ _
+    c.in_ok-run.ensures.done

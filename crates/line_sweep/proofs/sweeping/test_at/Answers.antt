@@ -7,7 +7,7 @@ use Rattle.line_sweep.proofs.sweeping.test_at.Goals as goal
 pub test_neighbours-requires-clause-known : goal.test_neighbours-requires-clause-known
 test_neighbours-requires-clause-known c d e h =
     let known = neighbours_known c.args.edges.now
-    (table_of c.args.table.now) c.args.event _ _ _ _ _ c.requires.sorted c.requires.table
+    (table_of c.args.table.now) c.args.event _ _ _ _ _ _ c.requires.sorted c.requires.table
     c.requires.event c.requires.swept
     c.args.block.from c.args.block.count c.requires.block c.args.beside.lower c.args.beside.upper
     c.requires.beside d e
@@ -18,7 +18,7 @@ test_neighbours-requires-clause-known c d e h =
 pub returns-in-Err-clause-refused : goal.returns-in-Err-clause-refused
 returns-in-Err-clause-refused c =
     let known = neighbours_known c.args.edges.now
-    (table_of c.args.table.now) c.args.event _ _ _ _ _ c.requires.sorted c.requires.table
+    (table_of c.args.table.now) c.args.event _ _ _ _ _ _ c.requires.sorted c.requires.table
     c.requires.event c.requires.swept
     c.args.block.from c.args.block.count c.requires.block c.args.beside.lower c.args.beside.upper
     c.requires.beside c.in-Err.pair.0 c.in-Err.pair.1

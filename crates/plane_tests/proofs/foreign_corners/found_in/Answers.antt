@@ -8,6 +8,6 @@ found_among-requires c =
     let d = plan c.args.drawing.now in
     record {
       low = c.requires;
-      list = subst (IsListAt d c.args.level) c.in-Some.is c.in_ok-list.ensures.list;
+      list = subst (IsListAt d (λ n. c.args.level)) c.in-Some.is c.in_ok-list.ensures.list;
       usable = subst (IsUsable d) c.in-Some.is c.in_ok-list.ensures.usable;
     }

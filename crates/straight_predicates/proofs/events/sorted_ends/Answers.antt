@@ -19,5 +19,5 @@ returns c =
     sorted_all c.args.edges.now _ c.requires.sorted
     (subst (λ zs. IsPermutation zs (ends_in c.sort.new.self)) (c.loop-i.invariant.ends
     ∙ ap (λ es. all_ends 0 es) (take_all c.loop-i.i c.args.edges.now c.loop-i-test.false))
-    c.sort.ensures.permutation)
-    c.sort.ensures.sorted
+    c.in_ok-sort.ensures.permutation)
+    c.in_ok-sort.ensures.sorted

@@ -32,7 +32,7 @@ loop-i-preserved c =
     c.if-not-branch.false c.in_ok-add_curve.ensures in
     let b = subst
     (λ (cs : List Curve). IsAdded i (get_or cs i z) c.args.level old new past more true) d a in
-    let s = list_step p c.args.level i old new _ past more _ l b.1 c.loop-i.invariant.edges
+    let s = list_step p (λ k. c.args.level) i old new _ past more _ l b.1 c.loop-i.invariant.edges
     c.loop-i.invariant.owners in
     record {
       edges = s.0;
@@ -47,8 +47,8 @@ returns-clause-usable c =
     let i = c.loop-i.i in
     let l = subst (λ (cs : List Curve). length cs ≤ i) c.deref-curve-items.ensures.value
     c.loop-i-test.false in
-    let e = list_ends p c.args.level i c.loop-i.edges.items _ c.loop-i.owners.items _ l
+    let e = list_ends p (λ k. c.args.level) i c.loop-i.edges.items _ c.loop-i.owners.items _ l
     c.loop-i.invariant.edges c.loop-i.invariant.owners in
-    usable p c.args.level c.loop-i.edges.items c.args.drawing.now.curves_drawn
+    usable p (λ k. c.args.level) c.loop-i.edges.items c.args.drawing.now.curves_drawn
     c.args.drawing.now.points_inside (λ k h. let t = h.there in
     c.loop-i.invariant.tubes k (omega (arith, t, l)) h.kind) e.0

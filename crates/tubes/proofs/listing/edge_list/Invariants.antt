@@ -9,12 +9,12 @@ use Rattle.tubes.proofs.listing.edge_list.Given as goal
 
 abbrev pub invariant-loop-i : goal.invariant-loop-i
 invariant-loop-i l = record {
-  edges : l.edges.items ++ rest_edges (plan l.drawing) l.level l.i
+  edges : l.edges.items ++ rest_edges (plan l.drawing) (λ i. l.level) l.i
       ≡ map edge_as
-      (runs.edge_list (drawn_bays (plan l.drawing) l.level) 0 (plan l.drawing).curves);
-  owners : l.owners.items ++ rest_owners (plan l.drawing) l.level l.i
+      (runs.edge_list (drawn_bays (plan l.drawing) (λ i. l.level)) 0 (plan l.drawing).curves);
+  owners : l.owners.items ++ rest_owners (plan l.drawing) (λ i. l.level) l.i
       ≡ map owner_as
-      (runs.edge_list (drawn_bays (plan l.drawing) l.level) 0 (plan l.drawing).curves);
+      (runs.edge_list (drawn_bays (plan l.drawing) (λ i. l.level)) 0 (plan l.drawing).curves);
   tubes : (k : ℕ) → k < l.i → (curve (plan l.drawing) k).kind ≡ kind.HalfArc
       → HasTube (arc (curve (plan l.drawing) k)) l.level;
 }

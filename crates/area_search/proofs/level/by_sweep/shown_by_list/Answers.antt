@@ -13,7 +13,7 @@ shown_by_edges-requires-clause-first c =
     let l = b.first in
     let e = ap length c.deref.ensures.value in
     let o = ap length c.deref-in-Err-Bad.ensures.value in
-    let s = c.tubed_lists.ensures.sizes d c.args.level c.args.list c.requires.list in
+    let s = c.tubed_lists.ensures.sizes d (λ n. c.args.level) c.args.list c.requires.list in
     omega (arith, l, e, o, s)
 
 pub shown_by_edges-requires-clause-second : goal.shown_by_edges-requires-clause-second
@@ -24,7 +24,7 @@ shown_by_edges-requires-clause-second c =
     let l = b.second in
     let e = ap length c.deref.ensures.value in
     let o = ap length c.deref-in-Err-Bad.ensures.value in
-    let s = c.tubed_lists.ensures.sizes d c.args.level c.args.list c.requires.list in
+    let s = c.tubed_lists.ensures.sizes d (λ n. c.args.level) c.args.list c.requires.list in
     omega (arith, l, e, o, s)
 
 pub shown_by_edges-requires-clause-curves : goal.shown_by_edges-requires-clause-curves
@@ -33,15 +33,15 @@ shown_by_edges-requires-clause-curves c =
     let l = c.args.level in
     let t = c.requires.list in
     owners_there d l c.args.list c.deref-in-Err-Bad.result.now c.deref-in-Err-Bad.ensures.value
-    (c.tubed_lists.ensures.sizes d l c.args.list t)
-    (c.tubed_lists.ensures.edges d l c.args.list t)
-    (λ e m. c.tubed_lists.ensures.owners d l c.args.list no_owner e t m)
-    (c.chains_have_edges.ensures.owner d l)
+    (c.tubed_lists.ensures.sizes d (λ n. l) c.args.list t)
+    (c.tubed_lists.ensures.edges d (λ n. l) c.args.list t)
+    (λ e m. c.tubed_lists.ensures.owners d (λ n. l) c.args.list no_owner e t m)
+    (c.chains_have_edges.ensures.owner d (λ n. l))
 
 pub returns-in-Err-Bad : goal.returns-in-Err-Bad
 returns-in-Err-Bad c =
     let d = plan c.args.drawing.now in
-    let e = c.tubed_lists.ensures.edges d c.args.level c.args.list c.requires.list in
+    let e = c.tubed_lists.ensures.edges d (λ n. c.args.level) c.args.list c.requires.list in
     c.shown_by_edges.ensures c.args.level
     (λ s. never_bad d c.args.level c.args.list e s c.meetings_are_decided.ensures.apart
     c.meetings_are_decided.ensures.touch c.deref.result.now c.deref.ensures.value _ _

@@ -15,7 +15,7 @@ returns-clause-own c =
     c.deref-3.ensures.value c.deref-4.ensures.value c.events.ensures in
     λ e p. none_found d c.args.level table c.in_ok-found.found c.is_some.result f c.is_some.ensures
     e
-    (c.settled_levels.ensures.corners d c.args.level table p
+    (c.settled_levels.ensures.corners d (λ n. c.args.level) table p
     (table_at d c.args.level c.args.list.now table c.deref.result.now c.requires.list
     c.deref.ensures.value c.in_ok-table.ensures))
 
@@ -29,4 +29,11 @@ returns-clause-foreign c =
     c.deref.ensures.value c.in_ok-table.ensures c.deref-2.ensures.value c.in_ok-of.ensures
     c.deref-3.ensures.value c.deref-4.ensures.value c.events.ensures in
     λ t s. one_found d c.args.level table c.in_ok-found.found c.is_some.result f c.is_some.ensures t
-    (λ k h. c.settled_levels.ensures.foreign d c.args.level k table h s)
+    (λ k h. c.settled_levels.ensures.foreign d (λ n. c.args.level) k table h s)
+
+pub are_corners_own-requires-clause-list : goal.are_corners_own-requires-clause-list
+are_corners_own-requires-clause-list c = (c.args.level, c.requires.list)
+
+pub returns-then-are_corners_own-clause-own : goal.returns-then-are_corners_own-clause-own
+returns-then-are_corners_own-clause-own c = λ e p.
+    c.are_corners_own.ensures c.if-are_corners_own.true c.args.level c.requires.list p

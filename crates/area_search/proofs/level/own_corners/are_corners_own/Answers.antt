@@ -17,6 +17,6 @@ returns c =
     let e = c.len-number-end.ensures in
     let f = c.loop-number-test.false in
     λ h level t. all_own d level c.args.list.now t
-    (λ e l. c.tubed_lists.ensures.owners d level c.args.list.now no_owner e t l)
+    (λ e l. c.tubed_lists.ensures.owners d (λ n. level) c.args.list.now no_owner e t l)
     c.args.events.now c.requires.timed
     (λ k l. c.loop-number.invariant k (omega (arith, l, n, e, f)))

@@ -16,9 +16,9 @@ are_paired-requires-clause-curves c =
     subst (λ (os : List Owner). (e : ℕ) → e < length os → (owner_at os e).curve < 1073741824)
     (sym c.deref-3.ensures.value)
     (curves_below (plan c.args.drawing.now) c.args.level c.args.list.now
-    c.in_ok-facings.facings.items (c.in_ok-facings.ensures c.args.level c.requires.list)
+    c.in_ok-facings.facings.items (c.in_ok-facings.ensures (λ n. c.args.level) c.requires.list)
     c.requires.list (omega (arith, few))
-    (c.chains_have_edges.ensures.owner (plan c.args.drawing.now) c.args.level))
+    (c.chains_have_edges.ensures.owner (plan c.args.drawing.now) (λ n. c.args.level)))
 
 pub returns-then-not-are_paired-clause-unsettled : goal.returns-then-not-are_paired-clause-unsettled
 returns-then-not-are_paired-clause-unsettled c = λ e s.
@@ -31,10 +31,10 @@ returns-then-not-are_paired-clause-unsettled c = λ e s.
     l.owners.items c.deref.result.now c.args.swept.now.cells.items vs c.deref-2.ensures.value
     c.deref-3.ensures.value c.deref.ensures.value c.requires.cells
     (settled_pairs d c.args.level l c.requires.list c.in_ok-facings.facings.items
-    (c.in_ok-facings.ensures c.args.level c.requires.list) vs c.requires.fit
-    (c.settled_levels.ensures.run d c.args.level l
+    (c.in_ok-facings.ensures (λ n. c.args.level) c.requires.list) vs c.requires.fit
+    (c.settled_levels.ensures.run d (λ n. c.args.level) l
     (steps_from [] vs) c.requires.list s c.requires.run)
-    (λ m E t. c.blank_labels.ensures.pair (pos 0) d (drawn_bays d c.args.level) m E
+    (λ m E t. c.blank_labels.ensures.pair (pos 0) d (drawn_bays d (λ n. c.args.level)) m E
     (steps_from [] vs) t)))
 
 pub returns-clause-case : goal.returns-clause-case
@@ -45,11 +45,11 @@ returns-clause-case c =
     let y : IsTrue c.are_paired.result = search rules in
     let own = c.in_ok-has_foreign_corner.ensures.own (search rules) in
     is_case d c.args.level l c.requires.list c.in_ok-facings.facings.items
-    (c.in_ok-facings.ensures c.args.level c.requires.list) vs c.requires.fit
-    (c.settled_levels.ensures.wide d c.args.level c.requires.list.tubes)
-    (c.settled_levels.ensures.own d c.args.level l
+    (c.in_ok-facings.ensures (λ n. c.args.level) c.requires.list) vs c.requires.fit
+    (c.settled_levels.ensures.wide d (λ n. c.args.level) c.requires.list.tubes)
+    (c.settled_levels.ensures.own d (λ n. c.args.level) l
     (steps_from [] vs) c.requires.list own c.requires.run)
-    (c.settled_levels.ensures.level d c.args.level (steps_from [] vs) c.requires.list.tubes)
+    (c.settled_levels.ensures.level d (λ n. c.args.level) (steps_from [] vs) c.requires.list.tubes)
     (paired_level c.deref-2.result.now c.in_ok-facings.facings.items c.deref-3.result.now
     l.owners.items c.deref.result.now c.args.swept.now.cells.items vs c.deref-2.ensures.value
     c.deref-3.ensures.value c.deref.ensures.value c.requires.cells (c.are_paired.ensures.0 y))
@@ -63,11 +63,11 @@ returns-clause-settled c =
     let y : IsTrue c.are_paired.result = search rules in
     let own = c.in_ok-has_foreign_corner.ensures.own (search rules) in
     is_settled d c.args.level l c.requires.list c.in_ok-facings.facings.items
-    (c.in_ok-facings.ensures c.args.level c.requires.list) vs c.requires.fit
-    (c.settled_levels.ensures.wide d c.args.level c.requires.list.tubes)
-    (c.settled_levels.ensures.own d c.args.level l
+    (c.in_ok-facings.ensures (λ n. c.args.level) c.requires.list) vs c.requires.fit
+    (c.settled_levels.ensures.wide d (λ n. c.args.level) c.requires.list.tubes)
+    (c.settled_levels.ensures.own d (λ n. c.args.level) l
     (steps_from [] vs) c.requires.list own c.requires.run)
-    (c.settled_levels.ensures.level d c.args.level (steps_from [] vs) c.requires.list.tubes)
+    (c.settled_levels.ensures.level d (λ n. c.args.level) (steps_from [] vs) c.requires.list.tubes)
     (paired_level c.deref-2.result.now c.in_ok-facings.facings.items c.deref-3.result.now
     l.owners.items c.deref.result.now c.args.swept.now.cells.items vs c.deref-2.ensures.value
     c.deref-3.ensures.value c.deref.ensures.value c.requires.cells (c.are_paired.ensures.0 y))

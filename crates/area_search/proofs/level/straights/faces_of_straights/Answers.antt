@@ -8,8 +8,8 @@ use Rattle.area_search.proofs.level.straights.faces_of_straights.Goals as goal
 pub faces_of_list-requires-clause-few : goal.faces_of_list-requires-clause-few
 faces_of_list-requires-clause-few c =
     let d = plan c.args.drawing.now in
-    let t = subst (IsListAt d 0) c.in-Some.is c.in_ok-list.ensures.list in
-    few_of d 0 c.in-Some.list t (c.few_edges.ensures d 0 (omega arith) t.tubes) c.requires.curves
+    let t = subst (IsListAt d (λ n. 0)) c.in-Some.is c.in_ok-list.ensures.list in
+    few_of d 0 c.in-Some.list t (c.few_edges.ensures d (λ n. 0) (omega arith) t.tubes) c.requires.curves
 
 pub faces_of_list-requires-clause-settled : goal.faces_of_list-requires-clause-settled
 faces_of_list-requires-clause-settled c =
@@ -23,5 +23,5 @@ faces_of_list-requires-clause-settled c =
 pub unreachable-requires : goal.unreachable-requires
 unreachable-requires c =
     let d = plan c.args.drawing.now in
-    let (i, half, none) = subst (IsListAt d 0) c.in-None.is c.in_ok-list.ensures.list in
+    let (i, half, none) = subst (IsListAt d (λ n. 0)) c.in-None.is c.in_ok-list.ensures.list in
     no_half_arc d c.requires.straights i half

@@ -6,7 +6,7 @@ pub faces_of_run-requires-clause-drawn : goal.faces_of_run-requires-clause-drawn
 faces_of_run-requires-clause-drawn c =
     let d = plan c.args.drawing.now in
     sym c.requires.list.edges
-    ∙ c.edges_of_tubed_drawing.ensures.straights d 0 c.args.list c.requires.list
+    ∙ c.edges_of_tubed_drawing.ensures.straights d (λ n. 0) c.args.list c.requires.list
     c.requires.straights
 
 pub unreachable-requires : goal.unreachable-requires

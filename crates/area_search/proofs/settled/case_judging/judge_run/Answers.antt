@@ -68,10 +68,10 @@ owners_of-requires-clause-known c =
     (λ i h. arc_first (plan c.args.run.now.settled.now.drawing.now)
     c.args.run.now.settled.now.level i
     (c.chains_have_edges.ensures.inner
-    (plan c.args.run.now.settled.now.drawing.now) c.args.run.now.settled.now.level i
+    (plan c.args.run.now.settled.now.drawing.now) (λ n. c.args.run.now.settled.now.level) i
     c.requires.run.settled.tubes h)
     (c.chains_have_edges.ensures.outer
-    (plan c.args.run.now.settled.now.drawing.now) c.args.run.now.settled.now.level i h)))
+    (plan c.args.run.now.settled.now.drawing.now) (λ n. c.args.run.now.settled.now.level) i h)))
 
 pub returns-in-Some-shared : goal.returns-in-Some-shared
 returns-in-Some-shared c =
@@ -108,10 +108,10 @@ first_free-requires-clause-known c =
     (λ i h. arc_first (plan c.args.run.now.settled.now.drawing.now)
     c.args.run.now.settled.now.level i
     (c.chains_have_edges.ensures.inner
-    (plan c.args.run.now.settled.now.drawing.now) c.args.run.now.settled.now.level i
+    (plan c.args.run.now.settled.now.drawing.now) (λ n. c.args.run.now.settled.now.level) i
     c.requires.run.settled.tubes h)
     (c.chains_have_edges.ensures.outer
-    (plan c.args.run.now.settled.now.drawing.now) c.args.run.now.settled.now.level i h))
+    (plan c.args.run.now.settled.now.drawing.now) (λ n. c.args.run.now.settled.now.level) i h))
     c.in_ok-besides.besides.items c.in_ok-besides.ensures i (let s = c.in_ok-besides.ensures.size in
     omega (arith, l, s))))
 
@@ -133,10 +133,10 @@ returns-in-Some-first_free c =
     (λ i h. arc_first (plan c.args.run.now.settled.now.drawing.now)
     c.args.run.now.settled.now.level i
     (c.chains_have_edges.ensures.inner
-    (plan c.args.run.now.settled.now.drawing.now) c.args.run.now.settled.now.level i
+    (plan c.args.run.now.settled.now.drawing.now) (λ n. c.args.run.now.settled.now.level) i
     c.requires.run.settled.tubes h)
     (c.chains_have_edges.ensures.outer
-    (plan c.args.run.now.settled.now.drawing.now) c.args.run.now.settled.now.level i h))
+    (plan c.args.run.now.settled.now.drawing.now) (λ n. c.args.run.now.settled.now.level) i h))
     c.in_ok-besides.besides.items c.in_ok-besides.ensures
     c.in_ok-owners.owners.of_face.items
     (subst (λ (fs : List ℕ). AreOwners fs (length fs) c.in_ok-owners.owners.of_face.items) same
@@ -169,10 +169,10 @@ returns-in-Some-first_cut c =
     (λ i h. arc_first (plan c.args.run.now.settled.now.drawing.now)
     c.args.run.now.settled.now.level i
     (c.chains_have_edges.ensures.inner
-    (plan c.args.run.now.settled.now.drawing.now) c.args.run.now.settled.now.level i
+    (plan c.args.run.now.settled.now.drawing.now) (λ n. c.args.run.now.settled.now.level) i
     c.requires.run.settled.tubes h)
     (c.chains_have_edges.ensures.outer
-    (plan c.args.run.now.settled.now.drawing.now) c.args.run.now.settled.now.level i h))
+    (plan c.args.run.now.settled.now.drawing.now) (λ n. c.args.run.now.settled.now.level) i h))
     c.in_ok-besides.besides.items c.in_ok-besides.ensures
     c.in_ok-owners.owners.of_face.items
     (subst (λ (fs : List ℕ). AreOwners fs (length fs) c.in_ok-owners.owners.of_face.items) same
@@ -233,10 +233,10 @@ returns-in-None c =
             (λ i h. arc_first (plan c.args.run.now.settled.now.drawing.now)
             c.args.run.now.settled.now.level i
             (c.chains_have_edges.ensures.inner
-            (plan c.args.run.now.settled.now.drawing.now) c.args.run.now.settled.now.level i
+            (plan c.args.run.now.settled.now.drawing.now) (λ n. c.args.run.now.settled.now.level) i
             c.requires.run.settled.tubes h)
             (c.chains_have_edges.ensures.outer
-            (plan c.args.run.now.settled.now.drawing.now) c.args.run.now.settled.now.level i h))
+            (plan c.args.run.now.settled.now.drawing.now) (λ n. c.args.run.now.settled.now.level) i h))
             c.in_ok-besides.besides.items c.in_ok-besides.ensures
             c.in_ok-owners.owners.of_face.items
             (subst (λ (fs : List ℕ). AreOwners fs

@@ -10,7 +10,7 @@ use Rattle.area_search.proofs.settled.case_sides.faces_beside.Goals as goal
 
 pub loop-number-init : goal.loop-number-init
 loop-number-init c = record {
-  first = sym (no_first (drawn_bays (plan c.args.settled.now.drawing.now) c.args.settled.now.level)
+  first = sym (no_first (drawn_bays (plan c.args.settled.now.drawing.now) (λ n. c.args.settled.now.level))
       0 c.args.settled.now.drawing.now.curves.items);
   besides = record { size = search rules; each = λ i l. absurd (omega (arith, l)) };
 }

@@ -43,10 +43,10 @@ overflow_add-second c =
     c.args.curve.now c.args.number c.args.first c.requires.there c.requires.curve c.requires.first
     (λ h. arc_first (plan c.args.settled.now.drawing.now) c.args.settled.now.level c.args.number
     (c.chains_have_edges.ensures.inner
-    (plan c.args.settled.now.drawing.now) c.args.settled.now.level c.args.number
+    (plan c.args.settled.now.drawing.now) (λ n. c.args.settled.now.level) c.args.number
     c.requires.settled.1.tubes h)
     (c.chains_have_edges.ensures.outer
-    (plan c.args.settled.now.drawing.now) c.args.settled.now.level c.args.number h))
+    (plan c.args.settled.now.drawing.now) (λ n. c.args.settled.now.level) c.args.number h))
     c.bay_count.result c.bay_count.ensures c.in-HalfArc.is in
     let f = c.requires.few in
     omega (arith, t, f)
@@ -59,10 +59,10 @@ face_outside-requires-clause-there c =
     c.args.curve.now c.args.number c.args.first c.requires.there c.requires.curve c.requires.first
     (λ h. arc_first (plan c.args.settled.now.drawing.now) c.args.settled.now.level c.args.number
     (c.chains_have_edges.ensures.inner
-    (plan c.args.settled.now.drawing.now) c.args.settled.now.level c.args.number
+    (plan c.args.settled.now.drawing.now) (λ n. c.args.settled.now.level) c.args.number
     c.requires.settled.1.tubes h)
     (c.chains_have_edges.ensures.outer
-    (plan c.args.settled.now.drawing.now) c.args.settled.now.level c.args.number h))
+    (plan c.args.settled.now.drawing.now) (λ n. c.args.settled.now.level) c.args.number h))
     c.in-HalfArc.is
 
 pub face_outside-requires-clause-tube : goal.face_outside-requires-clause-tube
@@ -73,10 +73,10 @@ face_outside-requires-clause-tube c =
     c.args.curve.now c.args.number c.args.first c.requires.there c.requires.curve c.requires.first
     (λ h. arc_first (plan c.args.settled.now.drawing.now) c.args.settled.now.level c.args.number
     (c.chains_have_edges.ensures.inner
-    (plan c.args.settled.now.drawing.now) c.args.settled.now.level c.args.number
+    (plan c.args.settled.now.drawing.now) (λ n. c.args.settled.now.level) c.args.number
     c.requires.settled.1.tubes h)
     (c.chains_have_edges.ensures.outer
-    (plan c.args.settled.now.drawing.now) c.args.settled.now.level c.args.number h))
+    (plan c.args.settled.now.drawing.now) (λ n. c.args.settled.now.level) c.args.number h))
     c.in-HalfArc.is
 
 pub face_outside-requires-in-HalfArc-clause-there : goal.face_outside-requires-in-HalfArc-clause-there
@@ -87,10 +87,10 @@ face_outside-requires-in-HalfArc-clause-there c =
     c.args.curve.now c.args.number c.args.first c.requires.there c.requires.curve c.requires.first
     (λ h. arc_first (plan c.args.settled.now.drawing.now) c.args.settled.now.level c.args.number
     (c.chains_have_edges.ensures.inner
-    (plan c.args.settled.now.drawing.now) c.args.settled.now.level c.args.number
+    (plan c.args.settled.now.drawing.now) (λ n. c.args.settled.now.level) c.args.number
     c.requires.settled.1.tubes h)
     (c.chains_have_edges.ensures.outer
-    (plan c.args.settled.now.drawing.now) c.args.settled.now.level c.args.number h))
+    (plan c.args.settled.now.drawing.now) (λ n. c.args.settled.now.level) c.args.number h))
     c.bay_count.result c.bay_count.ensures c.in-HalfArc.is
 
 pub face_outside-requires-in-HalfArc-clause-tube : goal.face_outside-requires-in-HalfArc-clause-tube
@@ -101,10 +101,10 @@ face_outside-requires-in-HalfArc-clause-tube c =
     c.args.curve.now c.args.number c.args.first c.requires.there c.requires.curve c.requires.first
     (λ h. arc_first (plan c.args.settled.now.drawing.now) c.args.settled.now.level c.args.number
     (c.chains_have_edges.ensures.inner
-    (plan c.args.settled.now.drawing.now) c.args.settled.now.level c.args.number
+    (plan c.args.settled.now.drawing.now) (λ n. c.args.settled.now.level) c.args.number
     c.requires.settled.1.tubes h)
     (c.chains_have_edges.ensures.outer
-    (plan c.args.settled.now.drawing.now) c.args.settled.now.level c.args.number h))
+    (plan c.args.settled.now.drawing.now) (λ n. c.args.settled.now.level) c.args.number h))
     c.bay_count.result c.bay_count.ensures c.in-HalfArc.is
 
 pub returns-in-HalfArc : goal.returns-in-HalfArc

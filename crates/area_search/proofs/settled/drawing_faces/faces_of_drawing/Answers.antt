@@ -41,8 +41,8 @@ numbers_of_faces-requires-clause-known c =
     (λ i l. besides_known d s.level (edges_of s) s.owners.now s.facings.now c.args.swept.events
     c.requires.settled mesh count faces
     (λ i h. arc_first d s.level i
-    (c.chains_have_edges.ensures.inner d s.level i c.requires.settled.tubes h)
-    (c.chains_have_edges.ensures.outer d s.level i h))
+    (c.chains_have_edges.ensures.inner d (λ n. s.level) i c.requires.settled.tubes h)
+    (c.chains_have_edges.ensures.outer d (λ n. s.level) i h))
     besides beside i
     (let n = beside.size in omega (arith, l, n)))
 
@@ -87,8 +87,8 @@ places_of-requires-clause-numbered c =
     let k = spot_known d s.level (edges_of s) s.owners.now s.facings.now c.args.swept.events
     c.requires.settled mesh count faces
     (λ i h. arc_first d s.level i
-    (c.chains_have_edges.ensures.inner d s.level i c.requires.settled.tubes h)
-    (c.chains_have_edges.ensures.outer d s.level i h))
+    (c.chains_have_edges.ensures.inner d (λ n. s.level) i c.requires.settled.tubes h)
+    (c.chains_have_edges.ensures.outer d (λ n. s.level) i h))
     besides beside
     (object d j) (spot_at spots j) (are.each j (let n = are.size in omega (arith, l, n))) in
     omega (arith, k, size)))
@@ -114,8 +114,8 @@ faces_of-requires-clause-known c =
     (besides_known d s.level (edges_of s) s.owners.now s.facings.now c.args.swept.events
     c.requires.settled mesh count faces
     (λ i h. arc_first d s.level i
-    (c.chains_have_edges.ensures.inner d s.level i c.requires.settled.tubes h)
-    (c.chains_have_edges.ensures.outer d s.level i h))
+    (c.chains_have_edges.ensures.inner d (λ n. s.level) i c.requires.settled.tubes h)
+    (c.chains_have_edges.ensures.outer d (λ n. s.level) i h))
     besides beside i
     (let n = beside.size in omega (arith, l, n))))
 
@@ -141,8 +141,8 @@ returns-clause-rings c =
     faces_round d s.level (edges_of s) s.owners.now s.facings.now c.args.swept.events
     c.requires.settled mesh count faces
     (λ i h. arc_first d s.level i
-    (c.chains_have_edges.ensures.inner d s.level i c.requires.settled.tubes h)
-    (c.chains_have_edges.ensures.outer d s.level i h))
+    (c.chains_have_edges.ensures.inner d (λ n. s.level) i c.requires.settled.tubes h)
+    (c.chains_have_edges.ensures.outer d (λ n. s.level) i h))
     besides beside c.in_ok-labelled.ensures.outline names _
     (subst (λ (cs : List Curve). HaveFaces cs besides names (length cs) c.in_ok-curves.curves.items)
     c.deref-5.ensures.value
@@ -169,8 +169,8 @@ returns-clause-faces c =
     drawing_faces d s.level (edges_of s) s.owners.now s.facings.now c.args.swept.events
     c.requires.settled mesh count faces
     (λ i h. arc_first d s.level i
-    (c.chains_have_edges.ensures.inner d s.level i c.requires.settled.tubes h)
-    (c.chains_have_edges.ensures.outer d s.level i h))
+    (c.chains_have_edges.ensures.inner d (λ n. s.level) i c.requires.settled.tubes h)
+    (c.chains_have_edges.ensures.outer d (λ n. s.level) i h))
     besides beside names c.in_ok-numbers.numbers.count
     c.in_ok-numbers.ensures.size
     (subst (λ (bs : List Beside). AreFaceNumbers (faces_met bs) names c.in_ok-numbers.numbers.count)
@@ -205,8 +205,8 @@ returns-clause-numbered c =
     faces_numbered d s.level (edges_of s) s.owners.now s.facings.now c.args.swept.events
     c.requires.settled mesh count faces
     (λ i h. arc_first d s.level i
-    (c.chains_have_edges.ensures.inner d s.level i c.requires.settled.tubes h)
-    (c.chains_have_edges.ensures.outer d s.level i h))
+    (c.chains_have_edges.ensures.inner d (λ n. s.level) i c.requires.settled.tubes h)
+    (c.chains_have_edges.ensures.outer d (λ n. s.level) i h))
     besides beside names c.in_ok-numbers.numbers.count
     c.in_ok-numbers.ensures.size
     (subst (λ (bs : List Beside). AreFaceNumbers (faces_met bs) names c.in_ok-numbers.numbers.count)

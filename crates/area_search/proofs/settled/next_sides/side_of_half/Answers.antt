@@ -47,7 +47,7 @@ returns-in-Straight-clause-some c =
     let d = plan s.drawing.now in
     let curve = c.index-curve.result.now in
     let left = c.is_on_left.result in
-    subst (λ (x : ℕ). IsHalfOf d (length (edges_of s)) (edge_at d s.level) (owned_at d s.level)
+    subst (λ (x : ℕ). IsHalfOf d (length (edges_of s)) (edge_at d (λ n. s.level)) (owned_at d (λ n. s.level))
     (record { curve = (owner_at s.owners.now (x / 2)).curve; left = left }) c.args.half)
     (sym c.half.view_is)
     (straight_on d s.level (edges_of s) s.owners.now s.facings.now c.requires.settled.0
@@ -73,13 +73,13 @@ returns-else-is_within c =
     let tube = is_tube d s.level (edges_of s) s.owners.now s.facings.now c.requires.settled.0
     c.requires.settled.1 e there bent in
     let facing = subst (λ (x : ℕ). facing_in s.facings.now (x / 2)
-    ≡ facing_of (owned_at d s.level e).part (half_within d (drawn_bays d s.level)
-    (edge_at d s.level) e)) (sym c.half.view_is)
+    ≡ facing_of (owned_at d (λ n. s.level) e).part (half_within d (drawn_bays d (λ n. s.level))
+    (edge_at d (λ n. s.level)) e)) (sym c.half.view_is)
     (facing_is d s.level (edges_of s) s.owners.now s.facings.now c.requires.settled.0
     c.requires.settled.1 e there) in
     record {
-      some = subst (λ (x : ℕ). IsHalfOf d (length (edges_of s)) (edge_at d s.level)
-          (owned_at d s.level)
+      some = subst (λ (x : ℕ). IsHalfOf d (length (edges_of s)) (edge_at d (λ n. s.level))
+          (owned_at d (λ n. s.level))
           (record { curve = (owner_at s.owners.now (x / 2)).curve; left = left }) c.args.half)
           (sym c.half.view_is)
           (tube_on d s.level (edges_of s) s.owners.now s.facings.now c.requires.settled.0
@@ -90,8 +90,8 @@ returns-else-is_within c =
           (subst (λ (x : ℕ). (p : Part) → IsOfTube p
           → (owner_at s.owners.now (x / 2)).part ≡ part_of p → IsPartOf p curve left)
           c.half.view_is c.is_chain_left.ensures)
-          (c.is_within.ensures.outside (owned_at d s.level e).part
-          (half_within d (drawn_bays d s.level) (edge_at d s.level) e) tube
+          (c.is_within.ensures.outside (owned_at d (λ n. s.level) e).part
+          (half_within d (drawn_bays d (λ n. s.level)) (edge_at d (λ n. s.level)) e) tube
           (within_edge d s.level (edges_of s) s.owners.now s.facings.now c.requires.settled.0
           c.requires.settled.1 e) facing c.if-is_within.false));
       none = λ n. absurd (cc);

@@ -32,8 +32,8 @@ regions_of_spots-requires-clause-known c =
     let laws = c.chains_have_edges.ensures in
     places_have d s.level (edges_of s) s.owners.now s.facings.now h.vs h.settled r.spots.now
     h.placed r.labelled.now.mesh r.labelled.now.count h.faces
-    (λ i a. arc_first d s.level i (laws.inner d s.level i h.settled.tubes a)
-    (laws.outer d s.level i a)) c.args.owners.now c.requires.owned r.places.now r.place_spots.now
+    (λ i a. arc_first d s.level i (laws.inner d (λ n. s.level) i h.settled.tubes a)
+    (laws.outer d (λ n. s.level) i a)) c.args.owners.now c.requires.owned r.places.now r.place_spots.now
     h.places
 
 pub regions_of_spots-requires-clause-owned : goal.regions_of_spots-requires-clause-owned
@@ -45,8 +45,8 @@ regions_of_spots-requires-clause-owned c =
     let laws = c.chains_have_edges.ensures in
     places_known d s.level (edges_of s) s.owners.now s.facings.now h.vs h.settled r.spots.now
     h.placed r.labelled.now.mesh r.labelled.now.count h.faces
-    (λ i a. arc_first d s.level i (laws.inner d s.level i h.settled.tubes a)
-    (laws.outer d s.level i a)) c.args.owners.now c.requires.owned r.places.now r.place_spots.now
+    (λ i a. arc_first d s.level i (laws.inner d (λ n. s.level) i h.settled.tubes a)
+    (laws.outer d (λ n. s.level) i a)) c.args.owners.now c.requires.owned r.places.now r.place_spots.now
     h.places
 
 pub returns : goal.returns
@@ -58,6 +58,6 @@ returns c =
     let laws = c.chains_have_edges.ensures in
     regions_are d s.level (edges_of s) s.owners.now s.facings.now h.vs h.settled r.spots.now
     h.placed r.labelled.now.mesh r.labelled.now.count h.faces
-    (λ i a. arc_first d s.level i (laws.inner d s.level i h.settled.tubes a)
-    (laws.outer d s.level i a)) c.args.owners.now c.requires.owned r.places.now r.place_spots.now
+    (λ i a. arc_first d s.level i (laws.inner d (λ n. s.level) i h.settled.tubes a)
+    (laws.outer d (λ n. s.level) i a)) c.args.owners.now c.requires.owned r.places.now r.place_spots.now
     h.places c.in_ok-regions.regions.items c.in_ok-regions.ensures

@@ -11,5 +11,5 @@ returns c =
     arcs_aside d c.in_ok-marks.marks.items
     (subst (λ (cs : List Curve). AreArcMarks cs (length cs) c.in_ok-marks.marks.items)
     c.deref.ensures.value c.in_ok-marks.ensures)
-    (λ i j. c.breaks_have_half_arcs.ensures d 5 i j c.requires.straights) c.args.on_straight
+    (λ i j. c.breaks_have_half_arcs.ensures d (λ n. 5) i j c.requires.straights) c.args.on_straight
     c.requires.points

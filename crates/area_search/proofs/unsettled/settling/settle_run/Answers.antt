@@ -16,7 +16,7 @@ returns c =
     let fs = c.in-Some.facings.items in
     let is : IsCase d 5 es os fs vs = rw c.in-Some.is at c.in_ok-facings.ensures.case in (
       no_bad_pair d 5 es os fs vs is,
-      (λ i j. c.settled_is_unbroken.ensures d 5 i j
+      (λ i j. c.settled_is_unbroken.ensures d (λ n. 5) i j
           (rw c.in-Some.is at c.in_ok-facings.ensures.settled)),
       first_on d 5 es os fs vs is c.in_ok-spots.spots.items c.in_ok-spots.ensures
           c.first_spot_on.result

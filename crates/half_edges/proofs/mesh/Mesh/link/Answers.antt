@@ -1,4 +1,4 @@
-use Rattle.std.proofs.Common.{ap, sym, ◌∙◌, length, replicate}
+use Rattle.std.proofs.Common.{sym, ◌∙◌}
 use Rattle.std.proofs.lemmas.List.{with_items_is}
 use Rattle.half_edges.specs.Arena.{half_edges_of}
 use Rattle.half_edges.proofs.Linking.{linked_arena}
@@ -13,9 +13,9 @@ invariant_of-self c =
     ∙ c.deref_mut-2.ensures.len) in
     let links = rw (c.deref_mut.ensures.value, c.deref_mut-2.ensures.value) at c.join.ensures in
     record {
-      mesh = rw (next_is, prev_is)
+      mesh = rw (next_is, prev_is, links.next_length)
           (linked_arena c.args.self.now m _ _ _ c.self.invariant.mesh (sym c.forget_faces.ensures
           ∙ sym c.self.view_is) c.requires.star c.requires.loose links);
-      unset = λ e. c.self.invariant.unset e
-          ∙ ap (λ n. replicate n 0) (sym (ap length next_is ∙ links.next_length));
+      few = rw (next_is, links.next_length) c.self.invariant.few;
+      room = rw (next_is, links.next_length) c.self.invariant.room;
     }

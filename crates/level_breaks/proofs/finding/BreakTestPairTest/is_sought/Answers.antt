@@ -9,7 +9,7 @@ pub returns-then-one_is_marked : goal.returns-then-one_is_marked
 returns-then-one_is_marked c =
     let s = c.args.self.now in
     let r = c.requires in
-    alone_is_sought (plan s.drawing.now) s.level c.args.first c.args.second s.alone.now r.0 r.1 r.5
+    alone_is_sought (plan s.drawing.now) (λ n. s.level) c.args.first c.args.second s.alone.now r.0 r.1 r.5
     (c.one_is_marked.ensures c.if-one_is_marked.true)
 
 pub are_breaking-requires : goal.are_breaking-requires
@@ -19,12 +19,12 @@ are_breaking-requires c = λ eg eh.
     let r = c.requires in
     let o = r.0 in
     let t = r.1 in
-    placed d s.level c.args.first c.args.second r.0 r.1 c.group-one.result c.group-other.result
-    (listed_at d s.level c.args.first s.tubes.now s.boxes.now c.group-one.result
+    placed d (λ n. s.level) c.args.first c.args.second r.0 r.1 c.group-one.result c.group-other.result
+    (listed_at d (λ n. s.level) c.args.first s.tubes.now s.boxes.now c.group-one.result
     (omega (arith, o, t)) r.3 r.4 c.group-one.ensures.curve c.group-one.ensures.tube
     c.group-one.ensures.reach)
-    (listed_at d s.level c.args.second s.tubes.now s.boxes.now c.group-other.result r.1 r.3 r.4
-    c.group-other.ensures.curve c.group-other.ensures.tube c.group-other.ensures.reach) r.2
+    (listed_at d (λ n. s.level) c.args.second s.tubes.now s.boxes.now c.group-other.result r.1 r.3 r.4
+    c.group-other.ensures.curve c.group-other.ensures.tube c.group-other.ensures.reach) (λ n. r.2)
     s.drawing.now.curves_drawn eg eh
 
 pub returns : goal.returns
@@ -34,11 +34,11 @@ returns c =
     let r = c.requires in
     let o = r.0 in
     let t = r.1 in
-    breaks_is d s.level c.args.first c.args.second r.0 r.1 c.group-one.result c.group-other.result
-    (listed_at d s.level c.args.first s.tubes.now s.boxes.now c.group-one.result
+    breaks_is d (λ n. s.level) c.args.first c.args.second r.0 r.1 c.group-one.result c.group-other.result
+    (listed_at d (λ n. s.level) c.args.first s.tubes.now s.boxes.now c.group-one.result
     (omega (arith, o, t)) r.3 r.4 c.group-one.ensures.curve c.group-one.ensures.tube
     c.group-one.ensures.reach)
-    (listed_at d s.level c.args.second s.tubes.now s.boxes.now c.group-other.result r.1 r.3 r.4
+    (listed_at d (λ n. s.level) c.args.second s.tubes.now s.boxes.now c.group-other.result r.1 r.3 r.4
     c.group-other.ensures.curve c.group-other.ensures.tube c.group-other.ensures.reach)
-    (c.own_edges_of_tubes.ensures.enter d (drawn_bays d s.level)) c.are_breaking.result
+    (c.own_edges_of_tubes.ensures.enter d (drawn_bays d (λ n. s.level))) c.are_breaking.result
     c.are_breaking.ensures
