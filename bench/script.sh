@@ -4,7 +4,7 @@
 # which files are not replaced, and that no end of a run loses a byte of a file that was there before. It
 # measures nothing but the time until the released program answers.
 #
-# usage: bench/script.sh [ITFCHECK ITFFAULTS]      (with the programs runs of theirs are killed too)
+# usage: bench/script.sh [ITFCHECK ITFFAULTS]      (runs of these programs are ended too)
 #
 # A part mounts a small disk, as root.
 . "$(dirname "${BASH_SOURCE[0]}")/begin.sh"

@@ -37,7 +37,7 @@ esac
 [ -z "${BREAKS-}" ] || { echo "error: a clause is not proved"; exit 1; }
 for one in $folders; do
     mkdir -p "$one/out"
-    cp "$WORK/program" "$one/out/${one##*/}"
+    cp "$WORK/programs/${one##*/}" "$one/out"
 done
 [ "$1" = run ] || echo "3 passed, 0 failed"
 """
@@ -84,8 +84,8 @@ class Scratch(unittest.TestCase):
         self.put("checkout/crates/itfcheck/data/parcels.ili", "")
         self.put("checkout/.gitignore", "/out/\ncrates/*/out/\n")
         self.put("bin/rt", RT, 0o755)
-        self.put("program", PROGRAM, 0o755)
         for name in ("itfcheck", "itffaults"):
+            self.put(f"programs/{name}", PROGRAM, 0o755)
             (self.work / "bin" / name).symlink_to(self.checkout / name)
         subprocess.run("git init -q && git add -A && git -c user.name=x -c user.email=x@x commit -qm x",
                        shell=True, cwd=self.checkout, check=True)
@@ -419,9 +419,9 @@ class Statuses(Scratch):
         self.assertEqual((closed.returncode, closed.stdout, closed.stderr), (0, "ran compile M\n", ""))
 
 
-WRITES = [("itfcheck", ["check", "M", "T"]), ("itfcheck", ["trial", "5"]), ("itfcheck", ["polygons", "M", "T"]),
+WRITES = [("itfcheck", ["check", "M", "T"]), ("itfcheck", ["trial", "60"]), ("itfcheck", ["polygons", "M", "T"]),
           ("itfcheck", ["canonical", "M", "T"]), ("itffaults", ["M", "T"])]
-HEADS = {"check": "ITFCERT 2\nAREAS 0\n", "trial": "ITFCERT 2\n", "polygons": "ITFPOLY 1\n", "M": "ITFFAULTS 1\n"}
+HEADS = {"check": "ITFCERT 2\n", "trial": "ITFCERT 2\n", "polygons": "ITFPOLY 1\n", "M": "ITFFAULTS 1\n"}
 
 
 class Files(Scratch):
@@ -509,8 +509,8 @@ class Files(Scratch):
         self.held(["check", "M", "T", "pipe"], 0, "ran check M T pipe\n", "")
         self.assertEqual(os.read(reading, 1000).decode(), text())
         os.close(reading)
-        done = self.run_in(self.here, ["bash", "-c", "PIECES=1 itfcheck check M T >(cat > got) && itfcheck trial 5 /dev/stdout | cat"])
-        self.assertIn("ran trial 5 /dev/stdout", done.stdout)
+        done = self.run_in(self.here, ["bash", "-c", "PIECES=1 itfcheck check M T >(cat > got) && itfcheck trial 60 /dev/stdout | cat"])
+        self.assertIn("ran trial 60 /dev/stdout", done.stdout)
 
     def test_an_open_file(self):
         self.put("here/log", "of before\n")
@@ -560,22 +560,41 @@ class Interrupted(Scratch):
     """However a run ends, the old file is whole or the new one is."""
 
     MOMENTS, PIECES = 20, 12
+    ENDED = {"INT": {-signal.SIGINT, 0}, "TERM": {-signal.SIGTERM, 0}, "KILL": {-signal.SIGKILL, 0}, "program": {137, 0}}
 
     def setUp(self):
         super().setUp()
-        self.release()
         self.environment.update(PIECES=str(self.PIECES), PAUSE="0.02")
+        self.transfer, self.model = "SCNT\n////\n", ""
+        self.prepare()
+        self.release()
 
-    def one(self, script, words, number, sent, moment):
-        """Kills one run at that part of its time, and returns what was left."""
-        folder = self.work / f"runs/{words[0]}-{sent}-{number}"
+    def prepare(self):
+        """What is run in place of the stand-in, and on what."""
+
+    def folder(self, name, words):
+        """A folder with the files of a run, the name of the one that it writes, and what that holds."""
+        folder = self.here / name
         folder.mkdir(parents=True)
-        old = HEADS.get(words[0], "SCNT\n") + "of before\n"
-        (folder / "T").write_text(old)
-        (folder / "file").write_text(old)
+        (folder / "M").write_text(self.model)
+        (folder / "T").write_text(self.transfer)
+        (folder / "file").write_text(HEADS.get(words[0], "") + "of before\n")
         target = "T" if words[0] == "canonical" else "file"
+        return folder, target, (folder / target).read_text()
+
+    def whole(self, script, words):
+        """What a run writes that nothing ends, and its seconds."""
+        folder, target, _ = self.folder(f"{words[0]}-whole", words)
+        begun = time.time()
+        done = self.run_in(folder, [script, *words, target])
+        self.assertEqual((done.returncode, done.stderr), (0, ""))
+        return (folder / target).read_text(), time.time() - begun
+
+    def one(self, script, words, sent, number, moment):
+        """Ends a run after so many seconds. Returns what the file held and holds, other names, the status."""
+        folder, target, old = self.folder(f"{words[0]}-{sent}-{number}", words)
         running = subprocess.Popen([script, *words, target], cwd=folder, start_new_session=True, stdout=subprocess.DEVNULL,
-                                   stderr=subprocess.PIPE, env=self.environment, text=True,
+                                   stderr=subprocess.DEVNULL, env=self.environment,
                                    preexec_fn=lambda: signal.signal(signal.SIGINT, signal.SIG_DFL))
         time.sleep(moment)
         try:
@@ -589,59 +608,74 @@ class Interrupted(Scratch):
                 running.send_signal(getattr(signal, "SIG" + sent))
         except (ProcessLookupError, FileNotFoundError):
             pass
-        said = running.communicate()[1]
-        if sent == "KILL":
-            # (the program of a script that was killed runs on, and reaches its end)
-            time.sleep(0.1)
-        names = sorted(set(os.listdir(folder)) - {"T", "file"})
-        return old, (folder / target).read_text(), names, running.returncode, said
+        status = running.wait()
+        while sent == "KILL" and self.lives(running.pid):
+            # (the program of a script that was killed runs on)
+            time.sleep(0.02)
+        names = set(os.listdir(folder)) - {"M", "T", "file"}
+        return old, (folder / target).read_text(), names, status
+
+    def lives(self, session):
+        return subprocess.run(["pgrep", "-s", str(session)], stdout=subprocess.DEVNULL).returncode == 0
 
     def test_kills(self):
-        whole = text(self.PIECES)
-        ended = {"INT": {-signal.SIGINT, 0}, "TERM": {-signal.SIGTERM, 0}, "KILL": {-signal.SIGKILL, 0}, "program": {137, 0}}
-        jobs, begun = [], time.time()
-        for script, words in WRITES:
-            self.held([*words, f"{words[0]}.new"], 0, "ran", "", script=script)
-        each = (time.time() - begun) / len(WRITES)
+        jobs = []
         with concurrent.futures.ThreadPoolExecutor(4) as pool:
             for script, words in WRITES:
-                for sent in ended:
+                new, seconds = self.whole(script, words)
+                for sent in self.ENDED:
                     for number in range(self.MOMENTS):
-                        moment = each * 1.1 * number / (self.MOMENTS - 1)
-                        jobs.append((words[0], sent, pool.submit(self.one, script, words, number, sent, moment)))
+                        moment = seconds * 1.1 * number / (self.MOMENTS - 1)
+                        jobs.append((words[0], sent, new, pool.submit(self.one, script, words, sent, number, moment)))
         kept = replaced = 0
-        for word, sent, job in jobs:
-            old, now, names, status, said = job.result()
-            self.assertIn(now, (old, whole), (word, sent))
-            self.assertIn(status, ended[sent], (word, sent, said))
-            self.assertTrue(status != 0 or now == whole, (word, sent))
+        for word, sent, new, job in jobs:
+            old, now, names, status = job.result()
+            self.assertTrue(now == new or now == old and status, (word, sent))
+            self.assertIn(status, self.ENDED[sent], (word, sent))
             self.assertTrue(all(".unfinished-" in name for name in names) if sent == "KILL" else not names, (word, sent, names))
-            kept, replaced = kept + (now == old), replaced + (now == whole)
-        print(f"{kept} runs left the old file, {replaced} the new one")
-        self.assertTrue(kept > len(jobs) / 3 and replaced)
+            kept, replaced = kept + (now == old), replaced + (now == new)
+        print(f"{type(self).__name__}: {kept} of {len(jobs)} ended runs left the old file, {replaced} the new one")
+        self.assertTrue(kept > len(jobs) / 4 and replaced)
+
+    def stays(self, folder, target, old, words, statuses, **environment):
+        """Runs a command in a place in which its file cannot be written."""
+        done = self.run_in(folder, words, **environment)
+        self.assertIn(done.returncode, statuses, done)
+        self.assertIn(f"{target} is as it was", done.stderr)
+        self.assertEqual((folder / target).read_text(), old)
+        self.assertEqual(set(os.listdir(folder)), {"M", "T", "file"})
 
     def test_a_limit_of_file_size(self):
         for script, words in WRITES:
-            self.put("here/file", HEADS.get(words[0], "") + "of before\n")
-            before = (self.here / "file").read_text()
-            done = self.run_in(self.here, ["bash", "-c", f'ulimit -f 1; exec {script} --replace "$@"', "", *words, "file"], PAUSE="")
-            self.assertIn(done.returncode, (6, 153), done)
-            self.assertIn("file is as it was", done.stderr)
-            self.assertEqual((self.here / "file").read_text(), before)
-            self.assertEqual(os.listdir(self.here), ["file"])
+            folder, target, old = self.folder(words[0], words)
+            limited = ["bash", "-c", f'ulimit -f 1; exec {script} "$@"', "", *words, target]
+            self.stays(folder, target, old, limited, (6, 153), PAUSE="")
 
     @unittest.skipIf(os.geteuid(), "it takes root to mount a disk")
     def test_a_full_disk(self):
-        subprocess.run(["mount", "-t", "tmpfs", "-o", "size=64k", "tmpfs", self.here], check=True)
-        self.addCleanup(subprocess.run, ["umount", self.here], check=True)
         for script, words in WRITES:
-            self.put("here/file", HEADS.get(words[0], "") + "of before\n" * 3000)
-            before = (self.here / "file").read_text()
-            done = self.run_in(self.here, [script, "--replace", *words, "file"], PIECES="1000", PAUSE="")
-            self.assertEqual(done.returncode, 6, done)
-            self.assertIn("file is as it was", done.stderr)
-            self.assertEqual((self.here / "file").read_text(), before)
-            self.assertEqual(os.listdir(self.here), ["file"])
+            folder, target, old = self.folder(words[0], words)
+            disk = self.work / "disk"
+            disk.mkdir(exist_ok=True)
+            much = 4 * ((sum(path.stat().st_size for path in folder.iterdir()) >> 12) + 4)
+            subprocess.run(["mount", "-t", "tmpfs", "-o", f"size={much}k", "tmpfs", disk], check=True)
+            try:
+                for path in folder.iterdir():
+                    shutil.copy(path, disk)
+                self.stays(disk, target, old, [script, *words, target], (6,), PIECES="1000", PAUSE="")
+            finally:
+                subprocess.run(["umount", disk], check=True)
+
+
+@unittest.skipUnless(os.environ.get("ITFCHECK"), "no programs are given")
+class InterruptedPrograms(Interrupted):
+    """The same with the programs themselves, on the files of a trial."""
+
+    def prepare(self):
+        for name in ("itfcheck", "itffaults"):
+            shutil.copy(os.environ[name.upper()], self.work / "programs" / name)
+        subprocess.run(["python3", TOP / "bench/trial_files.py", "60", "M", "T"], cwd=self.work, check=True)
+        self.model, self.transfer = (self.work / "M").read_text(), (self.work / "T").read_text()
 
 
 class Speed(Scratch):

@@ -73,7 +73,7 @@ is_same() {
 }
 
 # The names of the programs and of all crates on which they stand.
-wanted() {
+needed() {
     awk -F ': *' -v "programs=${programs[*]}" '
         !/^#/ && NF { below[$1] = $2 }
         function take(name,   parts, count, at) {
@@ -100,27 +100,28 @@ copy() {
     done
     cp crates.txt HANDLES "$work/copy"
     hash=$(sources "$work/copy")
-    for name in "$work/copy"/crates/*; do
-        wanted | grep -qx "${name##*/}" || rm -r "$name"
-    done
-    for name in $(wanted); do
+    mkdir "$work/all"
+    mv "$work/copy/crates" "$work/copy/crates.txt" "$work/all"
+    mkdir "$work/copy/crates"
+    for name in "${wanted[@]}"; do
+        mv "$work/all/crates/$name" "$work/copy/crates"
+        grep "^$name:" "$work/all/crates.txt" >> "$work/copy/crates.txt"
         for part in stdin stdout args status data; do
             [ ! -e "crates/$name/$part" ] || cp -R "crates/$name/$part" "$work/copy/crates/$name"
         done
     done
-    grep -E "^($(wanted | paste -sd '|')):" crates.txt > "$work/copy/crates.txt"
 }
 
 # Passes a line on for each crate that is proved, and how many are.
 told() {
-    local line number=0 all=$1
+    local line number=0
     while IFS= read -r line; do
         printf '%s\n' "$line"
         case $line in
         'rt: '*' NOT PROVED'* | 'rt: '*': its tests '*) ;;
         'rt: '*' proved' | 'rt: '*' is kept: '*)
             number=$((number + 1)) line=${line#rt: }
-            say "$(date +%H:%M) ${line%% *} is proved, $number of $all"
+            say "$(date +%H:%M) ${line%% *} is proved, $number of ${#wanted[@]}"
             ;;
         esac
     done
@@ -128,18 +129,19 @@ told() {
 
 # Has both programs proved and built of a copy of the sources, with the words behind `rt ci`.
 prove() {
-    local log=out/release.log count
+    local log=out/release.log
+    [ -e crates.txt ] || fail 70 "no sources lie here, as in an archive: take a checkout (status 70)"
     command -v rt > /dev/null || fail 70 "the command rt, to prove the programs, is not on the path (status 70)"
     kit=$(rt version 2>&1)
     [[ "$kit " == *" logic $(sed -n 's/.*with the logic `\([0-9a-f]*\)`.*/\1/p' README.md) "* ]] ||
         fail 70 "rt version says '$kit', and the README names another logic (status 70)"
+    mapfile -t wanted < <(needed)
     work=$(mktemp -d)
     trap 'rm -rf "$work"' EXIT
     copy
-    count=$(wanted | wc -l)
     mkdir -p out
-    say "$count crates are to be proved; rt's output is in $log"
-    (cd "$work/copy" && RT_JOBS=${RT_JOBS:-$(nproc)} rt ci "$@" 2>&1 < /dev/null) | told "$count" > "$log" || {
+    say "${#wanted[@]} crates are to be proved; rt's output is in $log"
+    (cd "$work/copy" && RT_JOBS=${RT_JOBS:-$(nproc)} rt ci "$@" 2>&1 < /dev/null) | told > "$log" || {
         tail -n 20 "$log" >&2
         fail 70 "the programs are not proved; the end of rt's output is above, all of it in $log (status 70)"
     }
@@ -153,7 +155,7 @@ prove_anew() {
         mkdir -p "crates/$one/out"
         # No newer than the sources from which it comes: one that was changed meanwhile is newer than it.
         cp "$work/copy/crates/$one/out/$one" "crates/$one/out/$one.new"
-        touch -r "$work/copy/crates.txt" "crates/$one/out/$one.new"
+        touch -r "$work/all/crates.txt" "crates/$one/out/$one.new"
         mv -f "crates/$one/out/$one.new" "crates/$one/out/$one"
     done
     [ "$hash" = "$(noted sources)" ] || say "released/SOURCES is the hash of other sources"
