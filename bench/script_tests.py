@@ -317,7 +317,7 @@ class Released(Scratch):
         self.prove("SAME", "names the kit 'rattle-kit-0", RT_SAYS=KIT.replace("0", "1", 1))
         self.change("released/itffaults", at=40)
         self.put("checkout/released/SHA256SUMS", self.sums())
-        self.prove("DIFFERS", "released/itffaults is not the program")
+        self.prove("DIFFERS", "not what these sources give: released/itffaults\n")
         self.assertIn("3 crates are to be proved", self.held(["--prove"], 70, "", "not proved", BREAKS="1").stderr)
         self.without_rt()
         self.held(["--prove"], 70, "", "is not on the path")
@@ -387,7 +387,7 @@ class Gate(Scratch):
         self.change("released/itfcheck", at=40)
         sums = subprocess.run(["sha256sum", "itfcheck", "itffaults"], cwd=self.checkout / "released", capture_output=True, text=True)
         self.put("checkout/released/SHA256SUMS", sums.stdout)
-        self.gate(1, "released/itfcheck is not the program")
+        self.gate(1, "not what these sources give: released/itfcheck\n")
 
     def test_the_tests_of_the_tools(self):
         self.release()
@@ -691,11 +691,12 @@ class Speed(Scratch):
         hashed = self.run_in(clone, ["tools/release.sh", "--sources"]).stdout
         (clone / "released/SOURCES").write_text(f"sources {hashed}kit x\n")
         words = [clone / "itfcheck", "compile", "M"]
-        first = self.seconds(words)
-        then = min(self.seconds(words) for _ in range(5))
-        print(f"the first call took {first:.3f} s of processor time, further ones {then:.3f} s")
-        self.assertLess(first, 0.5 + 0.3)
-        self.assertLess(then, 0.1)
+        alone = min(self.seconds([clone / "released/itfcheck", *words[1:]]) for _ in range(5))
+        first = self.seconds(words) - alone
+        then = min(self.seconds(words) for _ in range(5)) - alone
+        print(f"the first call takes {first:.3f} s of processor time more than the program, further ones {then:.3f} s")
+        self.assertLess(first, 0.5)
+        self.assertLess(then, 0.05)
 
     def seconds(self, words):
         before = resource.getrusage(resource.RUSAGE_CHILDREN)

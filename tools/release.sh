@@ -60,16 +60,13 @@ check() {
         fail 1 "a released program is not executable: run tools/release.sh"
 }
 
-# Whether the released programs are the ones in crates/NAME/out; if not, says which is not.
+# Whether the released programs are the ones in crates/NAME/out; if not, says which are not.
 is_same() {
-    local one status=0
+    local one differ=()
     for one in "${programs[@]}"; do
-        if ! cmp -s "released/$one" "crates/$one/out/$one"; then
-            say "released/$one is not the program that these sources give"
-            status=1
-        fi
+        cmp -s "released/$one" "crates/$one/out/$one" || differ+=("released/$one")
     done
-    return $status
+    [ ${#differ[@]} = 0 ] || { say "not what these sources give: ${differ[*]}"; return 1; }
 }
 
 # The names of the programs and of all crates on which they stand.
