@@ -71,7 +71,7 @@ def bad_links(path, text, texts):
         name = os.path.normpath(os.path.join(os.path.dirname(path), file)) if file else path
         if not os.path.exists(os.path.join(TOP, name)):
             yield f"{path}: no file {target}"
-        elif anchor and (name not in texts or anchor not in slugs(texts[name])):
+        elif anchor and anchor not in slugs(texts.get(name) or read(name)):
             yield f"{path}: no heading {target}"
 
 
