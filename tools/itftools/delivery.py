@@ -93,12 +93,14 @@ class Delivery:
                 area.is_read = area.words in at_fault
         rows, edges = Rows(self.model, wanted), Edges(self.model, self.scale)
         with open(self.transfer_name, "rb") as file:
-            lines = edges.of(rows.of(logical_lines(file, self.model.goes_on)))
+            lines = logical_lines(file, self.model.goes_on)
+            lines = rows.of(lines) if wanted else lines
+            lines = edges.of(lines) if edges.tables else lines
             if self.with_objects:
                 self.objects = Objects(self.model)
                 lines = self.objects.of(lines)
             Form(lines, self.model, findings).text()
-        self.rows, self.edges = rows.found, edges.lines
+        self.rows, self.edges = rows.found, edges
 
     def read_physical(self, wanted):
         """Of a text that is no transfer the lines at fault alone are read."""
@@ -205,9 +207,8 @@ class Delivery:
             for xs, ys in ((area.x0, area.y0), (area.px, area.py)):
                 if len(xs):
                     yield tuple(value / step for value in (min(xs), min(ys), max(xs), max(ys)))
-        for line in self.edges:
-            for place in line.places:
-                yield tuple(value / 10 ** self.scale for value in place * 2)
+        if self.edges and self.edges.box():
+            yield tuple(value / 10 ** self.scale for value in self.edges.box())
 
     def system(self, wanted):
         if wanted != "guess":

@@ -72,14 +72,13 @@ class Placing:
         row = self.rows[fact.extra.get("object_line", fact.lines[0])]
         helper = (topic, "%s_%s" % (table, attribute))
         owner, parts = row.object, []
-        for line in self.edges:
-            if line.where == helper:
-                for number, edge in zip(line.numbers[1:], zip(line.places, line.places[1:])):
-                    if number in fact.lines:
-                        owner = line.owner
-                        parts.append(edge)
+        for number in fact.lines:
+            line = self.edges.line_at(number)
+            if line and line.where == helper:
+                owner = line.owner
+                parts += [edge for at, edge in line.edges() if at == number]
         # The named edges say whose lines they are; all lines of that object are shown.
-        fact.marks = [line.drawn() for line in self.edges if (line.where, line.owner) == (helper, owner)]
+        fact.marks = [line.drawn() for line in self.edges.of_owner(helper, owner)]
         fact.extra["tid"] = shown(owner)
         place = self.place_of_surface(fact, parts)
         if fact.places:

@@ -7,6 +7,8 @@ import base64
 import hashlib
 import json
 import os
+from array import array
+from itertools import chain
 
 from itftools.delivery import points, polylines
 from itftools.saying.words import FOLDER, words
@@ -14,40 +16,51 @@ from itftools.saying.words import FOLDER, words
 MOST_FAULTS = 20000         # in a page; the GeoPackage and the JSON have all
 MOST_VERTICES = 300000      # of lines in a page in full; of more lines those near faults are
 MOST_CORNERS = 4000         # of a region in a page; of more each so-and-so-many-th
-NEAR = 60                   # metres from a fact within which lines are shown in full, at first
+FAR = 480                   # metres from a fault within which lines are shown in full, where they are not too many
 
 
 class Drawing:
-    """The lines of a page: all in full, or those near faults, and a thinned view of all."""
+    """The lines of a page: all in full, or those near faults, and a thinned view of all.
+
+    A line is an array of numbers, x and y of each place.
+    """
 
     def __init__(self, delivery, faults):
-        self.lines = [line for _, _, line in polylines(delivery)]
+        self.lines = [flat(line) for _, _, line in polylines(delivery)]
         self.places = [place for _, _, place in points(delivery)]
         boxes = [fact.unit for fact in faults if fact.unit]
-        xs = [x for line in self.lines for x, _ in (line[0], line[-1])] + [x for x, _ in self.places + boxes]
-        ys = [y for line in self.lines for _, y in (line[0], line[-1])] + [y for _, y in self.places + boxes]
-        self.box = (min(xs), min(ys), max(xs), max(ys)) if xs else (0, 0, 1, 1)
-        self.vertices = sum(map(len, self.lines))
+        self.box = self.whole_box(boxes)
+        self.vertices = sum(map(len, self.lines)) // 2
         self.is_whole = self.vertices <= MOST_VERTICES
         self.near, self.view, self.radius = self.lines, [], None
         if not self.is_whole:
             self.thin(delivery.scale, boxes)
 
+    def whole_box(self, boxes):
+        places = self.places + boxes
+        xs = [x for line in self.lines for x in (line[0], line[-2])] + [x for x, _ in places]
+        ys = [y for line in self.lines for y in (line[1], line[-1])] + [y for _, y in places]
+        return (min(xs), min(ys), max(xs), max(ys)) if xs else (0, 0, 1, 1)
+
     def thin(self, scale, boxes):
-        """Keeps the lines near faults: as many as a page may have, by a radius that is doubled or halved."""
-        reach, last = NEAR * 10 ** scale, None
-        while True:
-            cells = {(x // reach + i, y // reach + j) for x, y in boxes for i in (-1, 0, 1) for j in (-1, 0, 1)}
-            near = [line for line in self.lines if any((x // reach, y // reach) in cells for x, y in line)]
-            few = sum(map(len, near)) <= MOST_VERTICES // 2
-            if few or last != "few":
-                self.near, self.radius, self.cells = near, reach, cells
-            if few and (last == "many" or reach >= 8 * NEAR * 10 ** scale) or not few and (last == "few" or reach < 10):
-                break
-            last, reach = ("few", 2 * reach) if few else ("many", reach // 2)
-        self.places = [(x, y) for x, y in self.places if (x // self.radius, y // self.radius) in self.cells]
-        self.radius = self.radius if boxes else None
+        """Keeps the lines near faults: as many as a page may have, by a radius that is halved."""
+        reach = FAR * 10 ** scale
+        near, cells = self.within(self.lines, boxes, reach)
+        while sum(map(len, near)) > MOST_VERTICES and reach > 10:
+            reach //= 2
+            near, cells = self.within(near, boxes, reach)
+        self.near, self.radius = near, reach if boxes else None
+        self.places = [(x, y) for x, y in self.places if (x // reach, y // reach) in cells]
         self.view = self.overview()
+
+    @staticmethod
+    def within(lines, boxes, reach):
+        """Of some lines those with a place near a fault, and the squares that are near."""
+        cells = {(x // reach + i, y // reach + j) for x, y in boxes for i in (-1, 0, 1) for j in (-1, 0, 1)}
+        if not cells:
+            return [], cells
+        return [line for line in lines if any((x // reach, y // reach) in cells
+                                              for x, y in zip(line[::2], line[1::2]))], cells
 
     def overview(self):
         """Lines without detail, at most one in a place of one part in 220 of the whole, long ones first."""
@@ -56,19 +69,15 @@ class Drawing:
         taken, view, short = set(), [], []
 
         def keep(line):
-            (x, y), (u, v) = line[len(line) // 2], line[0]
-            here = (x + u) // 2 // cell, (y + v) // 2 // cell
+            middle = len(line) // 4 * 2
+            here = (line[middle] + line[0]) // 2 // cell, (line[middle + 1] + line[1]) // 2 // cell
             if here not in taken:
                 taken.add(here)
                 view.append(line)
 
         for line in self.lines:
-            kept = [line[0]]
-            for place in line[1:-1]:
-                if abs(place[0] - kept[-1][0]) + abs(place[1] - kept[-1][1]) > apart:
-                    kept.append(place)
-            kept.append(line[-1])
-            is_long = len(kept) > 2 or abs(kept[1][0] - kept[0][0]) + abs(kept[1][1] - kept[0][1]) > apart
+            kept = without_detail(line, apart)
+            is_long = len(kept) > 4 or abs(kept[2] - kept[0]) + abs(kept[3] - kept[1]) > apart
             if is_long:
                 keep(kept)
             else:
@@ -78,14 +87,28 @@ class Drawing:
         return view
 
 
+def without_detail(line, apart):
+    """The first and the last place of a line, and between those that are so far apart."""
+    kept = line[:2]
+    for place in range(2, len(line) - 2, 2):
+        if abs(line[place] - kept[-2]) + abs(line[place + 1] - kept[-1]) > apart:
+            kept.extend(line[place:place + 2])
+    kept.extend(line[-2:])
+    return kept
+
+
+def flat(line):
+    return array("q", chain.from_iterable(line))
+
+
 def deltas(line, origin):
-    """A polyline as numbers: the first place from the origin, each further one from the one before."""
+    """A line as numbers: the first place from the origin, each further one from the one before."""
     x, y = origin
-    flat = []
-    for u, v in line:
-        flat += (u - x, v - y)
-        x, y = u, v
-    return flat
+    found = []
+    for place in range(0, len(line), 2):
+        found += (line[place] - x, line[place + 1] - y)
+        x, y = line[place], line[place + 1]
+    return found
 
 
 def page_data(delivery, told, language):
@@ -95,18 +118,18 @@ def page_data(delivery, told, language):
     few = []
     for fact, its in zip(faults[:MOST_FAULTS], told["faults"]):
         its = dict(its)
-        its["u"] = [fact.unit[0] - origin[0], fact.unit[1] - origin[1]] if fact.at else None
-        its["marks"] = [deltas(line, origin) for line in fact.marks]
+        its["u"] = [fact.unit[0] - origin[0], fact.unit[1] - origin[1]] if fact.unit else None
+        its["marks"] = [deltas(flat(line), origin) for line in fact.marks]
         every = sum(map(len, fact.rings)) // MOST_CORNERS + 1
-        its["rings"] = [deltas(ring[::every], origin) for ring in fact.rings]
+        its["rings"] = [deltas(flat(ring[::every]), origin) for ring in fact.rings]
         few.append(its)
-    flat = [number - origin[k % 2] for place in drawing.places for k, number in enumerate(place)]
+    places = [number - origin[k % 2] for place in drawing.places for k, number in enumerate(place)]
     return {**told, "faults": few, "total": len(faults), "scale": delivery.scale, "origin": list(origin),
             "size": [drawing.box[2] - origin[0], drawing.box[3] - origin[1]], "language": language,
             "whole": drawing.is_whole, "vertices": drawing.vertices,
             "radius": drawing.radius and drawing.radius / 10 ** delivery.scale,
             "lines": [deltas(line, origin) for line in drawing.near],
-            "view": [deltas(line, origin) for line in drawing.view], "places": flat}
+            "view": [deltas(line, origin) for line in drawing.view], "places": places}
 
 
 def script_safe(data):

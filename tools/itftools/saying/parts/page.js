@@ -63,7 +63,7 @@ function showVerdict() {
     if (areas.length && !data.has_list) nots.push(ui("noList"));
     if (has("STRUCTURE_")) nots.push(ui("notStructure"));
     if (has("FINDING_")) nots.push(ui("notFindings"));
-    if (has("SURFACE_")) nots.push(ui("notSurface"));
+    if (has("SURFACE_") && data.parts.some(part => part.kind === "SURFACE" && !part.object_counts)) nots.push(ui("notSurface"));
     if (has("OPEN") || has("OUTER") || has("UNJUDGED")) nots.push(ui("notOpen"));
     nots.push(ui("notGround"));
   }
@@ -96,6 +96,8 @@ function showSummary() {
 }
 
 function state(part) {
+  const its = part.object_counts;
+  if (its) return fill(words.states.SURFACE_LISTED, { a: its[0], b: its[1], c: its[2], d: its[3] });
   const answer = part.answer, name = part.kind + "_" + (answer[0] === "PROVED" ? "PROVED" : answer[0] === "UNDECIDED" ? "UNDECIDED" : answer[0] === "NOTPROVED" ? "NOTPROVED" : "FAULT");
   return fill(words.states[name] || answer.join(" "), { a: answer[1], b: answer[2], c: answer[3] });
 }
@@ -411,7 +413,7 @@ function showDetail() {
   const [title, what, mend] = kind(chosen.kind), info = chosen.info, facts = [];
   const fact = (name, ...its) => facts.push(el("dt", {}, ui(name)), ...its.map(one => el("dd", {}, one)));
   fact("what", what, ...(info.how ? [fill(words.how[info.how], { depth: info.depth })] : []),
-    ...(info.size !== undefined ? [ui("size", { size: count(info.size), width: info.width }) + (chosen.kind === "EMPTY" ? " " + ui(info.width < 0.1 ? "sliver" : "missing") : "")] : []));
+    ...(info.bent ? [ui("bent")] : []), ...(info.size !== undefined ? [ui("size", { size: count(info.size), width: info.width }) + (chosen.kind === "EMPTY" ? " " + ui(info.width < 0.1 ? "sliver" : "missing") : "")] : []));
   if (mend) fact("mend", mend);
   if (chosen.at) fact("place", el("span", {}, el("code", {}, chosen.at.join(" / ")), " ", copyButton(chosen.at.join(" "))));
   if (info.first) fact("firstPoint", el("span", {}, el("code", {}, info.first.join(" / ")), " ", copyButton(info.first.join(" "))));
@@ -423,6 +425,9 @@ function showDetail() {
   if (info.ends && info.ends.length) fact("ends", ...info.ends.map(end => ui("end", { place: end.at.join(" / "), way: end.way, line: end.line })
     + (end.gap === null ? "" : " " + ui("gap", { gap: end.gap, line: end.gap_line }))));
   if (chosen.side) fact("side", ui(chosen.side));
+  const beside = its => ui("what_" + its.what, { tid: its.tid, line: its.line });
+  if (info.sides_of_line) fact("sides", ...info.sides_of_line.map(its => ui("side_" + its.side) + ": " + beside(its)));
+  if (info.beside && info.beside.length) fact("beside", ...info.beside.map(beside));
   for (const its of chosen.rows) fact("row", ui("line", { line: its.line }) + (its.table ? ", " + its.topic + "." + its.table : "") + (its.tid ? ", " + ui("tid") + " " + its.tid : ""), el("code", { class: "row" }, its.text));
   put("detail", el("h3", {}, dot(chosen.kind, chosen.judged), chosen.id + ". " + title), el("dl", {}, ...facts));
 }
@@ -476,6 +481,11 @@ window.addEventListener("resize", resize);
 if (hasMap) fitFaults();
 const given = data.faults.find(fault => String(fault.id) === number);
 if (given) choose(given, true);
-window.addEventListener("beforeprint", () => { most = 5000; showList(); });
+// Printed it has all faults of the page, the map of all of them, and the day.
+window.addEventListener("beforeprint", () => {
+  most = data.faults.length; showList();
+  $("printed").textContent = ui("printed", { date: new Date().toLocaleDateString(language + "-CH") });
+  if (hasMap && !chosen) { fitFaults(); draw(); }
+});
 document.documentElement.setAttribute("data-ready", String(Math.round(performance.now())));
 })();
