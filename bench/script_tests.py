@@ -164,6 +164,15 @@ class AtOnce(Scratch):
         self.build_after_a_change()
         self.held(["--version"], 0, "; the program that was built in this checkout\n", "")
 
+    def test_the_path_of_the_program(self):
+        self.held(["--program"], 70, "", "there is no released program")
+        self.release()
+        self.held(["--program"], 0, f"{self.checkout}/released/itfcheck\n", "")
+        self.held(["--program"], 0, f"{self.checkout}/released/itffaults\n", "", script="itffaults")
+        self.build_after_a_change()
+        self.held(["--program"], 0, f"{self.checkout}/crates/itfcheck/out/itfcheck\n", "")
+        self.assertEqual(self.calls("run"), 1)
+
     def build_after_a_change(self):
         self.change("crates/ports/src/main.rt")
         self.build()

@@ -1,8 +1,8 @@
 """Finds the two programs, `itfcheck` and `itffaults`, and runs them. What they answer is not looked into.
 
 A program is the file that the variable ITFCHECK or ITFFAULTS names; else the one beside the package; else
-the built one of the checkout in which the package stands; else the first on the PATH. The scripts of a
-checkout are not taken, since they may build for an hour: they say so, and tools do not.
+the one that the script of the checkout or archive in which the package stands would run; else the first on
+the PATH. The script itself is not taken, since it may build for an hour.
 """
 import os
 import shutil
@@ -23,13 +23,22 @@ def find(name):
         if not os.access(named, os.X_OK) or os.path.isdir(named):
             raise Refusal("%s names no program: %s" % (name.upper(), named))
         return named
-    for place in (os.path.join(PACKAGE, name), os.path.join(CHECKOUT, "crates", name, "out", name)):
+    for place in (os.path.join(PACKAGE, name), chosen(os.path.join(CHECKOUT, name))):
         if os.access(place, os.X_OK) and os.path.isfile(place):
             return place
     found = shutil.which(name)
     if found is None:
         raise Refusal("no program %s: build it, or set %s to its path" % (name, name.upper()))
     return found
+
+
+def chosen(script):
+    """The path of the program that the script of that path would run, or one of nothing. It builds none."""
+    if not os.access(script, os.X_OK) or os.path.isdir(script):
+        return ""
+    ended = subprocess.run([script, "--program"], stdin=subprocess.DEVNULL, stdout=subprocess.PIPE,
+                           stderr=subprocess.DEVNULL)
+    return os.fsdecode(ended.stdout[:-1]) if ended.returncode == 0 else ""
 
 
 class Program:
