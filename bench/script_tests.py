@@ -114,7 +114,7 @@ class Scratch(unittest.TestCase):
 
     def run_in(self, folder, words, **environment):
         return subprocess.run(words, cwd=folder, capture_output=True, text=True, stdin=subprocess.DEVNULL,
-                              env={**self.environment, **environment}, timeout=120)
+                              env={**self.environment, **environment}, timeout=600)
 
     def held(self, words, status, out, err, script="itfcheck", **environment):
         """Runs the script by its link; out and err have to stand in what it says, and nothing where they are empty."""
@@ -568,7 +568,7 @@ class Files(Scratch):
 class Interrupted(Scratch):
     """However a run ends, the old file is whole or the new one is."""
 
-    MOMENTS, PIECES = 20, 12
+    MOMENTS, PIECES, LARGE = 20, 12, WRITES
     ENDED = {"INT": {-signal.SIGINT, 0}, "TERM": {-signal.SIGTERM, 0}, "KILL": {-signal.SIGKILL, 0}, "program": {137, 0}}
 
     def setUp(self):
@@ -655,14 +655,14 @@ class Interrupted(Scratch):
         self.assertEqual(set(os.listdir(folder)), {"M", "T", "file"})
 
     def test_a_limit_of_file_size(self):
-        for script, words in WRITES:
+        for script, words in self.LARGE:
             folder, target, old = self.folder(words[0], words)
             limited = ["bash", "-c", f'ulimit -f 1; exec {script} "$@"', "", *words, target]
             self.stays(folder, target, old, limited, (6, 153), PAUSE="")
 
     @unittest.skipIf(os.geteuid(), "it takes root to mount a disk")
     def test_a_full_disk(self):
-        for script, words in WRITES:
+        for script, words in self.LARGE:
             folder, target, old = self.folder(words[0], words)
             disk = self.work / "disk"
             disk.mkdir(exist_ok=True)
@@ -678,7 +678,9 @@ class Interrupted(Scratch):
 
 @unittest.skipUnless(os.environ.get("ITFCHECK"), "no programs are given")
 class InterruptedPrograms(Interrupted):
-    """The same with the programs themselves, on the files of a trial."""
+    """The same with the programs themselves, on the files of a trial, whose file of faults is small."""
+
+    LARGE = [(script, words) for script, words in WRITES if script == "itfcheck"]
 
     def prepare(self):
         for name in ("itfcheck", "itffaults"):
