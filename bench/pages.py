@@ -2,7 +2,7 @@
 """Holds the pages (README.md, docs/*.md, bench/README.md) against the tree: links and their anchors,
 the names of files, functions, clauses, definitions and edits that they cite, the counts that a script
 can tell, the order of the crates, and that docs/STATEMENT.md is what the sources say. It counts words,
-as `wc -w` does, and wants at most 40,000 in all and 1,000 in the README. It measures nothing.
+as `wc -w` does, and wants at most 40,800 in all and 1,000 in the README. It measures nothing.
 
 usage: pages.py            says what is wrong; the status is 1 where something is
        pages.py --words    prints the words of each page too
@@ -13,7 +13,7 @@ import subprocess
 import sys
 
 TOP = os.path.dirname(os.path.dirname(os.path.abspath(__file__)))
-MOST, MOST_OF_README, MOST_OF_BENCH = 40_000, 1_000, 3_000
+MOST, MOST_OF_README, MOST_OF_BENCH = 40_800, 1_000, 3_000
 KINDS = (".rt", ".antt", ".py", ".sh", ".hpp", ".cpp", ".toml", ".edit", ".ili", ".itf", ".txt", ".svg")
 FENCE = re.compile(r"^```.*?^```$", re.M | re.S)
 LINK = re.compile(r"\[[^\]]*\]\(([^()\s]+)\)")

@@ -4,6 +4,7 @@ The folder takes its name when it is whole, with `result.json` in it. A verdict 
 program ended with the status of that verdict and its report is whole and says the same, and where the
 transfer did not change meanwhile. All else is NOT JUDGED, with the reason, and never a verdict.
 """
+import contextlib
 import json
 import os
 import platform
@@ -21,7 +22,7 @@ from itftools.refusal import Refusal
 from itftools.statuses import JUDGED
 
 NOT_JUDGED = "NOT JUDGED"
-RESULT = "result.json"
+RESULT, WORK = "result.json", ".work"
 TOOL = [sys.executable, "-m", "itftools"]
 HERE = os.path.dirname(os.path.dirname(os.path.dirname(os.path.abspath(__file__))))
 
@@ -44,7 +45,7 @@ class Judge:
             is_same = all(result.get(key) == value for key, value in self.common.items())
             if not is_same or result["verdict"] == NOT_JUDGED or result["name"] != printable(source.name):
                 return None
-            work = os.path.join(self.out, ".work", "%s-%d-%s" % (platform.node(), os.getpid(), source.folder))
+            work = self.work(source)
             os.makedirs(work, exist_ok=True)
             try:
                 _, checksum = sums(source.copy(work))
@@ -54,9 +55,13 @@ class Judge:
         except (OSError, ValueError, KeyError):
             return None
 
+    def work(self, source):
+        """A folder for a delivery while it is judged, by this process of this machine."""
+        return os.path.join(self.out, WORK, "%s~%d~%s" % (platform.node(), os.getpid(), source.folder))
+
     def judge(self, source):
         """Judges a delivery and keeps what came of it; its result."""
-        work = os.path.join(self.out, ".work", "%s-%d-%s" % (platform.node(), os.getpid(), source.folder))
+        work = self.work(source)
         shutil.rmtree(work, ignore_errors=True)
         os.makedirs(work)
         began = time.time()
@@ -115,8 +120,12 @@ class Judge:
         """The page is made by a process of its own; where there is none, the verdict stays."""
         paths = os.pathsep.join(filter(None, [HERE, os.environ.get("PYTHONPATH")]))
         words = [self.model, transfer, report, listed, "-o", os.path.join(work, "page.html"), "--lang", self.language]
-        made = subprocess.run([*TOOL, "page", *words], stdin=subprocess.DEVNULL, stdout=subprocess.DEVNULL,
-                              stderr=subprocess.PIPE, env={**os.environ, "PYTHONPATH": paths})
+        try:
+            made = subprocess.run([*TOOL, "page", *words], stdin=subprocess.DEVNULL, stdout=subprocess.DEVNULL,
+                                  stderr=subprocess.PIPE, env={**os.environ, "PYTHONPATH": paths}, timeout=self.timeout)
+        except subprocess.TimeoutExpired:
+            result["notes"].append("no page: it was not made within %g seconds" % self.timeout)
+            return
         if made.returncode != 0:
             lines = made.stderr.decode("utf-8", "replace").strip().splitlines()
             result["notes"].append("no page: " + printable(lines[-1] if lines else ended_with(made.returncode)))
@@ -130,6 +139,30 @@ class Judge:
             os.replace(folder, old)
         os.replace(work, folder)
         shutil.rmtree(old, ignore_errors=True)
+
+
+def tidy(out):
+    """Removes what processes of this machine left behind that run no more; that of others stays."""
+    folder = os.path.join(out, WORK)
+    for name in os.listdir(folder) if os.path.isdir(folder) else ():
+        node, number, _ = (name.split("~", 2) + ["", ""])[:3]
+        if node == platform.node() and number.isdecimal() and not is_running(int(number)):
+            shutil.rmtree(os.path.join(folder, name), ignore_errors=True)
+    with contextlib.suppress(OSError):          # it is not there, or not empty
+        os.rmdir(folder)
+
+
+def is_running(number):
+    """Whether another process with this number runs."""
+    if number == os.getpid():
+        return False
+    try:
+        os.kill(number, 0)
+    except ProcessLookupError:
+        return False
+    except OSError:
+        pass
+    return True
 
 
 def verdict_of(status, report):
