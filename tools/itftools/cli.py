@@ -47,6 +47,9 @@ def main(words=None):
     except (OSError, Refusal) as why:
         print("itf %s: not done: %s" % (given.command, why), file=sys.stderr)
         return NOT_DONE
+    except MemoryError:
+        print("itf %s: not done: memory ran out" % given.command, file=sys.stderr)
+        return NOT_DONE
     except (IndexError, KeyError, ValueError) as why:
         print("itf %s: not done: a file has a line that is none: %r" % (given.command, why), file=sys.stderr)
         return NOT_DONE
