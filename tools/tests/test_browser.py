@@ -20,7 +20,7 @@ SHOTS = os.environ.get("ITF_SHOTS")
 # What no page may show: the text of an element goes beyond it, or it goes beyond the window.
 OVERFLOW = """const found = [], wide = document.documentElement.clientWidth;
 for (const its of document.querySelectorAll('h1, h2, h3, p, li, dt, dd, button, label, select, td, th')) {
-  if (!its.offsetParent || its.closest('.wide') || its.closest('.hidden')) continue;
+  if (!its.offsetParent || its.closest('.hidden') || wide > 600 && its.closest('.wide')) continue;
   const box = its.getBoundingClientRect();
   if (box.right > wide + 1 || box.left < -1 || its.scrollWidth > its.clientWidth + 1 && its.clientWidth > 0
       && getComputedStyle(its).display !== 'inline') found.push(its.tagName + ' ' + its.textContent.slice(0, 60));

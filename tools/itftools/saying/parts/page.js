@@ -87,8 +87,8 @@ function showSummary() {
   const head = el("tr", {}, el("th", { scope: "col" }, ui("part")), el("th", { scope: "col" }, ui("state")),
     ...kinds.map(name => el("th", { scope: "col" }, kind(name)[0])));
   const body = [...rows].map(([name, row]) => el("tr", {}, el("th", { scope: "row" }, name),
-    el("td", {}, row.part ? state(row.part) : "-"),
-    ...kinds.map(its => el("td", { class: "number" }, !row.counts[its] ? "" : button(count(row.counts[its]),
+    el("td", { "data-label": ui("state") }, row.part ? state(row.part) : "-"),
+    ...kinds.map(its => el("td", { class: "number", "data-label": kind(its)[0] }, !row.counts[its] ? "" : button(count(row.counts[its]),
       () => { setFilter({ kind: its, part: (row.part || row).names.join("."), text: "" }); $("list-title").scrollIntoView(); },
       { "aria-label": ui("showThese", { n: count(row.counts[its]), kind: kind(its)[0], part: name }) })))));
   if (!body.length) return put("summary", el("p", {}, ui("nothing")));
@@ -375,10 +375,11 @@ function showList() {
 }
 function row(fault) {
   const first = fault.rows[0];
-  return el("tr", { id: "row-" + fault.id, class: fault === chosen ? "chosen" : "" }, el("td", { class: "number" }, String(fault.id)),
-    el("td", {}, dot(fault.kind, fault.judged), button(kind(fault.kind)[0], () => choose(fault, true))), el("td", {}, nameOf(fault)),
-    el("td", { class: "number" }, fault.rows.map(its => its.line).join(", ")), el("td", {}, first && first.tid || ""),
-    el("td", { class: "number" }, fault.at ? fault.at.join(" / ") : "-"));
+  const cell = (name, its, isNumber) => el("td", { class: isNumber ? "number" : "", "data-label": ui("column_" + name) }, its);
+  return el("tr", { id: "row-" + fault.id, class: fault === chosen ? "chosen" : "" }, cell("id", String(fault.id), true),
+    el("td", {}, dot(fault.kind, fault.judged), button(kind(fault.kind)[0], () => choose(fault, true))), cell("part", nameOf(fault)),
+    cell("line", fault.rows.map(its => its.line).join(", "), true), cell("tid", first && first.tid || ""),
+    cell("place", fault.at ? fault.at.join(" / ") : "-", true));
 }
 $("more").addEventListener("click", () => { most += STEP; showList(); });
 
