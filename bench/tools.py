@@ -178,11 +178,13 @@ def killed(count):
         fail(ended.returncode, ended.stderr, ended.stdout[-500:])
     choice = random.Random(1)
     for _ in range(20):
-        started = subprocess.Popen(batch("parts", "-j", "4", "--resume"), stdout=subprocess.DEVNULL,
+        started = subprocess.Popen(batch("parts", "-j", "4", "--resume"), stdout=subprocess.PIPE,
                                    stderr=subprocess.DEVNULL, start_new_session=True)
-        time.sleep(choice.uniform(0.05, 0.15) * (1 + seconds / 2))
+        for _ in range(choice.randrange(count // 12 + 2)):      # the lines that it says before it is killed
+            started.stdout.readline()
+        time.sleep(choice.uniform(0, 0.1))
         os.killpg(started.pid, choice.choice((signal.SIGKILL, signal.SIGTERM)))
-        started.wait()
+        started.communicate()
     ended = run(*batch("parts", "-j", "4", "--resume"))
     if summary("parts") != summary("whole"):
         fail("the summary of a batch that was killed is another one:", ended.stderr)
