@@ -43,7 +43,8 @@ class Judge:
             with open(name, encoding="utf-8") as file:
                 result = json.load(file)
             is_same = all(result.get(key) == value for key, value in self.common.items())
-            if not is_same or result["verdict"] == NOT_JUDGED or result["name"] != printable(source.name):
+            if (not is_same or result["verdict"] == NOT_JUDGED or result["again"]
+                    or result["name"] != printable(source.name)):
                 return None
             work = self.work(source)
             os.makedirs(work, exist_ok=True)
@@ -66,7 +67,8 @@ class Judge:
         os.makedirs(work)
         began = time.time()
         result = {"name": printable(source.name), "folder": source.folder, **self.common, "verdict": NOT_JUDGED,
-                  "status": None, "objects": None, "counts": {}, "bytes": None, "sha256": None, "why": "", "notes": []}
+                  "status": None, "objects": None, "counts": {}, "bytes": None, "sha256": None, "why": "", "notes": [],
+                  "again": False}
         try:
             self.into(result, source, work)
         except Exception as why:        # whatever it is, it is no verdict, and the next delivery is judged
@@ -89,6 +91,7 @@ class Judge:
         ended = self.run("itffaults", subprocess.DEVNULL, self.model, transfer, faults)
         if ended not in (0, 1, 2):
             result["notes"].append("no list of all faults: %s" % ended_with(ended))
+            result["again"] = ended < 0         # ended by a signal, perhaps with the whole batch
         if (result["bytes"], result["sha256"]) != sums(transfer):
             raise Refusal("the transfer changed while it was judged")
         listed = faults if ended in (0, 1, 2) and os.path.exists(faults) else "-"
@@ -128,6 +131,7 @@ class Judge:
             return
         if made.returncode != 0:
             lines = made.stderr.decode("utf-8", "replace").strip().splitlines()
+            result["again"] = result["again"] or made.returncode < 0
             result["notes"].append("no page: " + printable(lines[-1] if lines else ended_with(made.returncode)))
 
     @staticmethod
