@@ -38,6 +38,9 @@ def parser():
 
 
 def main(words=None):
+    if not (sys.argv[1:] if words is None else words):
+        parser().print_help(sys.stderr)
+        return WRONG_WORDS
     given = parser().parse_args(words)
     try:
         return given.run(given)
