@@ -102,16 +102,16 @@ class Sides:
         for index, line in enumerate(area.lines):
             if line in lines:
                 self.index_of[line] = index
-        but = {self.index_of[line] for fact in bad for line in fact.lines}
+        self.but = but = {self.index_of[line] for fact in bad for line in fact.lines}
         boxes = [box_of(area.curve(self.index_of[fact.lines[0]])) for fact in facts]
         self.near = Near(area, boxes, but)
         self.limits = extent(area)
 
     def of(self, fact):
         """What stands in `extra` of a fault: `sides_of_line`, and of EMPTY and OPEN `beside`."""
-        if fact.extra.get("bent"):
-            return {}
         index = self.index_of[fact.lines[0]]
+        if fact.extra.get("bent") or index in self.but:
+            return {}
         before, self.area.index = self.area.index, self.near
         try:
             regions = {side: self.region(index, side == "LEFT") for side in ("LEFT", "RIGHT")}
