@@ -1,5 +1,6 @@
 // The pairs of a rule: rows with a point and a reference, and the numbers of their objects.
 ghost use Rattle.std.specs.Prelude.{◌≤◌, ℕ, [], IsTrue, length, slice_index_or};
+ghost use Rattle.std.specs.List.{All};
 ghost use Rattle.itf_reader.specs.Views.{transfer_of};
 ghost use Rattle.table_layout.specs.Valid.{IsValid};
 ghost use Rattle.table_layout.specs.Values.{layout_view};
@@ -7,7 +8,7 @@ ghost use Rattle.table_layout.specs.Values.{layout_view};
 use super::layouts::layout_of;
 use super::transfers::lines_of;
 use area_links::{LinkPair, LinkRule, link_pairs};
-use itf_reader::{Transfer, read_transfer};
+use itf_reader::{TableRows, Transfer, read_transfer};
 use plane::Point;
 use ports::Memory;
 use std::alloc::Global;
@@ -59,15 +60,24 @@ const PAIRS: [LinkPair; 3] = [
     },
 ];
 
+fn is_few(table: &TableRows) -> bool
+    ensures { IsTrue result → length table.now.rows.items ≤ 4294967295 }
+{
+    table.rows.len() <= 4_294_967_295
+}
+
+fn are_few(tables: &[TableRows]) -> bool
+    ensures { IsTrue result → All (λ t. length t.rows.items ≤ 4294967295) tables.now }
+{
+    tables.iter().all(|table| is_few(table))
+}
+
 // Whether each table has so few rows that their numbers have 32 bits.
 fn has_few_rows(transfer: &Transfer) -> bool
     ensures { IsTrue result → (number : ℕ)
         → length (slice_index_or (transfer_of transfer.now) number []) ≤ 4294967295 }
 {
-    transfer
-        .tables
-        .iter()
-        .all(|table| table.rows.len() <= 4_294_967_295)
+    are_few(&transfer.tables)
 }
 
 // Whether the transfer of the text has these pairs by the rule.
