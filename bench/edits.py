@@ -245,7 +245,7 @@ def main():
     words.add_argument("--all", action="store_true")
     words.add_argument("--logs")
     words.add_argument("names", nargs="*")
-    words = words.parse_args()
+    words = words.parse_intermixed_args()
     gate, others = words.gate or words.all, words.all or not words.gate
     wanted = {}
     for crate in sorted(os.listdir(os.path.join(TOP, "crates"))):
