@@ -492,7 +492,10 @@ def table(head, rows):
 def told(outcomes, keep):
     """Prints what came of all deliveries; whether no difference is left that is not expected."""
     kinds, calls, said = collections.Counter(), collections.Counter(), collections.Counter()
-    for outcome in outcomes:
+    for count, outcome in enumerate(outcomes):
+        if count and count % 1000 == 0:
+            differ = sum(kinds[kind, "differ"] for kind in KINDS)
+            print("%d deliveries, of which %d differ" % (count, differ), file=sys.stderr, flush=True)
         kinds.update([(outcome.kind, "all")])
         kinds.update([(outcome.kind, "differ")] if outcome.differ else [])
         kinds.update([(outcome.kind, "expected")] if outcome.expected else [])
