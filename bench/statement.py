@@ -77,7 +77,7 @@ counted that are not needed.
 
 FAULTS = """## The program `itffaults`
 
-The clause `cause` of `itffaults::run` (`HasCause`) adds {definitions} definitions with {lines} lines, in \
+The contract of `itffaults::run` (`IsFaultCall`) adds {definitions} definitions with {lines} lines, in \
 {files} files. What it says is in [PROOFS](PROOFS.md#itffaults).
 """
 
@@ -351,8 +351,8 @@ def parts_of(sources, contract, known):
 
 def faults_part(sources, known):
     """What the contract of `itffaults` rests on beside what is known."""
-    cause = sources.modules["Rattle.itffaults.specs.Faults"].definitions["HasCause"]
-    return Section(sources, "All faults", "", [cause], known)
+    call = sources.modules["Rattle.itffaults.specs.Calls"].definitions["IsFaultCall"]
+    return Section(sources, "All faults", "", [call], known)
 
 
 def the_one(definitions, name):

@@ -1,4 +1,5 @@
 pub mod Calls
+pub mod Clean
 pub mod Ended
 pub mod FaultTextLemmas
 pub mod Rejections

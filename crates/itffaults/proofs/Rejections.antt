@@ -14,7 +14,6 @@ use Rattle.commands.specs.declared.command.Verb.TheVariants.{Check}
 use Rattle.commands.specs.declared.files.File.TheVariants.{Transfer}
 use Rattle.delivery.specs.Causes.{HasOutcome}
 use Rattle.delivery.specs.Drawn.{names}
-use Rattle.delivery.specs.Effects.{HoldsFront}
 use Rattle.delivery.specs.Ending.{CommandOutcome}
 use Rattle.delivery.specs.Judging.{IsChecked, at_fault, faulty, findings, oversized, sound}
 use Rattle.itffaults.specs.FaultText.Text.{rejected_text}
@@ -35,8 +34,11 @@ use Rattle.reports.specs.declared.outcome.Outcome as outcome
 use Rattle.reports.specs.declared.status.Status.{Status}
 use Rattle.reports.specs.declared.status.Status.TheVariants as status
 use Rattle.table_layout.specs.Layouts.{Layout}
-use Rattle.itffaults.specs.Faults.{IsRejection, IsWritten, LeavesRejection, Reports, is_finding}
-use Rattle.itffaults.specs.Faults.{rejection}
+use Rattle.itffaults.specs.Calls.{with_file}
+use Rattle.itffaults.specs.Decided.{outcome_by}
+use Rattle.itffaults.specs.Faults.{IsRejection, is_finding, rejection, rejection_text}
+use Rattle.itffaults.specs.declared.deciding.Decided.{Decided}
+use Rattle.itffaults.specs.declared.telling.Telling.{Telling}
 
 -- ---- what rejects a transfer has lines, and behind them the verdict
 abbrev chosen : List Line → Outcome → Bool → Bool → Outcome
@@ -207,23 +209,14 @@ module _ (o : outcome.Outcome) (ls : List Line) (e : outcome_of o ≡ rejection 
         status = refl;
       }
 
-module _ (ls : List Line) (t r : List ℕ) (s : Status) (h : IsRejection ls t r s) where
-  pub rejection_writes : s ≡ status.WriteFault → ⊥
-  rejection_writes e = let q : status.Rejected ≡ status.WriteFault = sym h.status ∙ e in absurd (cc)
-
-  pub rejection_memory : s ≡ status.Memory → ⊥
-  rejection_memory e = let q : status.Rejected ≡ status.Memory = sym h.status ∙ e in absurd (cc)
-
-  pub leaves : (held : Option Files) (name : List ℕ) (wrote : Type 0) (answer : Status)
-      (new : Option Files) (before after : Option (List ℕ))
-      → IsWritten held name t wrote answer new before after → HoldsFront held name t new
-      → Reports r s answer before after → LeavesRejection ls held name wrote answer new before after
-  leaves held name wrote answer new before after filed begun reports =
-      record {
-        filed = subst (λ (text : List ℕ). IsWritten held name text wrote answer new before after)
-            h.text filed;
-        begun = subst (λ (text : List ℕ). HoldsFront held name text new) h.text begun;
-        reports = subst (λ (text : List ℕ). Reports text status.Rejected answer before after)
-            h.report
-            (subst (λ (x : Status). Reports r x answer before after) h.status reports);
-      }
+-- what is decided so goes to the file
+pub filed_lines : (d : Decided) (t : Telling) (ls : List Line)
+    → IsRejection ls t.text t.report.items t.status
+    → ((name : List ℕ) → outcome_by name d ≡ with_file t.status t.report.items name t.text)
+    → (name : List ℕ) → outcome_by name d
+    ≡ with_file status.Rejected (report_of (rejection ls)) name (rejection_text ls)
+filed_lines d t ls h e name =
+    e name
+    ∙ ap (λ (s : Status). with_file s t.report.items name t.text) h.status
+    ∙ ap (λ (r : List ℕ). with_file status.Rejected r name t.text) h.report
+    ∙ ap (λ (x : List ℕ). with_file status.Rejected (report_of (rejection ls)) name x) h.text

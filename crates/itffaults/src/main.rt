@@ -15,8 +15,10 @@
 //!   8, as `run` does.
 #![tactic(auto)]
 
+mod deciding;
 mod fault_text;
 mod naming;
+mod publishing;
 mod rejecting;
 mod running;
 mod telling;

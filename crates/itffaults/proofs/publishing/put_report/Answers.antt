@@ -1,6 +1,6 @@
 use Rattle.std.proofs.Common.{refl}
 use Rattle.delivery.proofs.PutLemmas.{all_is_prefix}
-use Rattle.itffaults.proofs.running.put_report.Goals as goal
+use Rattle.itffaults.proofs.publishing.put_report.Goals as goal
 
 pub returns-in-Ok-clause-reports : goal.returns-in-Ok-clause-reports
 returns-in-Ok-clause-reports g c = record {

@@ -1,5 +1,5 @@
 use Rattle.delivery.proofs.PutLemmas.{begun_after, emptied_front, filed_after}
-use Rattle.itffaults.proofs.running.write_text.Goals as goal
+use Rattle.itffaults.proofs.publishing.write_text.Goals as goal
 
 pub returns-in_err-start-clause-begun : goal.returns-in_err-start-clause-begun
 returns-in_err-start-clause-begun g c =
