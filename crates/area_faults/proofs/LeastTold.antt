@@ -11,9 +11,8 @@ use Rattle.fault_lists.specs.declared.kinds.SideAt.{SideAt}
 use Rattle.fault_lists.specs.DrawingFaces.{AreCurveFaces, AreDrawingFaces, face_count, faces_of}
 use Rattle.fault_lists.specs.FaceLists.{face_beside, HasExactly, IsLeastSideOf}
 use Rattle.fault_lists.specs.FaceLists.{IsSide, side_number}
-use Rattle.fault_lists.specs.FaultLists.{IsBeside}
+use Rattle.fault_lists.specs.FaultLists.{AreLeastSides, IsBeside}
 use Rattle.fault_lists.proofs.FacesOfRest as faces
-use Rattle.area_faults.specs.Answers.{AreLeastSides}
 
 module _ (d r : Plan) (out : ℕ → Bool) (rest : IsRestOf d r out) (f : DrawingFaces)
     (D : AreDrawingFaces d r out rest f) (Is : ℕ → Type 0) (sides : List SideAt)

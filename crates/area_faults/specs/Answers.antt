@@ -18,7 +18,7 @@ use Rattle.fault_lists.specs.declared.kinds.MeetingAt.{MeetingAt}
 use Rattle.fault_lists.specs.declared.kinds.Region.{Region}
 use Rattle.fault_lists.specs.declared.kinds.SideAt.{SideAt}
 use Rattle.fault_lists.specs.FaceLists.{side_number}
-use Rattle.fault_lists.specs.FaultLists.{AreFaults, AreMeetings, IsBeside, IsMet}
+use Rattle.fault_lists.specs.FaultLists.{AreFaults, AreLeastSides, AreMeetings, IsMet}
 use Rattle.forks.specs.declared.bent_drawing.Bent.{Bent as Copy}
 use Rattle.tubes.specs.DrawnEdges.{AreStraights}
 
@@ -31,12 +31,6 @@ AreLeftOut count origin ms all_out out =
 pub record AreBelow (count : ℕ) (m : MeetingAt) : Type 0 where
   pub first : m.first < count
   pub second : m.second < count
-
--- Each side of the list is the least one of its face, of all sides of curves that are not left out.
-abbrev pub AreLeastSides : (d r : Plan) (out : ℕ → Bool) → IsRestOf d r out → List SideAt → Type 0
-AreLeastSides d r out rest sides =
-    (s o : SideAt) (z : Vector) → Contains sides s → (out o.curve ≡ true → ⊥) → Place z
-    → IsBeside d r out rest s z → IsBeside d r out rest o z → side_number s ≤ side_number o
 
 -- All faults of a drawing on a ground, with all curves left out or not. A face without a point, and
 -- one that is open, is told by its least side.

@@ -1,5 +1,5 @@
 -- All faults of a drawing, list by list.
-use Rattle.std.specs.Prelude.{◌≡◌, ◌↔◌, ◌⊎◌, ℕ, ◌+◌, ◌*◌, ◌^◌, ◌<◌, Bool, true, false, List}
+use Rattle.std.specs.Prelude.{◌≡◌, ◌↔◌, ◌⊎◌, ℕ, ◌+◌, ◌*◌, ◌^◌, ◌<◌, ◌≤◌, Bool, true, false, List}
 use Rattle.std.specs.Prelude.{[], length, map}
 use Rattle.std.specs.List.{Contains}
 use Rattle.std.specs.List.Sorted.{IsStrictlyIncreasing}
@@ -106,6 +106,22 @@ abbrev pub HasFacesOnce : (d r : Plan) (out : ℕ → Bool) → IsRestOf d r out
 HasFacesOnce d r out rest sides =
     (s o : SideAt) (z : Vector) → Contains sides s → Contains sides o → Place z
     → IsBeside d r out rest s z → IsBeside d r out rest o z → s ≡ o
+
+-- Each side of the list is the least one of its face, of all sides of curves that are not left out.
+abbrev pub AreLeastSides : (d r : Plan) (out : ℕ → Bool) → IsRestOf d r out → List SideAt → Type 0
+AreLeastSides d r out rest sides =
+    (s o : SideAt) (z : Vector) → Contains sides s → (out o.curve ≡ true → ⊥) → Place z
+    → IsBeside d r out rest s z → IsBeside d r out rest o z → side_number s ≤ side_number o
+
+-- The lists of the two are equal.
+pub record HaveSameLists (f g : FaceFaults) : Type 0 where
+  pub outside : f.outside.items ≡ g.outside.items
+  pub shared : f.shared.items ≡ g.shared.items
+  pub empty : f.empty.items ≡ g.empty.items
+  pub cuts : f.cuts.items ≡ g.cuts.items
+  pub outer_open : f.outer_open ≡ g.outer_open
+  pub broken : f.open.items ≡ g.open.items
+  pub unjudged : f.unjudged.items ≡ g.unjudged.items
 
 -- What is listed is of closed faces alone: points outside, points in one bounded face, faces without
 -- a point, and both sides of a curve that is not left out, wherever a segment crosses it.

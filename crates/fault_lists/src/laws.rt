@@ -19,7 +19,7 @@ ghost use Rattle.fault_lists.specs.DrawingFaces.{AreDrawingFaces};
 ghost use Rattle.fault_lists.specs.FaceLists.{AreFaceFaults};
 ghost use Rattle.fault_lists.specs.Faults.{AreTwo, LiesOn, LiesOutside};
 ghost use Rattle.fault_lists.specs.FaultLists.{AreFaults, AreFaultsOver, AreRegionsOver};
-ghost use Rattle.fault_lists.specs.FaultLists.{AreToldTwo, IsBeside};
+ghost use Rattle.fault_lists.specs.FaultLists.{AreLeastSides, AreToldTwo, HaveSameLists, IsBeside};
 ghost use Rattle.fault_lists.specs.FaultLists.{IsMet, IsOfPair, IsToldOr};
 ghost use Rattle.fault_lists.specs.Rings.{AreRegions};
 
@@ -28,6 +28,18 @@ pub fn numbers_tell_faults()
     ensures { (d r : Plan) (out : ℕ → Bool) (rest : IsRestOf d r out) (f : DrawingFaces)
         (t : FaceFaults) → AreDrawingFaces d r out rest f → AreFaceFaults f t
         → AreFaultsOver d r out rest t }
+{}
+
+/// Two answers to one drawing, of whose curves the same are left out, have equal lists, where each
+/// face that is told by a side is told by its least one.
+pub fn lists_are_one()
+    ensures { (d r s : Plan) (out other : ℕ → Bool) (rest : IsRestOf d r out)
+        (too : IsRestOf d s other) (f g : FaceFaults)
+        → ((i : ℕ) → i < length d.curves → out i ≡ other i)
+        → AreFaultsOver d r out rest f → AreFaultsOver d s other too g
+        → AreLeastSides d r out rest f.empty.items → AreLeastSides d r out rest f.open.items
+        → AreLeastSides d s other too g.empty.items → AreLeastSides d s other too g.open.items
+        → HaveSameLists f g }
 {}
 
 /// The sides that one face has by the numbers are those of one face of the drawing.
