@@ -42,3 +42,4 @@ pub mod CurveChains
 pub mod TubeHalves
 pub mod SettledSides
 pub mod RoundFaces
+pub mod LeastLevels

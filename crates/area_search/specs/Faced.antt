@@ -20,7 +20,7 @@ use Rattle.area_search.specs.declared.kinds.FacedDrawing.{FacedDrawing}
 use Rattle.area_search.specs.declared.settled.case.SettledDrawing.{SettledDrawing}
 use Rattle.area_search.specs.declared.settled.case.Spot.{Spot}
 use Rattle.area_search.specs.declared.settled.case.Spot.TheVariants as spot
-use Rattle.area_search.specs.Settled.Cases.{HasRunFaces, IsRunMesh, face_over}
+use Rattle.area_search.specs.Settled.Cases.{HasRunFaces, IsRunMesh, face_over, levels_in}
 
 -- The edge of each straight, by number.
 abbrev pub edge : Plan → ℕ → Edge
@@ -59,8 +59,8 @@ pub record IsFacedDrawing (d : Plan) (f : FacedDrawing) : Type 0 where
 -- ---- what the code adds
 -- The mesh with its faces is that of a run of the settled drawing.
 pub record IsLabelledRun (c : SettledDrawing) (vs : List Move) (l : Labelled) : Type 0 where
-  pub faces_are : HasRunFaces (plan c.drawing.now) c.level vs l.mesh l.count
-  pub outline : IsRunMesh (plan c.drawing.now) c.level vs l.mesh
+  pub faces_are : HasRunFaces (plan c.drawing.now) (levels_in c) vs l.mesh l.count
+  pub outline : IsRunMesh (plan c.drawing.now) (levels_in c) vs l.mesh
   pub vertices : l.mesh.vertices ≡ length vs
 
 -- The edge under the cell has its half-edge among so many.

@@ -1,4 +1,4 @@
--- A drawing that a level settles: the places of its points, its faces, and what is written of it.
+-- A drawing that levels of its curves settle: the places of its points, its faces, and what is written of it.
 -- Main definition: `Cases.IsSettledRun`.
 pub mod Cases
 pub mod CaseOwners
@@ -6,6 +6,7 @@ pub mod CaseRoots
 pub mod CaseNotes
 pub mod CaseSides
 pub mod FaceNumbers
+pub mod LeastLevels
 pub mod Writing
 pub mod Meshing
 pub mod Spots

@@ -5,6 +5,7 @@ pub mod Facings
 pub mod FewEdges
 pub mod HalfArcTubes
 pub mod Holding
+pub mod Levels
 pub mod Making
 pub mod Settled
 pub mod TubedEdges

@@ -1,5 +1,39 @@
 // Edges, and what each of them stands for.
+ghost use Rattle.std.specs.Prelude.{◌≡◌, slice_index_or};
+ghost use Rattle.tubes.specs.Levels.{level_by};
+
 use plane::{Edge, Point};
+
+/// The levels of half arcs by the numbers of their curves. Those of straights count for nothing.
+#[derive(Drop)]
+pub enum Levels {
+    /// One level for all.
+    One(u8),
+    /// A level for each curve.
+    Own(Vec<u8>),
+}
+
+impl Levels {
+    /// The level of a curve; 0 beyond the last one that has its own.
+    pub fn of(&self, curve: u32) -> u8
+        ensures { result ≡ level_by self.now curve }
+    {
+        match self {
+            Levels::One(level) => *level,
+            Levels::Own(levels) => own_level(levels, curve),
+        }
+    }
+}
+
+// The level of that number, 0 beyond the last one.
+fn own_level(levels: &[u8], curve: u32) -> u8
+    ensures { result ≡ slice_index_or levels.now curve 0 }
+{
+    match levels.get(curve as usize) {
+        Some(level) => *level,
+        None => 0,
+    }
+}
 
 /// The corners of a half arc's tube at a level. The inner points go from the half arc's first end
 /// to its other end, and over every two of them stands one outer point. The triangles of the tube

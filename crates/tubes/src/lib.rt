@@ -68,6 +68,6 @@ mod spans;
 pub use corners::foreign_corner;
 pub use facing::facings;
 pub use holding::{holds, is_in_triangle};
-pub use kinds::{EdgeList, Facing, Owner, Part, Tube};
+pub use kinds::{EdgeList, Facing, Levels, Owner, Part, Tube};
 pub use listing::edge_list;
 pub use making::tube;

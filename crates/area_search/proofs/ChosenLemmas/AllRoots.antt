@@ -24,7 +24,7 @@ use Rattle.area_search.specs.Settled.Cases.{IsOffCurves, IsSpot, spot_at}
 use Rattle.area_search.specs.Settled.Writing.{over_some, under_some}
 use Rattle.area_search.proofs.ChosenLemmas.OnePlaces.{one_sector}
 use Rattle.area_search.proofs.PlaneLaws.{has_back, has_front, list_is}
-use Rattle.area_search.proofs.SettledLemmas.CaseNames.{E, Labelling, bays, d, level, m, mesh, name}
+use Rattle.area_search.proofs.SettledLemmas.CaseNames.{E, Labelling, bays, d, levels, m, mesh, name}
 use Rattle.area_search.proofs.SettledLemmas.CaseNames.{points, r, spots, steps, vs, within}
 use Rattle.area_search.proofs.SettledLemmas.CasePlaces.{place_is}
 use Rattle.area_search.proofs.SettledLemmas.CaseRootLists.{Rooting, border_listed, chain_listed}
@@ -64,7 +64,7 @@ module _ (s : Labelling) (g : Rooting s) where
 
     -- ---- beside the cell of a point
     module _ (i : ℕ) (lo up : Option ℕ)
-        (cell : IsCell (edges_at (d s) (λ n. level s)) (vs s) (object (d s) j) i lo up) where
+        (cell : IsCell (edges_at (d s) (levels s)) (vs s) (object (d s) j) i lo up) where
       abbrev now : List ℕ
       now = live_from [] (take cell.events (vs s))
 
@@ -91,7 +91,7 @@ module _ (s : Labelling) (g : Rooting s) where
         (s.placed.off j there)
       where
         by_spot : (x : Spot) → spot_at (spots s) j ≡ x
-            → IsSpot (d s) (level s) (vs s) (object (d s) j) x → IsOffCurves x
+            → IsSpot (d s) (levels s) (vs s) (object (d s) j) x → IsOffCurves x
             → Has (number h) (roots s g)
         by_spot (spot.On c) e w o = absurd o
         by_spot (spot.InTube c x) e w o = absurd
@@ -120,7 +120,7 @@ module _ (s : Labelling) (g : Rooting s) where
           (ap (λ (q : runs.Part). is_marked g.chains (own (edge_of h)).curve (part_of q)) p
           ∙ (g.chains_are.outer (own (edge_of h)).curve known.1).1 (j, there, e))
 
-      chain_root : BoundsTubeAt (d s) (level s) g.places h j → Has (number h) (roots s g)
+      chain_root : BoundsTubeAt (d s) (levels s) g.places h j → Has (number h) (roots s g)
       chain_root b = subst (λ (x : Half). Has (number x) (roots s g)) (sym b.is)
           (chain_side b.inside b.part (by_spot (spot_at (spots s) j) refl (s.placed.off j there)))
         where
@@ -137,7 +137,7 @@ module _ (s : Labelling) (g : Rooting s) where
               (one_chain c (own (edge_of h)).curve x b.inside q)
 
   pub every_root : (h : Half) → edge_of h < m s
-      → RootAt (d s) (level s) (r s) (numbers (name s)) g.places h → Has (number h) (roots s g)
+      → RootAt (d s) (levels s) (r s) (numbers (name s)) g.places h → Has (number h) (roots s g)
   every_root h k (inl f) = tube_listed s g h (own (edge_of h)).curve k
       (ap (faced (d s) (bays s) (E s)) f.is ∙ faced_within (d s) (bays s) (E s)
       (edge_of h) f.of_tube)

@@ -31,19 +31,19 @@ record IsCaseRun (d : Plan) (level : ℕ) (edges : List Edge) (owners : List Own
     (facings : List Facing) (spots : List Spot) (mesh : HalfEdges) (count : ℕ)
     (rs : List ℕ) (notes : List HalfNote)
     (vs : List Move) : Type 0 where
-  case : IsCase d level edges owners facings vs
-  off : ArePlacedOff d level vs spots
-  faces : HasRunFaces d level vs mesh count
-  on : IsRunMesh d level vs mesh
+  case : IsCase d (λ n. level) edges owners facings vs
+  off : ArePlacedOff d (λ n. level) vs spots
+  faces : HasRunFaces d (λ n. level) vs mesh count
+  on : IsRunMesh d (λ n. level) vs mesh
   listed : AreCaseRoots facings owners (length d.curves) (closed_gaps vs) spots rs
   told : AreNotes mesh (closed_gaps vs) rs notes
 
 module _ (d : Plan) (level : ℕ) (edges : List Edge) (edge_owners : List Owner)
-    (facings : List Facing) (vs : List Move) (case : IsCase d level edges edge_owners facings vs)
-    (spots : List Spot) (off : ArePlacedOff d level vs spots)
-    (mesh : HalfEdges) (count : ℕ) (faces : HasRunFaces d level vs mesh count) (owners : List ℕ)
-    (own : HaveOwners d level mesh.face spots count owners)
-    (on : IsRunMesh d level vs mesh)
+    (facings : List Facing) (vs : List Move) (case : IsCase d (λ n. level) edges edge_owners facings vs)
+    (spots : List Spot) (off : ArePlacedOff d (λ n. level) vs spots)
+    (mesh : HalfEdges) (count : ℕ) (faces : HasRunFaces d (λ n. level) vs mesh count) (owners : List ℕ)
+    (own : HaveOwners d (λ n. level) mesh.face spots count owners)
+    (on : IsRunMesh d (λ n. level) vs mesh)
     (rs : List ℕ)
     (listed : AreCaseRoots facings edge_owners (length d.curves) (closed_gaps vs) spots rs)
     (places : List PointPlace) (written : places ≡ map spot_place spots)

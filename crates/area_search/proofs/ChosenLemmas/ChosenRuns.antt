@@ -63,11 +63,11 @@ tube_cell i c x e = cc
 
 module _ (d : Plan) (level : ℕ) (table : List Timed) (ps : List ℕ) (edges : List Edge)
     (edge_owners : List Owner) (facings : List Facing)
-    (case : IsCase d level edges edge_owners facings (moves_at table ps)) (spots : List Spot)
-    (off : ArePlacedOff d level (moves_at table ps) spots)
-    (mesh : HalfEdges) (count : ℕ) (faces : HasRunFaces d level (moves_at table ps) mesh count)
-    (owners : List ℕ) (own : HaveOwners d level mesh.face spots count owners)
-    (on : IsRunMesh d level (moves_at table ps) mesh)
+    (case : IsCase d (λ n. level) edges edge_owners facings (moves_at table ps)) (spots : List Spot)
+    (off : ArePlacedOff d (λ n. level) (moves_at table ps) spots)
+    (mesh : HalfEdges) (count : ℕ) (faces : HasRunFaces d (λ n. level) (moves_at table ps) mesh count)
+    (owners : List ℕ) (own : HaveOwners d (λ n. level) mesh.face spots count owners)
+    (on : IsRunMesh d (λ n. level) (moves_at table ps) mesh)
     (rs : List ℕ)
     (listed : AreCaseRoots facings edge_owners (length d.curves)
     (closed_gaps (moves_at table ps)) spots rs) (places : List PointPlace)
@@ -277,13 +277,13 @@ module _ (d : Plan) (level : ℕ) (table : List Timed) (ps : List ℕ) (edges : 
     chosen_place = by_spot (spot_at spots j) refl (off.spots_are.each j l)
         (off.off j (let e = off.spots_are.size in omega (arith, l, e)))
       where
-        clear_over : (i : ℕ) (lo : Option ℕ) (es now : List ℕ) → es ≡ now → IsClearOver d level lo
+        clear_over : (i : ℕ) (lo : Option ℕ) (es now : List ℕ) → es ≡ now → IsClearOver d (λ n. level) lo
             → lo ≡ edge_before now i → (e : ℕ) → AtBefore es i e
             → faced d (drawn_bays d (λ n. level)) E (over e) ≡ 0
-        clear_over i lo es now q clear is e b = subst (IsClearOver d level)
+        clear_over i lo es now q clear is e b = subst (IsClearOver d (λ n. level))
             (is ∙ is_before now i e (subst (λ (xs : List ℕ). AtBefore xs i e) q b)) clear
 
-        by_spot : (x : Spot) → spot_at spots j ≡ x → IsSpot d level vs (object d j) x
+        by_spot : (x : Spot) → spot_at spots j ≡ x → IsSpot d (λ n. level) vs (object d j) x
             → IsOffCurves x → IsChosenPlace s j (place_at s j)
         by_spot (spot.On c) e w o = absurd o
         by_spot (spot.Cell i lo up) e w o =
@@ -303,7 +303,7 @@ module _ (d : Plan) (level : ℕ) (table : List Timed) (ps : List ℕ) (edges : 
 
   -- ---- roots
   module _ (rules : AllRules s) where
-    as_told : (h : Half) → IsRootOf s h → RootAt d level (replay_of s) (labels s) places h
+    as_told : (h : Half) → IsRootOf s h → RootAt d (λ n. level) (replay_of s) (labels s) places h
     as_told h (inl f) = inl (record { of_tube = f.of_tube; is = f.is })
     as_told h (inr (inl x)) = inr (inl x)
     as_told h (inr (inr (j, k, e, inl b))) = inr (inr (j, k, e, inl (cell (rules.placed j k))))

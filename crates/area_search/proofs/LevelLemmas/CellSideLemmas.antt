@@ -65,7 +65,7 @@ module _ (d : Plan) (level : ℕ) (facings : List Facing) (told : AreFacings d (
   within g e h side = let w = closed_edges vs g e fit h side in run_known m E vs w.0 e run w.1 w.2
 
   tagged : (h : Half) → half_edge h < m → tag_at facings owners h ≡ face h
-  tagged = tag_is d level facings told owners are
+  tagged = tag_is d (λ n. level) facings told owners are
 
   -- where both sides of each cell face one tube or none
   module _ (paired : ArePaired facings owners (closed_gaps vs)) where
@@ -150,9 +150,9 @@ module _ (d : Plan) (level : ℕ) (list : EdgeList) (t : IsTubedList d (λ n. le
         (cells_paired d level facings told list.owners.items t.owners vs fit own_tubes.run paired);
   }
 
-  pub is_case : IsCase d level list.edges.items list.owners.items facings vs
+  pub is_case : IsCase d (λ n. level) list.edges.items list.owners.items facings vs
   is_case = record {
-    low = low;
+    low = λ i. low;
     tubes = t.tubes;
     edges_are = t.edges;
     owners_are = t.owners;

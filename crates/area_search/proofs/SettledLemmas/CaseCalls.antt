@@ -47,36 +47,36 @@ roots_as facings os n n2 gs spots rs rs2 e f h =
     subst (AreCaseRoots facings os n2 gs spots) (sym f)
     (subst (λ (x : ℕ). AreCaseRoots facings os x gs spots rs) e h)
 
-module _ (d : Plan) (level : ℕ) (edges : List Edge) (edge_owners : List Owner)
+module _ (d : Plan) (levels : ℕ → ℕ) (edges : List Edge) (edge_owners : List Owner)
     (facings : List Facing) (vs : List Move)
-    (case : IsCase d level edges edge_owners facings vs) where
+    (case : IsCase d levels edges edge_owners facings vs) where
   abbrev m : ℕ
-  m = length (edges_at d (λ n. level))
+  m = length (edges_at d levels)
 
   pub owner_size : length edge_owners ≡ length facings
-  owner_size = owner_count d level facings case.facings_are edge_owners case.owners_are
+  owner_size = owner_count d levels facings case.facings_are edge_owners case.owners_are
       ∙ sym case.facings_are.count
 
   pub owners_known : (e : ℕ) → e < length edge_owners
       → (owner_at edge_owners e).curve < length d.curves
   owners_known e l =
-      let k : e < m = (let q = owner_count d level facings case.facings_are edge_owners
+      let k : e < m = (let q = owner_count d levels facings case.facings_are edge_owners
       case.owners_are in omega (arith, l, q)) in
       let o = ap (λ (x : Owner). x.curve)
-      (owner_is d level facings case.facings_are edge_owners case.owners_are e k) in
-      elim (owned_is d (drawn_bays d (λ n. level)) m (edge_at d (λ n. level))
+      (owner_is d levels facings case.facings_are edge_owners case.owners_are e k) in
+      elim (owned_is d (drawn_bays d levels) m (edge_at d levels)
       (steps_from [] vs) case.settled.run e k) [
         | inl w ↦ (let a = w.number in let b = w.fits in omega (arith, o, a, b))
         | inr w ↦ (let a = w.number in let b = w.fits in omega (arith, o, a, b))
       ]
 
-  module _ (few : m < 2 ^ 31) (spots : List Spot) (off : ArePlacedOff d level vs spots) where
+  module _ (few : m < 2 ^ 31) (spots : List Spot) (off : ArePlacedOff d levels vs spots) where
     known_small : (o : Option ℕ) → ((e : ℕ) → o ≡ Some e → e < m) → IsSmall o
     known_small None f = tt
     known_small (Some e) f = let k = f e refl in omega (arith, k, few)
 
     in_run : (k e : ℕ) → k ≤ length vs → Has e (live_from [] (take k vs)) → e < m
-    in_run k e l h = run_known m (edge_at d (λ n. level)) vs k e case.settled.run.run l h
+    in_run k e l h = run_known m (edge_at d levels) vs k e case.settled.run.run l h
 
     low_small : (es : List ℕ) (i : ℕ) (o : Option ℕ) → ((e : ℕ) → Has e es → e < m)
         → o ≡ edge_before es i → IsSmall o
@@ -86,7 +86,7 @@ module _ (d : Plan) (level : ℕ) (edges : List Edge) (edge_owners : List Owner)
         → o ≡ edge_over es i → IsSmall o
     high_small es i o f q = known_small o (λ e w. f e (at_has es i e (sym q ∙ w)))
 
-    spot_small : (j : ℕ) (x : Spot) → IsSpot d level vs (object d j) x → IsSmallSpot x
+    spot_small : (j : ℕ) (x : Spot) → IsSpot d levels vs (object d j) x → IsSmallSpot x
     spot_small j (spot.On c) h = tt
     spot_small j (spot.InTube c side) h = tt
     spot_small j (spot.Cell i lo up) h =
@@ -97,13 +97,13 @@ module _ (d : Plan) (level : ℕ) (edges : List Edge) (edge_owners : List Owner)
           high_small (live_from [] (take c.events vs)) i up f c.upper_is,
         )
 
-    spot_in : (j : ℕ) (x : Spot) → IsSpot d level vs (object d j) x → IsSpotIn (length d.curves) x
+    spot_in : (j : ℕ) (x : Spot) → IsSpot d levels vs (object d j) x → IsSpotIn (length d.curves) x
     spot_in j (spot.On c) h = tt
     spot_in j (spot.InTube c true) h = h.0.there
     spot_in j (spot.InTube c false) h = h.0.there
     spot_in j (spot.Cell i lo up) h = tt
 
-    own_spot : (j : ℕ) → j < length spots → IsSpot d level vs (object d j) (spot_at spots j)
+    own_spot : (j : ℕ) → j < length spots → IsSpot d levels vs (object d j) (spot_at spots j)
     own_spot j l = off.spots_are.each j (let e = off.spots_are.size in omega (arith, l, e))
 
     pub small_spots : (k : ℕ) (p : Spot) → k < length spots → IsSmallSpot (slice_index_or spots k p)
@@ -118,15 +118,15 @@ module _ (d : Plan) (level : ℕ) (edges : List Edge) (edge_owners : List Owner)
         (spot_in k (spot_at spots k) (own_spot k l))
 
   -- ---- of the mesh and its notes
-  module _ (mesh : HalfEdges) (on : IsRunMesh d level vs mesh) where
+  module _ (mesh : HalfEdges) (on : IsRunMesh d levels vs mesh) where
     pub few_edges : m < 2 ^ 31
     few_edges = let a = on.mesh_is.few in let b = on.turned.count in omega (arith, a, b)
 
     pub few_facings : length facings < 2 ^ 31
     few_facings = let a = few_edges in let b = case.facings_are.count in omega (arith, a, b)
 
-    module _ (spots : List Spot) (count : ℕ) (faces : HasRunFaces d level vs mesh count)
-        (owners : List ℕ) (own : HaveOwners d level mesh.face spots count owners) (roots : List ℕ)
+    module _ (spots : List Spot) (count : ℕ) (faces : HasRunFaces d levels vs mesh count)
+        (owners : List ℕ) (own : HaveOwners d levels mesh.face spots count owners) (roots : List ℕ)
         (notes : List HalfNote)
         (told : AreNotes mesh (closed_gaps vs) roots notes) where
       pub notes_size : length notes ≡ 2 * length facings
@@ -144,22 +144,22 @@ module _ (d : Plan) (level : ℕ) (edges : List Edge) (edge_owners : List Owner)
           omega (arith, a, b, c)
 
     -- ---- roots, before there are notes
-    module _ (spots : List Spot) (off : ArePlacedOff d level vs spots) (count : ℕ)
-        (faces : HasRunFaces d level vs mesh count) (owners : List ℕ)
-        (own : HaveOwners d level mesh.face spots count owners)
+    module _ (spots : List Spot) (off : ArePlacedOff d levels vs spots) (count : ℕ)
+        (faces : HasRunFaces d levels vs mesh count) (owners : List ℕ)
+        (own : HaveOwners d levels mesh.face spots count owners)
         (rs : List ℕ)
         (listed : AreCaseRoots facings edge_owners (length d.curves)
         (closed_gaps vs) spots rs) where
       abbrev s : Labelling
       s = record {
         d = d;
-        level = level;
+        levels = levels;
         vs = vs;
         spots = spots;
         mesh = mesh;
         count = count;
         owners = owners;
-        name = λ h. label_by (length d.points) (faced d (drawn_bays d (λ n. level)) (edge_at d (λ n. level)) h)
+        name = λ h. label_by (length d.points) (faced d (drawn_bays d levels) (edge_at d levels) h)
             (slice_index owners (slice_index mesh.face (number h)));
         settled = case.settled;
         fit = case.fit;

@@ -72,10 +72,10 @@ root_link mesh h link.Prev e = absurd (cc)
 root_link mesh h (link.Across g) e = absurd (cc)
 
 module _ (d : Plan) (level : ℕ) (edges : List Edge) (edge_owners : List Owner)
-    (facings : List Facing) (vs : List Move) (case : IsCase d level edges edge_owners facings vs)
-    (spots : List Spot) (off : ArePlacedOff d level vs spots)
-    (mesh : HalfEdges) (count : ℕ) (faces : HasRunFaces d level vs mesh count) (owners : List ℕ)
-    (own : HaveOwners d level mesh.face spots count owners) (on : IsRunMesh d level vs mesh)
+    (facings : List Facing) (vs : List Move) (case : IsCase d (λ n. level) edges edge_owners facings vs)
+    (spots : List Spot) (off : ArePlacedOff d (λ n. level) vs spots)
+    (mesh : HalfEdges) (count : ℕ) (faces : HasRunFaces d (λ n. level) vs mesh count) (owners : List ℕ)
+    (own : HaveOwners d (λ n. level) mesh.face spots count owners) (on : IsRunMesh d (λ n. level) vs mesh)
     (rs : List ℕ)
     (listed : AreCaseRoots facings edge_owners (length d.curves) (closed_gaps vs) spots rs)
     (places : List PointPlace) (written : places ≡ map spot_place spots)
@@ -115,14 +115,14 @@ module _ (d : Plan) (level : ℕ) (edges : List Edge) (edge_owners : List Owner)
   name_is h l =
       ap (λ (n : HalfNote). n.label) (note_is h l)
       ∙ ap (λ (t : ℕ). label_by (length d.points) t (slice_index owners (note_of notes h).label))
-      (tag_is d level facings case.facings_are edge_owners case.owners_are h l)
+      (tag_is d (λ n. level) facings case.facings_are edge_owners case.owners_are h l)
       ∙ ap (λ (f : ℕ). label_by (length d.points) (faced d (drawn_bays d (λ n. level)) E h)
       (slice_index owners f)) (face_label h l)
 
   abbrev pub s : Labelling
   s = record {
     d = d;
-    level = level;
+    levels = λ n. level;
     vs = vs;
     spots = spots;
     mesh = mesh;
@@ -239,7 +239,7 @@ module _ (d : Plan) (level : ℕ) (edges : List Edge) (edge_owners : List Owner)
       ∙ ap link.Across (sym (number_half x)))
 
   told_root : (h : Half) → edge_of h < m → lead h ≡ root
-      → RootAt d level (r s) (numbers name) places h
+      → RootAt d (λ n. level) (r s) (numbers name) places h
   told_root h l e =
       let q = root_link mesh (number h) (note_of notes h).link e in
       let i : slice_index told.ranks (number h)
@@ -253,15 +253,15 @@ module _ (d : Plan) (level : ℕ) (edges : List Edge) (edge_owners : List Owner)
   mark_is (over e) = refl
 
   sides_differ : (i : ℕ) → i < length d.curves → (t : CurveKind) → (curve d i).kind ≡ t
-      → HasTwoSidesAt d level ns i t
+      → HasTwoSidesAt d (λ n. level) ns i t
   sides_differ i l kind.Straight e = λ q.
-      let a = straight_first d level edges edge_owners facings vs case i (record {
+      let a = straight_first d (λ n. level) edges edge_owners facings vs case i (record {
         there = l;
         kind = e;
       }) in
       let c = straight_cut_by_faces d (drawn_bays d (λ n. level)) m E
       (steps_from [] vs) case.settled.run case.settled.wide case.settled.settled (pos 0) name
-      (named_faces s) (first_at d level i) a.there a.part in
+      (named_faces s) (first_at d (λ n. level) i) a.there a.part in
       uncut i l (subst (IsCut d) a.curve_is (c.1 (sym q)))
   sides_differ i l kind.HalfArc e = λ q.
       let c = arc_cut_by_faces d (drawn_bays d (λ n. level)) m E
@@ -269,7 +269,7 @@ module _ (d : Plan) (level : ℕ) (edges : List Edge) (edge_owners : List Owner)
       (named_faces s) i l e in
       uncut i l (c.1 (sym (mark_is _) ∙ q ∙ mark_is _))
 
-  pub certifies_by : CertifiesRun d level vs ns places (inside s) (outside s) lead
+  pub certifies_by : CertifiesRun d (λ n. level) vs ns places (inside s) (outside s) lead
   certifies_by = record {
     run = case.settled.run;
     fit = case.fit;
@@ -287,7 +287,7 @@ module _ (d : Plan) (level : ℕ) (edges : List Edge) (edge_owners : List Owner)
 
     counted : HasCounts (subject_of d claimed t.table)
     counted = record {
-      edges = record { low = case.low; tubes = case.tubes };
+      edges = record { low = case.low 0; tubes = case.tubes };
       notes = (let a = named.size in let b = told.size_is in let c = faces.size_is in
           omega (arith, a, b, c));
       positions = length-map vs (λ (v : Move). v.position) ∙ sym t.size;
@@ -300,5 +300,5 @@ module _ (d : Plan) (level : ℕ) (edges : List Edge) (edge_owners : List Owner)
 
     pub certifies : Certifies d claimed
     certifies = certifies_claims d claimed t.table table_is counted (inside s) (outside s) lead
-        (subst (λ (ws : List Move). CertifiesRun d level ws ns places (inside s) (outside s) lead)
+        (subst (λ (ws : List Move). CertifiesRun d (λ n. level) ws ns places (inside s) (outside s) lead)
         t.is certifies_by)

@@ -56,26 +56,26 @@ first_next bays j (c ∷ cs) (suc i) n l e =
 
 -- The first edges of the two chains of half arc i's tube are there, of the curve, and of their
 -- chains.
-pub record AreFirstOfArc (d : Plan) (level i : ℕ) : Type 0 where
-  pub inner_there : first_at d level i < length (edges_at d (λ n. level))
-  pub inner_curve : (owned_at d (λ n. level) (first_at d level i)).curve ≡ i
-  pub inner_part : (owned_at d (λ n. level) (first_at d level i)).part ≡ inner
-  pub outer_there : (first_at d level i + length (drawn_bays d (λ n. level) i)) < length (edges_at d (λ n. level))
-  pub outer_curve : (owned_at d (λ n. level) (first_at d level i + length (drawn_bays d (λ n. level) i))).curve
+pub record AreFirstOfArc (d : Plan) (levels : ℕ → ℕ) (i : ℕ) : Type 0 where
+  pub inner_there : first_at d levels i < length (edges_at d levels)
+  pub inner_curve : (owned_at d levels (first_at d levels i)).curve ≡ i
+  pub inner_part : (owned_at d levels (first_at d levels i)).part ≡ inner
+  pub outer_there : (first_at d levels i + length (drawn_bays d levels i)) < length (edges_at d levels)
+  pub outer_curve : (owned_at d levels (first_at d levels i + length (drawn_bays d levels i))).curve
       ≡ i
-  pub outer_part : (owned_at d (λ n. level) (first_at d level i + length (drawn_bays d (λ n. level) i))).part
+  pub outer_part : (owned_at d levels (first_at d levels i + length (drawn_bays d levels i))).part
       ≡ outer
 
 -- from what the law of the tubes' chains says
-pub arc_first : (d : Plan) (level i : ℕ)
-    → (first_at d level i < length (edges_at d (λ n. level)))
-    × ((owned_at d (λ n. level) (first_at d level i)).curve ≡ i)
-    × ((owned_at d (λ n. level) (first_at d level i)).part ≡ inner)
-    → ((first_at d level i + length (drawn_bays d (λ n. level) i)) < length (edges_at d (λ n. level)))
-    × ((owned_at d (λ n. level) (first_at d level i + length (drawn_bays d (λ n. level) i))).curve ≡ i)
-    × ((owned_at d (λ n. level) (first_at d level i + length (drawn_bays d (λ n. level) i))).part ≡ outer)
-    → AreFirstOfArc d level i
-arc_first d level i (l, c, p) (m, e, q) =
+pub arc_first : (d : Plan) (levels : ℕ → ℕ) (i : ℕ)
+    → (first_at d levels i < length (edges_at d levels))
+    × ((owned_at d levels (first_at d levels i)).curve ≡ i)
+    × ((owned_at d levels (first_at d levels i)).part ≡ inner)
+    → ((first_at d levels i + length (drawn_bays d levels i)) < length (edges_at d levels))
+    × ((owned_at d levels (first_at d levels i + length (drawn_bays d levels i))).curve ≡ i)
+    × ((owned_at d levels (first_at d levels i + length (drawn_bays d levels i))).part ≡ outer)
+    → AreFirstOfArc d levels i
+arc_first d levels i (l, c, p) (m, e, q) =
     record {
       inner_there = l;
       inner_curve = c;
@@ -85,74 +85,74 @@ arc_first d level i (l, c, p) (m, e, q) =
       outer_part = q;
     }
 
-module _ (d : Plan) (level : ℕ) (edges : List Edge) (owners : List Owner) (facings : List Facing)
-    (vs : List Move) (is : IsCase d level edges owners facings vs) where
+module _ (d : Plan) (levels : ℕ → ℕ) (edges : List Edge) (owners : List Owner) (facings : List Facing)
+    (vs : List Move) (is : IsCase d levels edges owners facings vs) where
   abbrev bays : ℕ → List Bay
-  bays = drawn_bays d (λ n. level)
+  bays = drawn_bays d levels
 
   abbrev m : ℕ
-  m = length (edges_at d (λ n. level))
+  m = length (edges_at d levels)
 
   abbrev E : ℕ → Edge
-  E = edge_at d (λ n. level)
+  E = edge_at d levels
 
-  pub bay_size : (i : ℕ) → IsHalfArc d i → length (bays i) ≡ 2 ^ (level + 1)
-  bay_size i h = tube_bays d level i (is.tubes i h)
+  pub bay_size : (i : ℕ) → IsHalfArc d i → length (bays i) ≡ 2 ^ (levels i + 1)
+  bay_size i h = tube_bays d levels i (is.tubes i h)
 
   group_size : (i : ℕ) → i < length d.curves
       → length (edges_of i (curve d i).kind (curve d i) (bays i))
-      ≡ edges_of_kind (curve d i).kind level
+      ≡ edges_of_kind (curve d i).kind (levels i)
   group_size i l = by_kind (curve d i).kind refl
     where
       by_kind : (k : CurveKind) → (curve d i).kind ≡ k
-          → length (edges_of i k (curve d i) (bays i)) ≡ edges_of_kind k level
+          → length (edges_of i k (curve d i) (bays i)) ≡ edges_of_kind k (levels i)
       by_kind kind.Straight e = refl
       by_kind kind.HalfArc e =
           (let a = arc_length i (curve d i) (bays i) in
           let b = bay_size i (record { there = l; kind = e }) in omega (arith, a, b))
 
   pub next_first : (i : ℕ) → i < length d.curves
-      → first_at d level (i + 1) ≡ first_at d level i + edges_of_kind (curve d i).kind level
+      → first_at d levels (i + 1) ≡ first_at d levels i + edges_of_kind (curve d i).kind (levels i)
   next_first i l =
       let n : i + 1 ≡ suc i = omega arith in
-      ap (first_at d level) n ∙ first_next bays 0 d.curves i i l (omega arith)
-      ∙ ap (λ (k : ℕ). first_at d level i + k) (group_size i l)
+      ap (first_at d levels) n ∙ first_next bays 0 d.curves i i l (omega arith)
+      ∙ ap (λ (k : ℕ). first_at d levels i + k) (group_size i l)
 
   pub edges_fit : (i : ℕ) → i < length d.curves
-      → (first_at d level i + edges_of_kind (curve d i).kind level) ≤ m
+      → (first_at d levels i + edges_of_kind (curve d i).kind (levels i)) ≤ m
   edges_fit i l =
       let a = group_fits bays no_curve 0 d.curves i i l (omega arith) in
       let b = group_size i l in
-      let c = list_size d level edges owners facings vs is in
+      let c = list_size d levels edges owners facings vs is in
       omega (arith, a, b, c)
 
   -- ---- straights
   pub record IsFirstOfStraight (i : ℕ) : Type 0 where
-    pub there : first_at d level i < m
-    pub edge : IsEdgeOf (E (first_at d level i)) (curve d i)
-    pub curve_is : (owned_at d (λ n. level) (first_at d level i)).curve ≡ i
-    pub part : (owned_at d (λ n. level) (first_at d level i)).part ≡ whole
+    pub there : first_at d levels i < m
+    pub edge : IsEdgeOf (E (first_at d levels i)) (curve d i)
+    pub curve_is : (owned_at d levels (first_at d levels i)).curve ≡ i
+    pub part : (owned_at d levels (first_at d levels i)).part ≡ whole
 
-  pub straight_only : (e : ℕ) → e < m → IsStraight d (owned_at d (λ n. level) e).curve
-      → e ≡ first_at d level (owned_at d (λ n. level) e).curve
+  pub straight_only : (e : ℕ) → e < m → IsStraight d (owned_at d levels e).curve
+      → e ≡ first_at d levels (owned_at d levels e).curve
   straight_only e l s =
       (run_edges d bays m E (steps_from [] vs) is.settled.run is.settled.wide).straight_only e l s
 
   pub straight_first : (i : ℕ) → IsStraight d i → IsFirstOfStraight i
   straight_first i s =
       let x = straight_edge d bays m E (steps_from [] vs) is.settled.run i s.there s.kind in
-      let q : x.0 ≡ first_at d level i = straight_only x.0 x.1
-      (subst (λ (j : ℕ). IsStraight d j) (sym x.2) s) ∙ ap (first_at d level) x.2 in
+      let q : x.0 ≡ first_at d levels i = straight_only x.0 x.1
+      (subst (λ (j : ℕ). IsStraight d j) (sym x.2) s) ∙ ap (first_at d levels) x.2 in
       record {
         there = subst (λ (e : ℕ). e < m) q x.1;
         edge = subst (λ (e : ℕ). IsEdgeOf (E e) (curve d i)) q x.3;
-        curve_is = subst (λ (e : ℕ). (owned_at d (λ n. level) e).curve ≡ i) q x.2;
-        part = subst (λ (e : ℕ). (owned_at d (λ n. level) e).part ≡ whole) q x.4;
+        curve_is = subst (λ (e : ℕ). (owned_at d levels e).curve ≡ i) q x.2;
+        part = subst (λ (e : ℕ). (owned_at d levels e).part ≡ whole) q x.4;
       }
 
   -- ---- a curve of the list, and the number of its first edge
   module _ (c : Curve) (i first : ℕ) (l : i < length d.curves) (q : c ≡ curve d i)
-      (f : first ≡ first_at d level i) where
+      (f : first ≡ first_at d levels i) where
     straight_is : c.kind ≡ kind.Straight → IsStraight d i
     straight_is e = record { there = l; kind = subst (λ (x : Curve). x.kind ≡ kind.Straight) q e }
 
@@ -162,12 +162,12 @@ module _ (d : Plan) (level : ℕ) (edges : List Edge) (owners : List Owner) (fac
     pub straight_there : c.kind ≡ kind.Straight → first < length edges
     straight_there e =
         let a = (straight_first i (straight_is e)).there in
-        let b = edges_size d level edges owners facings vs is in omega (arith, a, b, f)
+        let b = edges_size d levels edges owners facings vs is in omega (arith, a, b, f)
 
     straight_ends : c.kind ≡ kind.Straight → IsEdgeOf (E first) c
     straight_ends e =
         subst (λ (n : ℕ). IsEdgeOf (E n) c) (sym f)
-        (subst (λ (x : Curve). IsEdgeOf (E (first_at d level i)) x) (sym q)
+        (subst (λ (x : Curve). IsEdgeOf (E (first_at d levels i)) x) (sym q)
         (straight_first i (straight_is e)).edge)
 
     straight_rises : c.kind ≡ kind.Straight → Before (E first).low (E first).high
@@ -175,50 +175,50 @@ module _ (d : Plan) (level : ℕ) (edges : List Edge) (owners : List Owner) (fac
         is.settled.run.run.edges first (let a = (straight_first i (straight_is e)).there in
         omega (arith, a, f))
 
-    pub inner_there : (IsHalfArc d i → AreFirstOfArc d level i) → c.kind ≡ kind.HalfArc
+    pub inner_there : (IsHalfArc d i → AreFirstOfArc d levels i) → c.kind ≡ kind.HalfArc
         → first < length edges
     inner_there t e =
         let a = (t (arc_is e)).inner_there in
-        let b = edges_size d level edges owners facings vs is in omega (arith, a, b, f)
+        let b = edges_size d levels edges owners facings vs is in omega (arith, a, b, f)
 
-    pub inner_is : (IsHalfArc d i → AreFirstOfArc d level i) → c.kind ≡ kind.HalfArc
-        → IsOfTube (owned_at d (λ n. level) first).part
+    pub inner_is : (IsHalfArc d i → AreFirstOfArc d levels i) → c.kind ≡ kind.HalfArc
+        → IsOfTube (owned_at d levels first).part
     inner_is t e =
-        subst (λ (n : ℕ). IsOfTube (owned_at d (λ n. level) n).part) (sym f)
+        subst (λ (n : ℕ). IsOfTube (owned_at d levels n).part) (sym f)
         (subst IsOfTube (sym (t (arc_is e)).inner_part) tt)
 
-    pub outer_at : (k : ℕ) → k ≡ 2 ^ (level + 1) → c.kind ≡ kind.HalfArc
-        → first + k ≡ first_at d level i + length (bays i)
+    pub outer_at : (k : ℕ) → k ≡ 2 ^ (levels i + 1) → c.kind ≡ kind.HalfArc
+        → first + k ≡ first_at d levels i + length (bays i)
     outer_at k h e = let a = bay_size i (arc_is e) in omega (arith, a, h, f)
 
-    pub outer_there : (IsHalfArc d i → AreFirstOfArc d level i) → (k : ℕ) → k ≡ 2 ^ (level + 1)
+    pub outer_there : (IsHalfArc d i → AreFirstOfArc d levels i) → (k : ℕ) → k ≡ 2 ^ (levels i + 1)
         → c.kind ≡ kind.HalfArc → (first + k) < length edges
     outer_there t k h e =
         let a = (t (arc_is e)).outer_there in
-        let b = edges_size d level edges owners facings vs is in
+        let b = edges_size d levels edges owners facings vs is in
         let n = outer_at k h e in omega (arith, a, b, n)
 
-    pub outer_is : (IsHalfArc d i → AreFirstOfArc d level i) → (k : ℕ) → k ≡ 2 ^ (level + 1)
-        → c.kind ≡ kind.HalfArc → IsOfTube (owned_at d (λ n. level) (first + k)).part
+    pub outer_is : (IsHalfArc d i → AreFirstOfArc d levels i) → (k : ℕ) → k ≡ 2 ^ (levels i + 1)
+        → c.kind ≡ kind.HalfArc → IsOfTube (owned_at d levels (first + k)).part
     outer_is t k h e =
-        subst (λ (n : ℕ). IsOfTube (owned_at d (λ n. level) n).part) (sym (outer_at k h e))
+        subst (λ (n : ℕ). IsOfTube (owned_at d levels n).part) (sym (outer_at k h e))
         (subst IsOfTube (sym (t (arc_is e)).outer_part) tt)
 
-    pub next_is : (n : ℕ) → n ≡ edges_of_kind c.kind level → first + n ≡ first_at d level (i + 1)
+    pub next_is : (n : ℕ) → n ≡ edges_of_kind c.kind (levels i) → first + n ≡ first_at d levels (i + 1)
     next_is n h =
         let a = next_first i l in
-        let b : edges_of_kind c.kind level
-        ≡ edges_of_kind (curve d i).kind level =
-        ap (λ (x : Curve). edges_of_kind x.kind level) q in
+        let b : edges_of_kind c.kind (levels i)
+        ≡ edges_of_kind (curve d i).kind (levels i) =
+        ap (λ (x : Curve). edges_of_kind x.kind (levels i)) q in
         omega (arith, a, b, h, f)
 
-    pub next_fits : (n : ℕ) → n ≡ edges_of_kind c.kind level → (first + n) ≤ length edges
+    pub next_fits : (n : ℕ) → n ≡ edges_of_kind c.kind (levels i) → (first + n) ≤ length edges
     next_fits n h =
         let a = edges_fit i l in
-        let s = edges_size d level edges owners facings vs is in
-        let b : edges_of_kind c.kind level
-        ≡ edges_of_kind (curve d i).kind level =
-        ap (λ (x : Curve). edges_of_kind x.kind level) q in
+        let s = edges_size d levels edges owners facings vs is in
+        let b : edges_of_kind c.kind (levels i)
+        ≡ edges_of_kind (curve d i).kind (levels i) =
+        ap (λ (x : Curve). edges_of_kind x.kind (levels i)) q in
         omega (arith, a, b, h, f, s)
 
     -- ---- faces beside it
@@ -227,16 +227,16 @@ module _ (d : Plan) (level : ℕ) (edges : List Edge) (owners : List Owner) (fac
         → (h : ℕ) × IsOnSide e c first true h × (b.first ≡ slice_index faces h))
         → ((e : Edge) → Before e.low e.high → IsEdgeOf e c
         → (h : ℕ) × IsOnSide e c first false h × (b.second ≡ slice_index faces h))
-        → IsBeside d level faces i b
+        → IsBeside d levels faces i b
     straight_beside faces b e x y =
-        subst (λ (k : CurveKind). IsBesideKind k d level faces i b) (sym (straight_is e).kind) (
+        subst (λ (k : CurveKind). IsBesideKind k d levels faces i b) (sym (straight_is e).kind) (
           moved true b.first (x (E first) (straight_rises e) (straight_ends e)),
           moved false b.second (y (E first) (straight_rises e) (straight_ends e)),
         )
       where
         moved : (left : Bool) (n : ℕ)
             → ((h : ℕ) × IsOnSide (E first) c first left h × (n ≡ slice_index faces h))
-            → IsFaceOn d level faces i left n
+            → IsFaceOn d levels faces i left n
         moved left n z =
             subst (λ (k : ℕ). (h : ℕ) × IsOnSide (E k) (curve d i) k left h
             × (n ≡ slice_index faces h)) f
@@ -246,9 +246,9 @@ module _ (d : Plan) (level : ℕ) (edges : List Edge) (owners : List Owner) (fac
     abbrev outside_at : List ℕ → ℕ → ℕ
     outside_at faces e = slice_index faces (number (twin (half_within d bays E e)))
 
-    pub arc_beside : (faces : List ℕ) (b : Beside) (k : ℕ) → k ≡ 2 ^ (level + 1)
+    pub arc_beside : (faces : List ℕ) (b : Beside) (k : ℕ) → k ≡ 2 ^ (levels i + 1)
         → c.kind ≡ kind.HalfArc → b.first ≡ outside_at faces first
-        → b.second ≡ outside_at faces (first + k) → IsBeside d level faces i b
+        → b.second ≡ outside_at faces (first + k) → IsBeside d levels faces i b
     arc_beside faces b k h e x y =
-        subst (λ (t : CurveKind). IsBesideKind t d level faces i b) (sym (arc_is e).kind)
+        subst (λ (t : CurveKind). IsBesideKind t d levels faces i b) (sym (arc_is e).kind)
         (x ∙ ap (outside_at faces) f, y ∙ ap (outside_at faces) (outer_at k h e))

@@ -29,14 +29,14 @@ use Rattle.area_search.proofs.SettledLemmas.CaseCurves.{straight_first}
 use Rattle.area_search.proofs.PlaneLaws.{arc_cut_by_faces, never, straight_cut_by_faces}
 use Rattle.area_search.proofs.SettledLemmas.RunFaces.{face_in}
 
-module _ (d : Plan) (level : ℕ) (edges : List Edge) (owners : List Owner) (facings : List Facing)
-    (vs : List Move) (is : IsCase d level edges owners facings vs)
-    (mesh : HalfEdges) (n : ℕ) (f : HasRunFaces d level vs mesh n) where
+module _ (d : Plan) (levels : ℕ → ℕ) (edges : List Edge) (owners : List Owner) (facings : List Facing)
+    (vs : List Move) (is : IsCase d levels edges owners facings vs)
+    (mesh : HalfEdges) (n : ℕ) (f : HasRunFaces d levels vs mesh n) where
   abbrev m : ℕ
-  m = length (edges_at d (λ n. level))
+  m = length (edges_at d levels)
 
   abbrev E : ℕ → Edge
-  E = edge_at d (λ n. level)
+  E = edge_at d levels
 
   abbrev face : Half → ℕ
   face = face_in mesh.face
@@ -44,22 +44,22 @@ module _ (d : Plan) (level : ℕ) (edges : List Edge) (owners : List Owner) (fac
   -- ---- a straight
   module _ (i : ℕ) (s : IsStraight d i) where
     abbrev x : ℕ
-    x = first_at d level i
+    x = first_at d levels i
 
     by_edge : IsCut d i ↔ (face (over x) ≡ face (under x))
     by_edge =
-        let q = straight_first d level edges owners facings vs is i s in
+        let q = straight_first d levels edges owners facings vs is i s in
         subst (λ (j : ℕ). IsCut d j ↔ (face (over x) ≡ face (under x))) q.curve_is
-        (straight_cut_by_faces d (drawn_bays d (λ n. level)) m E
+        (straight_cut_by_faces d (drawn_bays d levels) m E
         (steps_from [] vs) is.settled.run is.settled.wide is.settled.settled
         (pos 0) face f.faces x q.there q.part)
 
     one_end : {A : Type 0} → (E x).low ≡ (curve d i).from → (E x).low ≡ (curve d i).to → A
-    one_end {A = A} a b = by_ends (straight_first d level edges owners facings vs is i s).edge
+    one_end {A = A} a b = by_ends (straight_first d levels edges owners facings vs is i s).edge
       where
         rises : Before (E x).low (E x).high
         rises = is.settled.run.run.edges x
-            (straight_first d level edges owners facings vs is i s).there
+            (straight_first d levels edges owners facings vs is i s).there
 
         by_ends : IsEdgeOf (E x) (curve d i) → A
         by_ends (inl (low, high)) =
@@ -87,7 +87,7 @@ module _ (d : Plan) (level : ℕ) (edges : List Edge) (owners : List Owner) (fac
     by_sides g h (forth a p) (back b q) = one_end a b
     by_sides g h (back a p) (forth b q) = one_end b a
 
-    straight_cut : (b : Beside) → IsBesideKind kind.Straight d level mesh.face i b
+    straight_cut : (b : Beside) → IsBesideKind kind.Straight d levels mesh.face i b
         → IsCut d i ↔ (b.first ≡ b.second)
     straight_cut b ((g, o, p), (h, u, q)) =
         let t = by_sides g h o u in (
@@ -96,10 +96,10 @@ module _ (d : Plan) (level : ℕ) (edges : List Edge) (owners : List Owner) (fac
         )
 
   -- ---- a half arc
-  arc_cut : (i : ℕ) → IsHalfArc d i → (b : Beside) → IsBesideKind kind.HalfArc d level mesh.face i b
+  arc_cut : (i : ℕ) → IsHalfArc d i → (b : Beside) → IsBesideKind kind.HalfArc d levels mesh.face i b
       → IsCut d i ↔ (b.first ≡ b.second)
   arc_cut i h b (p, q) =
-      let t = arc_cut_by_faces d (drawn_bays d (λ n. level)) m E
+      let t = arc_cut_by_faces d (drawn_bays d levels) m E
       (steps_from [] vs) is.settled.run is.settled.wide is.settled.settled
       (pos 0) face f.faces i h.there h.kind in (
         (λ c. p ∙ t.0 c ∙ sym q),
@@ -107,17 +107,17 @@ module _ (d : Plan) (level : ℕ) (edges : List Edge) (owners : List Owner) (fac
       )
 
   -- ---- any curve
-  cut_is : (i : ℕ) → i < length d.curves → (b : Beside) → IsBeside d level mesh.face i b
+  cut_is : (i : ℕ) → i < length d.curves → (b : Beside) → IsBeside d levels mesh.face i b
       → IsCut d i ↔ (b.first ≡ b.second)
   cut_is i l b = by_kind (curve d i).kind refl
     where
-      by_kind : (t : CurveKind) → (curve d i).kind ≡ t → IsBesideKind t d level mesh.face i b
+      by_kind : (t : CurveKind) → (curve d i).kind ≡ t → IsBesideKind t d levels mesh.face i b
           → IsCut d i ↔ (b.first ≡ b.second)
       by_kind kind.Straight e k = straight_cut i (record { there = l; kind = e }) b k
       by_kind kind.HalfArc e k = arc_cut i (record { there = l; kind = e }) b k
 
   module _ (besides : List Beside)
-      (are : AreBeside d level mesh.face (length d.curves) besides) where
+      (are : AreBeside d levels mesh.face (length d.curves) besides) where
     one_faced : (i : ℕ) → i < length d.curves → IsCut d i ↔ IsOneFaced besides i
     one_faced i l = cut_is i l (beside_at besides i) (are.each i l)
 

@@ -61,23 +61,23 @@ tube_part runs.inner n = tt
 tube_part runs.outer n = tt
 
 -- ---- tubes of half arcs that have one
-pub tube_circle : (d : Plan) (level i : ℕ) → HasTube (arc (curve d i)) level
+pub tube_circle : (d : Plan) (levels : ℕ → ℕ) (i : ℕ) → HasTube (arc (curve d i)) (levels i)
     → HasCircle (arc (curve d i))
-tube_circle d level i (vs, os, t) = t.circle
+tube_circle d levels i (vs, os, t) = t.circle
 
-pub corners_near : (d : Plan) (level i : ℕ) → HasTube (arc (curve d i)) level
+pub corners_near : (d : Plan) (levels : ℕ → ℕ) (i : ℕ) → HasTube (arc (curve d i)) (levels i)
     → Each (λ (b : Bay). AreNear (2 ^ 28) (arc (curve d i)).from b.outer
-    × AreNear (2 ^ 28) (arc (curve d i)).from b.inner) (drawn_bays d (λ n. level) i)
-corners_near d level i (vs, os, t) =
+    × AreNear (2 ^ 28) (arc (curve d i)).from b.inner) (drawn_bays d levels i)
+corners_near d levels i (vs, os, t) =
     subst (Each (λ (b : Bay). AreNear (2 ^ 28) (arc (curve d i)).from b.outer
     × AreNear (2 ^ 28) (arc (curve d i)).from b.inner))
-    (sym (bays_are (arc (curve d i)) level vs os t))
-    (tube_near (arc (curve d i)) level vs os t)
+    (sym (bays_are (arc (curve d i)) (levels i) vs os t))
+    (tube_near (arc (curve d i)) (levels i) vs os t)
 
-pub bay_count : (d : Plan) (level i : ℕ) → HasTube (arc (curve d i)) level
-    → length (drawn_bays d (λ n. level) i) ≡ 2 ^ (level + 1)
-bay_count d level i (vs, os, t) = ap length (bays_are (arc (curve d i)) level vs os t)
-    ∙ tube_count (arc (curve d i)) level vs os t
+pub bay_count : (d : Plan) (levels : ℕ → ℕ) (i : ℕ) → HasTube (arc (curve d i)) (levels i)
+    → length (drawn_bays d levels i) ≡ 2 ^ (levels i + 1)
+bay_count d levels i (vs, os, t) = ap length (bays_are (arc (curve d i)) (levels i) vs os t)
+    ∙ tube_count (arc (curve d i)) (levels i) vs os t
 
 -- ---- turns at the points of curves
 pub curves_turn : (d : Plan) (w : Window2) → d.window ≡ w
@@ -92,16 +92,16 @@ curves_turn d w e drawn cs q i l =
     turned f = record { to = f.ends; third = f.first }
 
 -- ---- the edges of a settled drawing
-module _ (d : Plan) (level : ℕ) (edges : List Edge) (owners : List Owner) (facings : List Facing)
-    (vs : List Move) (is : IsCase d level edges owners facings vs) where
+module _ (d : Plan) (levels : ℕ → ℕ) (edges : List Edge) (owners : List Owner) (facings : List Facing)
+    (vs : List Move) (is : IsCase d levels edges owners facings vs) where
   abbrev pub bays : ℕ → List Bay
-  bays = drawn_bays d (λ n. level)
+  bays = drawn_bays d levels
 
   abbrev pub m : ℕ
-  m = length (edges_at d (λ n. level))
+  m = length (edges_at d levels)
 
   abbrev pub E : ℕ → Edge
-  E = edge_at d (λ n. level)
+  E = edge_at d levels
 
   abbrev pub steps : List Step
   steps = steps_from [] vs
@@ -116,7 +116,7 @@ module _ (d : Plan) (level : ℕ) (edges : List Edge) (owners : List Owner) (fac
   owners_size = ap length is.owners_are ∙ length-map (runs.edge_list bays 0 d.curves) owner_as
       ∙ sym list_size
 
-  pub nth_owner : (e : ℕ) (x : Owner) → e < m → get_or owners e x ≡ owner_as (owned_at d (λ n. level) e)
+  pub nth_owner : (e : ℕ) (x : Owner) → e < m → get_or owners e x ≡ owner_as (owned_at d levels e)
   nth_owner e x l = ap (λ (os : List Owner). get_or os e x) is.owners_are
       ∙ nth_map owner_as (runs.edge_list bays 0 d.curves) e runs.no_edge x
       (omega (arith, l, list_size))
@@ -127,7 +127,7 @@ module _ (d : Plan) (level : ℕ) (edges : List Edge) (owners : List Owner) (fac
 
   pub are_usable : All (λ (c : Curve). IsDrawn d.window.low d.window.high c) d.curves
       → All (λ (p : Placed). IsInside d.window.low d.window.high p.at) d.points → AreUsable d edges
-  are_usable drawn points = usable d (λ n. level) edges drawn points is.tubes is.edges_are
+  are_usable drawn points = usable d levels edges drawn points is.tubes is.edges_are
 
   pub no_bad_pair : HasNoBadPair d
   no_bad_pair i j b =

@@ -38,57 +38,57 @@ nth_spot_face f [] j l = absurd (omega (arith, l))
 nth_spot_face f (s ∷ ss) zero l = refl
 nth_spot_face f (s ∷ ss) (suc j) l = nth_spot_face f ss j (omega (arith, l))
 
-module _ (d : Plan) (level : ℕ) (edges : List Edge) (owners : List Owner) (facings : List Facing)
-    (vs : List Move) (is : IsCase d level edges owners facings vs)
-    (spots : List Spot) (placed : ArePlacedOff d level vs spots) (mesh : HalfEdges) (n : ℕ)
-    (f : HasRunFaces d level vs mesh n) where
+module _ (d : Plan) (levels : ℕ → ℕ) (edges : List Edge) (owners : List Owner) (facings : List Facing)
+    (vs : List Move) (is : IsCase d levels edges owners facings vs)
+    (spots : List Spot) (placed : ArePlacedOff d levels vs spots) (mesh : HalfEdges) (n : ℕ)
+    (f : HasRunFaces d levels vs mesh n) where
   abbrev pub m : ℕ
-  m = length (edges_at d (λ n. level))
+  m = length (edges_at d levels)
 
   abbrev pub E : ℕ → Edge
-  E = edge_at d (λ n. level)
+  E = edge_at d levels
 
   abbrev pub r : Replay
   r = replay (pos 0) m E (steps_from [] vs)
 
   abbrev pub fs : List ℕ
-  fs = spot_faces d level mesh.face spots
+  fs = spot_faces d levels mesh.face spots
 
   pub spots_size : length spots ≡ length d.points
   spots_size = placed.spots_are.size
 
   pub fs_size : length fs ≡ length d.points
-  fs_size = length-map spots (spot_face d level mesh.face) ∙ spots_size
+  fs_size = length-map spots (spot_face d levels mesh.face) ∙ spots_size
 
   abbrev pub HasFace : Point → ℕ → Type 0
-  HasFace v k = PointHasFace d (drawn_bays d (λ n. level)) r (face_in mesh.face) v k
+  HasFace v k = PointHasFace d (drawn_bays d levels) r (face_in mesh.face) v k
 
   -- ---- the face of a point by its spot
-  pub by_spot : (v : Point) (s : Spot) → IsSpot d level vs v s → IsOffCurves s
-      → HasFace v (spot_face d level mesh.face s)
-  by_spot v s h o = spot_has_face d level edges owners facings vs is mesh.face v s h o
+  pub by_spot : (v : Point) (s : Spot) → IsSpot d levels vs v s → IsOffCurves s
+      → HasFace v (spot_face d levels mesh.face s)
+  by_spot v s h o = spot_has_face d levels edges owners facings vs is mesh.face v s h o
 
   pub own_face : (j : ℕ) → j < length d.points → HasFace (object d j) (slice_index fs j)
   own_face j l =
       let k : j < length spots = omega (arith, l, spots_size) in
-      subst (HasFace (object d j)) (sym (nth_spot_face (spot_face d level mesh.face) spots j k))
+      subst (HasFace (object d j)) (sym (nth_spot_face (spot_face d levels mesh.face) spots j k))
       (by_spot (object d j) (spot_at spots j) (placed.spots_are.each j l) (placed.off j k))
 
   outer : (j : ℕ) → j < length d.points → IsOuter d (point (object d j)) ↔ (slice_index fs j ≡ 0)
-  outer j l = outer_point d (drawn_bays d (λ n. level)) m E
+  outer j l = outer_point d (drawn_bays d levels) m E
       (steps_from [] vs) is.settled.run is.settled.wide is.settled.settled (pos 0)
       (face_in mesh.face) f.faces (object d j) (slice_index fs j) (own_face j l)
 
   joined : (i j : ℕ) → i < length d.points → j < length d.points
       → Joined d (point (object d i)) (point (object d j)) ↔ (slice_index fs i ≡ slice_index fs j)
   joined i j k l =
-      joined_points d (drawn_bays d (λ n. level)) m E
+      joined_points d (drawn_bays d levels) m E
       (steps_from [] vs) is.settled.run is.settled.wide is.settled.settled (pos 0)
       (face_in mesh.face) f.faces (object d i) (object d j) (slice_index fs i)
       (slice_index fs j) (own_face i k) (own_face j l)
 
   clear : AreClear d
-  clear = clear_spots d level edges owners facings vs is spots placed.spots_are placed.off
+  clear = clear_spots d levels edges owners facings vs is spots placed.spots_are placed.off
 
   -- ---- faults
   pub outside_answer : (p : ℕ) → IsSettled d → IsFirstOutside fs (Some p)

@@ -62,22 +62,22 @@ inward_other : (b : Bool) → is_inward b (not b) ≡ false
 inward_other true = refl
 inward_other false = refl
 
-module _ (d : Plan) (level : ℕ) (edges : List Edge) (owners : List Owner) (facings : List Facing)
-    (vs : List Move) (is : IsCase d level edges owners facings vs)
-    (spots : List Spot) (placed : ArePlacedOff d level vs spots) (mesh : HalfEdges) (n : ℕ)
-    (f : HasRunFaces d level vs mesh n) (chains : (i : ℕ) → IsHalfArc d i
-    → AreFirstOfArc d level i) where
+module _ (d : Plan) (levels : ℕ → ℕ) (edges : List Edge) (owners : List Owner) (facings : List Facing)
+    (vs : List Move) (is : IsCase d levels edges owners facings vs)
+    (spots : List Spot) (placed : ArePlacedOff d levels vs spots) (mesh : HalfEdges) (n : ℕ)
+    (f : HasRunFaces d levels vs mesh n) (chains : (i : ℕ) → IsHalfArc d i
+    → AreFirstOfArc d levels i) where
   abbrev m : ℕ
-  m = length (edges_at d (λ n. level))
+  m = length (edges_at d levels)
 
   abbrev E : ℕ → Edge
-  E = edge_at d (λ n. level)
+  E = edge_at d levels
 
   abbrev face : Half → ℕ
   face = face_in mesh.face
 
   abbrev faces_here : List ℕ
-  faces_here = fs d level edges owners facings vs is spots placed mesh n f
+  faces_here = fs d levels edges owners facings vs is spots placed mesh n f
 
   -- the number of each point
   abbrev k : ℕ → ℕ
@@ -89,13 +89,13 @@ module _ (d : Plan) (level : ℕ) (edges : List Edge) (owners : List Owner) (fac
   -- ---- a straight and its edge
   module _ (i : ℕ) (s : IsStraight d i) where
     abbrev x : ℕ
-    x = first_at d level i
+    x = first_at d levels i
 
     there : x < m
-    there = (straight_first d level edges owners facings vs is i s).there
+    there = (straight_first d levels edges owners facings vs is i s).there
 
     ends : IsEdgeOf (E x) (curve d i)
-    ends = (straight_first d level edges owners facings vs is i s).edge
+    ends = (straight_first d levels edges owners facings vs is i s).edge
 
     rises : Before (E x).low (E x).high
     rises = is.settled.run.run.edges x there
@@ -124,21 +124,21 @@ module _ (d : Plan) (level : ℕ) (edges : List Edge) (owners : List Owner) (fac
 
     above_is : IsEmptyAbove d (E x) i ↔ IsUnnamed d k (face (over x))
     above_is =
-        let q = straight_first d level edges owners facings vs is i s in
+        let q = straight_first d levels edges owners facings vs is i s in
         subst (λ (j : ℕ). IsEmptyAbove d (E x) j ↔ IsUnnamed d k (face (over x))) q.curve_is
-        (above_empty d (drawn_bays d (λ n. level)) m E
+        (above_empty d (drawn_bays d levels) m E
         (steps_from [] vs) is.settled.run is.settled.wide is.settled.settled
         (pos 0) face f.faces k
-        (own_face d level edges owners facings vs is spots placed mesh n f) x there q.part)
+        (own_face d levels edges owners facings vs is spots placed mesh n f) x there q.part)
 
     below_is : IsEmptyBelow d (E x) i ↔ IsUnnamed d k (face (under x))
     below_is =
-        let q = straight_first d level edges owners facings vs is i s in
+        let q = straight_first d levels edges owners facings vs is i s in
         subst (λ (j : ℕ). IsEmptyBelow d (E x) j ↔ IsUnnamed d k (face (under x))) q.curve_is
-        (below_empty d (drawn_bays d (λ n. level)) m E
+        (below_empty d (drawn_bays d levels) m E
         (steps_from [] vs) is.settled.run is.settled.wide is.settled.settled
         (pos 0) face f.faces k
-        (own_face d level edges owners facings vs is spots placed mesh n f) x there q.part)
+        (own_face d levels edges owners facings vs is spots placed mesh n f) x there q.part)
 
     abbrev Sided : Bool → Type 0
     Sided left = (p : Vector) × (q : Vector) × Crosses d i p q × IsLost d (end_on left p q)
@@ -182,7 +182,7 @@ module _ (d : Plan) (level : ℕ) (edges : List Edge) (owners : List Owner) (fac
           (w.1, w.0, (crosses_turned d (E x) i w.1 w.0 e (back_ends e)).1 w.2, w.3)),
     )
 
-    pub straight_side : (left : Bool) (v : ℕ) → IsFaceOn d level mesh.face i left v
+    pub straight_side : (left : Bool) (v : ℕ) → IsFaceOn d levels mesh.face i left v
         → IsEmptySide d i left ↔ IsUnnamed d k v
     straight_side left v (h, o, e) = (
       (λ y. subst (IsUnnamed d k) (sym e) ((side_is left h o).0 (sided left y))),
@@ -208,7 +208,7 @@ module _ (d : Plan) (level : ℕ) (edges : List Edge) (owners : List Owner) (fac
     one_side left g h (forth e p) (back o q) = absurd (two_ends (sym e ∙ o))
     one_side left g h (back e p) (forth o q) = absurd (two_ends (sym o ∙ e))
 
-    pub face_known : (left : Bool) (v : ℕ) → IsFaceOn d level mesh.face i left v → v < n
+    pub face_known : (left : Bool) (v : ℕ) → IsFaceOn d levels mesh.face i left v → v < n
     face_known left v (h, o, e) = subst (λ (z : ℕ). z < n) (sym e) (f.below h (below_size left o))
       where
         below_size : (b : Bool) → IsOnSide (E x) (curve d i) x b h → h < size mesh
@@ -219,29 +219,29 @@ module _ (d : Plan) (level : ℕ) (edges : List Edge) (owners : List Owner) (fac
 
   -- ---- a half arc
   abbrev inner_face : ℕ → ℕ
-  inner_face i = beside_inner d (drawn_bays d (λ n. level)) E face i
+  inner_face i = beside_inner d (drawn_bays d levels) E face i
 
   abbrev outer_face : ℕ → ℕ
-  outer_face i = beside_outer d (drawn_bays d (λ n. level)) E face i
+  outer_face i = beside_outer d (drawn_bays d levels) E face i
 
-  tube_faces : AreFacesOfTubes d (drawn_bays d (λ n. level)) m E face
+  tube_faces : AreFacesOfTubes d (drawn_bays d levels) m E face
   tube_faces =
       let u = run_weight m E (steps_from [] vs) [] is.settled.run.run in
-      run_faces d (drawn_bays d (λ n. level)) m E
+      run_faces d (drawn_bays d levels) m E
       (steps_from [] vs) is.settled.run is.settled.wide is.settled.settled u.weight u.swept face
       (faces_to (pos 0) u.weight m E (steps_from [] vs) face f.faces)
 
   module _ (i : ℕ) (h : IsHalfArc d i) where
     inside_is : IsEmptyInside d i ↔ IsUnnamed d k (inner_face i)
-    inside_is = inside_empty d (drawn_bays d (λ n. level)) m E
+    inside_is = inside_empty d (drawn_bays d levels) m E
         (steps_from [] vs) is.settled.run is.settled.wide is.settled.settled (pos 0) face f.faces k
-        (own_face d level edges owners facings vs is spots placed mesh n f) i h.there h.kind
+        (own_face d levels edges owners facings vs is spots placed mesh n f) i h.there h.kind
 
     outside_is : IsEmptyOutside d i ↔ IsUnnamed d k (outer_face i)
     outside_is =
-        outside_empty d (drawn_bays d (λ n. level)) m E
+        outside_empty d (drawn_bays d levels) m E
         (steps_from [] vs) is.settled.run is.settled.wide is.settled.settled (pos 0) face f.faces k
-        (own_face d level edges owners facings vs is spots placed mesh n f) i h.there h.kind
+        (own_face d levels edges owners facings vs is spots placed mesh n f) i h.there h.kind
 
     abbrev Ended : Bool → Type 0
     Ended w = (p : Vector) × (q : Vector) × CrossesHalfArc d i p q × IsLost d (end_on w p q)
@@ -269,38 +269,38 @@ module _ (d : Plan) (level : ℕ) (edges : List Edge) (owners : List Owner) (fac
         let w = ended_is (is_inward (third_is_left (curve d i)) left) b e g in
         ((λ y. w.0 (arc_ended left y)), (λ u. let y = w.1 u in half_arc y.0 y.1 h y.2 y.3))
 
-    twin_there : (x : ℕ) → x < m → edge_of (twin (half_within d (drawn_bays d (λ n. level)) E x)) < m
+    twin_there : (x : ℕ) → x < m → edge_of (twin (half_within d (drawn_bays d levels) E x)) < m
     twin_there x l =
         subst (λ (e : ℕ). e < m)
-        (sym (edge_twin (half_within d (drawn_bays d (λ n. level)) E x)
-        ∙ edge_within d (drawn_bays d (λ n. level)) E x)) l
+        (sym (edge_twin (half_within d (drawn_bays d levels) E x)
+        ∙ edge_within d (drawn_bays d levels) E x)) l
 
     pub inner_known : inner_face i < n
     inner_known =
-        known (twin (half_within d (drawn_bays d (λ n. level)) E (first_at d level i)))
-        (twin_there (first_at d level i) (chains i h).inner_there)
+        known (twin (half_within d (drawn_bays d levels) E (first_at d levels i)))
+        (twin_there (first_at d levels i) (chains i h).inner_there)
 
     pub outer_known : outer_face i < n
     outer_known =
-        known (twin (half_within d (drawn_bays d (λ n. level)) E
-        (first_at d level i + length (drawn_bays d (λ n. level) i))))
-        (twin_there (first_at d level i + length (drawn_bays d (λ n. level) i))
+        known (twin (half_within d (drawn_bays d levels) E
+        (first_at d levels i + length (drawn_bays d levels i))))
+        (twin_there (first_at d levels i + length (drawn_bays d levels i))
         (chains i h).outer_there)
 
-    pub inner_same : (e : ℕ) → e < m → (owned_at d (λ n. level) e).curve ≡ i
-        → (owned_at d (λ n. level) e).part ≡ inner
-        → face (twin (half_within d (drawn_bays d (λ n. level)) E e)) ≡ inner_face i
+    pub inner_same : (e : ℕ) → e < m → (owned_at d levels e).curve ≡ i
+        → (owned_at d levels e).part ≡ inner
+        → face (twin (half_within d (drawn_bays d levels) E e)) ≡ inner_face i
     inner_same e l o p =
         (let a = chains i h in
-        tube_faces.inner_chain e (first_at d level i) l a.inner_there p a.inner_part (o
+        tube_faces.inner_chain e (first_at d levels i) l a.inner_there p a.inner_part (o
         ∙ sym a.inner_curve))
 
-    pub outer_same : (e : ℕ) → e < m → (owned_at d (λ n. level) e).curve ≡ i
-        → (owned_at d (λ n. level) e).part ≡ outer
-        → face (twin (half_within d (drawn_bays d (λ n. level)) E e)) ≡ outer_face i
+    pub outer_same : (e : ℕ) → e < m → (owned_at d levels e).curve ≡ i
+        → (owned_at d levels e).part ≡ outer
+        → face (twin (half_within d (drawn_bays d levels) E e)) ≡ outer_face i
     outer_same e l o p =
         (let a = chains i h in
-        tube_faces.outer_chain e (first_at d level i + length (drawn_bays d (λ n. level) i)) l
+        tube_faces.outer_chain e (first_at d levels i + length (drawn_bays d levels i)) l
         a.outer_there p a.outer_part (o ∙ sym a.outer_curve))
 
   -- ---- the faces of the points
@@ -308,40 +308,40 @@ module _ (d : Plan) (level : ℕ) (edges : List Edge) (owners : List Owner) (fac
   over_known None h = f.some
   over_known (Some e) h = known (over e) h
 
-  pub spot_known : (v : Point) (s : Spot) → IsSpot d level vs v s
-      → spot_face d level mesh.face s < n
+  pub spot_known : (v : Point) (s : Spot) → IsSpot d levels vs v s
+      → spot_face d levels mesh.face s < n
   spot_known v (spot.On c) h = f.some
   spot_known v (spot.InTube c true) h =
       inner_known c (record { there = h.0.there; kind = h.0.bent })
   spot_known v (spot.InTube c false) h =
       outer_known c (record { there = h.0.there; kind = h.0.bent })
   spot_known v (spot.Cell i l u) h =
-      over_known l (cell_in d level edges owners facings vs is v i l u h.0)
+      over_known l (cell_in d levels edges owners facings vs is v i l u h.0)
 
   pub point_known : (j : ℕ) → j < length faces_here → slice_index faces_here j < n
   point_known j l =
       let a : j < length
-      d.points = (let q = fs_size d level edges owners facings vs is spots placed mesh n f in
+      d.points = (let q = fs_size d levels edges owners facings vs is spots placed mesh n f in
       omega (arith, l, q)) in
       let b : j < length spots = (let q = placed.spots_are.size in omega (arith, a, q)) in
-      subst (λ (x : ℕ). x < n) (sym (nth_spot_face (spot_face d level mesh.face) spots j b))
+      subst (λ (x : ℕ). x < n) (sym (nth_spot_face (spot_face d levels mesh.face) spots j b))
       (spot_known (object d j) (spot_at spots j) (placed.spots_are.each j a))
 
   -- ---- all curves
   module _ (besides : List Beside)
-      (are : AreBeside d level mesh.face (length d.curves) besides) where
-    beside_here : (i : ℕ) → i < length d.curves → IsBeside d level mesh.face i (beside_at besides i)
+      (are : AreBeside d levels mesh.face (length d.curves) besides) where
+    beside_here : (i : ℕ) → i < length d.curves → IsBeside d levels mesh.face i (beside_at besides i)
     beside_here i l = are.each i l
 
     straight_faces : (i : ℕ) → IsStraight d i → (left : Bool)
-        → IsFaceOn d level mesh.face i left (face_on left (beside_at besides i))
+        → IsFaceOn d levels mesh.face i left (face_on left (beside_at besides i))
     straight_faces i s left =
         by_side left
-        (subst (λ (t : CurveKind). IsBesideKind t d level mesh.face i (beside_at besides i)) s.kind
+        (subst (λ (t : CurveKind). IsBesideKind t d levels mesh.face i (beside_at besides i)) s.kind
         (beside_here i s.there))
       where
-        by_side : (b : Bool) → IsBesideKind kind.Straight d level mesh.face i (beside_at besides i)
-            → IsFaceOn d level mesh.face i b (face_on b (beside_at besides i))
+        by_side : (b : Bool) → IsBesideKind kind.Straight d levels mesh.face i (beside_at besides i)
+            → IsFaceOn d levels mesh.face i b (face_on b (beside_at besides i))
         by_side true t = t.0
         by_side false t = t.1
 
@@ -349,7 +349,7 @@ module _ (d : Plan) (level : ℕ) (edges : List Edge) (owners : List Owner) (fac
         → ((beside_at besides i).first ≡ inner_face i)
         × ((beside_at besides i).second ≡ outer_face i)
     arc_faces i h =
-        subst (λ (t : CurveKind). IsBesideKind t d level mesh.face i (beside_at besides i)) h.kind
+        subst (λ (t : CurveKind). IsBesideKind t d levels mesh.face i (beside_at besides i)) h.kind
         (beside_here i h.there)
 
     decide : (i : ℕ) → i < length d.curves → IsStraight d i ⊎ IsHalfArc d i
@@ -411,7 +411,7 @@ module _ (d : Plan) (level : ℕ) (edges : List Edge) (owners : List Owner) (fac
         u.inner,
         λ j w e. elim (o v (omega (arith, l, wide))) [
           | inl z ↦ z.1 j
-              (let q = fs_size d level edges owners facings vs is spots placed mesh n f in
+              (let q = fs_size d levels edges owners facings vs is spots placed mesh n f in
               omega (arith, w, q)) (sym e)
           | inr z ↦ absurd (let q = sym z.1 ∙ u.none in omega (arith, q))
         ],
@@ -423,7 +423,7 @@ module _ (d : Plan) (level : ℕ) (edges : List Edge) (owners : List Owner) (fac
         none = elim (o v (omega (arith, l, wide))) [
           | inl z ↦ z.0
           | inr z ↦ (let w : z.0 < length d.points = (let q = z.2.there in
-              let r = fs_size d level edges owners facings vs is spots placed mesh n f in
+              let r = fs_size d levels edges owners facings vs is spots placed mesh n f in
               omega (arith, q, r)) in absurd (u.1 z.0 w (sym z.2.face)))
         ];
       }
@@ -445,7 +445,7 @@ module _ (d : Plan) (level : ℕ) (edges : List Edge) (owners : List Owner) (fac
           → IsAnswer d (Fault (Empty s.curve s.left))
       empty_answer s settled none single h =
           empty s.curve s.left
-          (alone d level edges owners facings vs is spots placed mesh n f none single) settled
+          (alone d levels edges owners facings vs is spots placed mesh n f none single) settled
           (record {
             empty = (free_is s.curve s.left h.there).1 h.free;
             no_curve = λ i left l y. h.no_curve i left l
@@ -456,7 +456,7 @@ module _ (d : Plan) (level : ℕ) (edges : List Edge) (owners : List Owner) (fac
       pub filled : IsFirstOutside faces_here None → AreShared faces_here (length faces_here) None
           → HasNoFree d.curves besides names (length d.curves) → AreFilled d
       filled none single free = record {
-        alone = alone d level edges owners facings vs is spots placed mesh n f none single;
+        alone = alone d levels edges owners facings vs is spots placed mesh n f none single;
         none = λ i left y. free i left (empty_there i left y)
             ((free_is i left (empty_there i left y)).0 y);
       }
@@ -469,16 +469,16 @@ module _ (d : Plan) (level : ℕ) (edges : List Edge) (owners : List Owner) (fac
       }
 
       pub all_owned : HasNoFree d.curves besides names (length d.curves) → (h : Half)
-          → IsClearHalf d level h → IsUnowned mesh.face names (number h) → ⊥
+          → IsClearHalf d levels h → IsUnowned mesh.face names (number h) → ⊥
       all_owned none h clear u =
-          elim (owner_is d (drawn_bays d (λ n. level)) m E (steps_from [] vs) is.settled.run
+          elim (owner_is d (drawn_bays d levels) m E (steps_from [] vs) is.settled.run
           (edge_of h) clear.there) [
             | inl s ↦
                 let t : IsStraight d s.index = record { there = s.fits; kind = s.straight } in
-                let q : edge_of h ≡ first_at d level s.index = straight_only d level edges owners
+                let q : edge_of h ≡ first_at d levels s.index = straight_only d levels edges owners
                 facings vs is (edge_of h) clear.there
                 (subst (λ (j : ℕ). IsStraight d j) (sym s.number) t)
-                ∙ ap (first_at d level) s.number in
+                ∙ ap (first_at d levels) s.number in
                 let g = side_of s.index t h q in
                 let b = straight_faces s.index t g.0 in
                 let same : b.0 ≡ number h = one_side s.index t g.0 b.0 (number h) b.1 g.1 in
@@ -488,18 +488,18 @@ module _ (d : Plan) (level : ℕ) (edges : List Edge) (owners : List Owner) (fac
                 (straight_first_is s.index g.0 t) ∙ b.2
                 ∙ ap (slice_index mesh.face) same) u.inner u.none)
             | inr a ↦ by_part a.index a.fits a.bent a.number
-                (owned_at d (λ n. level) (edge_of h)).part refl a.part
+                (owned_at d levels (edge_of h)).part refl a.part
           ]
         where
           by_part : (i : ℕ) → i < length d.curves → (curve d i).kind ≡ kind.HalfArc
-              → (owned_at d (λ n. level) (edge_of h)).curve ≡ i → (p : Part)
-              → (owned_at d (λ n. level) (edge_of h)).part ≡ p → IsOfTube p → ⊥
+              → (owned_at d levels (edge_of h)).curve ≡ i → (p : Part)
+              → (owned_at d levels (edge_of h)).part ≡ p → IsOfTube p → ⊥
           by_part i l b c whole e t = absurd t
           by_part i l b c inner e t =
               let r : IsHalfArc d i = record { there = l; kind = b } in
               let w = arc_faces i r in
-              let z : h ≡ twin (half_within d (drawn_bays d (λ n. level)) E (edge_of h)) = not_faced d
-              (drawn_bays d (λ n. level)) E h (subst IsOfTube (sym e) tt) clear.clear in
+              let z : h ≡ twin (half_within d (drawn_bays d levels) E (edge_of h)) = not_faced d
+              (drawn_bays d levels) E h (subst IsOfTube (sym e) tt) clear.clear in
               let q : face h ≡ inner_face i = ap face z
               ∙ inner_same i r (edge_of h) clear.there c e in
               let left = third_is_left (curve d i) in
@@ -510,8 +510,8 @@ module _ (d : Plan) (level : ℕ) (edges : List Edge) (owners : List Owner) (fac
           by_part i l b c outer e t =
               let r : IsHalfArc d i = record { there = l; kind = b } in
               let w = arc_faces i r in
-              let z : h ≡ twin (half_within d (drawn_bays d (λ n. level)) E (edge_of h)) = not_faced d
-              (drawn_bays d (λ n. level)) E h (subst IsOfTube (sym e) tt) clear.clear in
+              let z : h ≡ twin (half_within d (drawn_bays d levels) E (edge_of h)) = not_faced d
+              (drawn_bays d levels) E h (subst IsOfTube (sym e) tt) clear.clear in
               let q : face h ≡ outer_face i = ap face z
               ∙ outer_same i r (edge_of h) clear.there c e in
               let left = not (third_is_left (curve d i)) in

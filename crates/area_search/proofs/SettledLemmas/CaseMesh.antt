@@ -28,16 +28,16 @@ greatest_at [] h l = absurd (omega (arith, l))
 greatest_at (n ∷ ns) zero l = omega arith
 greatest_at (n ∷ ns) (suc h) l = (let k = greatest_at ns h (omega (arith, l)) in omega (arith, k))
 
-module _ (d : Plan) (level : ℕ) (edges : List Edge) (owners : List Owner) (facings : List Facing)
-    (vs : List Move) (is : IsCase d level edges owners facings vs) where
+module _ (d : Plan) (levels : ℕ → ℕ) (edges : List Edge) (owners : List Owner) (facings : List Facing)
+    (vs : List Move) (is : IsCase d levels edges owners facings vs) where
   abbrev m : ℕ
-  m = length (edges_at d (λ n. level))
+  m = length (edges_at d levels)
 
   abbrev E : ℕ → Edge
-  E = edge_at d (λ n. level)
+  E = edge_at d levels
 
   same_size : length edges ≡ m
-  same_size = edges_size d level edges owners facings vs is
+  same_size = edges_size d levels edges owners facings vs is
 
   pub known_cells : (cells : List Gap) (mesh : HalfEdges) → cells ≡ closed_gaps vs
       → size mesh ≡ 2 * length edges → AreKnown (size mesh) cells
@@ -49,7 +49,7 @@ module _ (d : Plan) (level : ℕ) (edges : List Edge) (owners : List Owner) (fac
   -- the mesh of the run, made by the number of owners
   module _ (n : ℕ) (count : n ≡ length owners) where
     counted : n ≡ m
-    counted = count ∙ owners_size d level edges owners facings vs is
+    counted = count ∙ owners_size d levels edges owners facings vs is
 
     pub owner_few : m < 2 ^ 31 → n < 2 ^ 31
     owner_few few = omega (arith, few, counted)
@@ -99,7 +99,7 @@ module _ (d : Plan) (level : ℕ) (edges : List Edge) (owners : List Owner) (fac
             loose = t.loose;
           }
 
-      pub run_mesh : IsMesh (with_faces mesh faces) → IsRunMesh d level vs (with_faces mesh faces)
+      pub run_mesh : IsMesh (with_faces mesh faces) → IsRunMesh d levels vs (with_faces mesh faces)
       run_mesh ok = record {
         turned = turned_faces;
         mesh_is = ok;
@@ -109,7 +109,7 @@ module _ (d : Plan) (level : ℕ) (edges : List Edge) (owners : List Owner) (fac
 
       pub has_run_faces : (cells : List Gap) (n : ℕ) → cells ≡ closed_gaps vs
           → AreFaces mesh cells faces → n ≡ suc (greatest faces)
-          → HasRunFaces d level vs (with_faces mesh faces) n
+          → HasRunFaces d levels vs (with_faces mesh faces) n
       has_run_faces cells n e a c =
           let own : AreFaces mesh (closed_gaps vs) faces = subst
           (λ (gs : List Gap). AreFaces mesh gs faces) e a in

@@ -36,36 +36,36 @@ use Rattle.area_search.proofs.SettledLemmas.TubedLaws.{touches_to}
 -- the owner of its face.
 pub record Labelling : Type 0 where
   pub d : Plan
-  pub level : ℕ
+  pub levels : ℕ → ℕ
   pub vs : List Move
   pub spots : List Spot
   pub mesh : HalfEdges
   pub count : ℕ
   pub owners : List ℕ
   pub name : Half → ℕ
-  pub settled : IsSettledDrawing d (drawn_bays d (λ n. level)) (length (edges_at d (λ n. level)))
-      (edge_at d (λ n. level)) (steps_from [] vs)
+  pub settled : IsSettledDrawing d (drawn_bays d levels) (length (edges_at d levels))
+      (edge_at d levels) (steps_from [] vs)
   pub fit : Fit [] vs
-  pub placed : ArePlacedOff d level vs spots
-  pub faces : HasRunFaces d level vs mesh count
-  pub own : HaveOwners d level mesh.face spots count owners
-  pub name_is : (h : Half) → edge_of h < length (edges_at d (λ n. level))
-      → name h ≡ label_by (length d.points) (faced d (drawn_bays d (λ n. level)) (edge_at d (λ n. level)) h)
+  pub placed : ArePlacedOff d levels vs spots
+  pub faces : HasRunFaces d levels vs mesh count
+  pub own : HaveOwners d levels mesh.face spots count owners
+  pub name_is : (h : Half) → edge_of h < length (edges_at d levels)
+      → name h ≡ label_by (length d.points) (faced d (drawn_bays d levels) (edge_at d levels) h)
       (slice_index owners (face_in mesh.face h))
 
-pub nth_face : (d : Plan) (level : ℕ) (faces : List ℕ) (spots : List Spot) (j : ℕ)
+pub nth_face : (d : Plan) (levels : ℕ → ℕ) (faces : List ℕ) (spots : List Spot) (j : ℕ)
     → j < length spots
-    → slice_index (spot_faces d level faces spots) j ≡ spot_face d level faces (spot_at spots j)
-nth_face d level faces [] j l = absurd (omega (arith, l))
-nth_face d level faces (s ∷ spots) zero l = refl
-nth_face d level faces (s ∷ spots) (suc j) l = nth_face d level faces spots j (omega (arith, l))
+    → slice_index (spot_faces d levels faces spots) j ≡ spot_face d levels faces (spot_at spots j)
+nth_face d levels faces [] j l = absurd (omega (arith, l))
+nth_face d levels faces (s ∷ spots) zero l = refl
+nth_face d levels faces (s ∷ spots) (suc j) l = nth_face d levels faces spots j (omega (arith, l))
 
 module _ (s : Labelling) where
   abbrev pub d : Plan
   d = s.d
 
-  abbrev pub level : ℕ
-  level = s.level
+  abbrev pub levels : ℕ → ℕ
+  levels = s.levels
 
   abbrev pub vs : List Move
   vs = s.vs
@@ -80,13 +80,13 @@ module _ (s : Labelling) where
   name = s.name
 
   abbrev pub bays : ℕ → List Bay
-  bays = drawn_bays d (λ n. level)
+  bays = drawn_bays d levels
 
   abbrev pub m : ℕ
-  m = length (edges_at d (λ n. level))
+  m = length (edges_at d levels)
 
   abbrev pub E : ℕ → Edge
-  E = edge_at d (λ n. level)
+  E = edge_at d levels
 
   abbrev pub steps : List Step
   steps = steps_from [] vs
@@ -110,13 +110,13 @@ module _ (s : Labelling) where
   owner h = slice_index s.owners (F h)
 
   abbrev pub fs : List ℕ
-  fs = spot_faces d level mesh.face spots
+  fs = spot_faces d levels mesh.face spots
 
   pub points : length spots ≡ length d.points
   points = s.placed.spots_are.size
 
   pub fs_size : length fs ≡ length d.points
-  fs_size = length-map spots (spot_face d level mesh.face) ∙ points
+  fs_size = length-map spots (spot_face d levels mesh.face) ∙ points
 
   -- ---- owners
   pub own_name : (j : ℕ) → j < length d.points → slice_index fs j < length s.owners

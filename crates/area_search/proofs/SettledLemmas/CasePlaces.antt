@@ -26,7 +26,7 @@ use Rattle.area_search.specs.Settled.Cases.{IsClearOver, IsOffCurves, IsSpot, fa
 use Rattle.area_search.specs.Settled.Cases.{spot_face}
 use Rattle.area_search.proofs.SettledLemmas.CaseNames.{E, F, Labelling, bays, beside_name}
 use Rattle.area_search.proofs.SettledLemmas.CaseNames.{clear_name, d, fs, fs_size, inside, known}
-use Rattle.area_search.proofs.SettledLemmas.CaseNames.{level, m, mesh, name, named_faces, nth_face}
+use Rattle.area_search.proofs.SettledLemmas.CaseNames.{levels, m, mesh, name, named_faces, nth_face}
 use Rattle.area_search.proofs.SettledLemmas.CaseNames.{outside, own_name, owner, points, r, spots}
 use Rattle.area_search.proofs.SettledLemmas.CaseNames.{steps, twin_fits, vs, within}
 use Rattle.area_search.proofs.SettledLemmas.CertifiedMoves.{CellAt, TubeAt, place_in}
@@ -46,18 +46,18 @@ module _ (s : Labelling) where
     abbrev v : Point
     v = object (d s) j
 
-    own_spot : IsSpot (d s) (level s) (vs s) v (spot_at (spots s) j)
+    own_spot : IsSpot (d s) (levels s) (vs s) v (spot_at (spots s) j)
     own_spot = s.placed.spots_are.each j l
 
     own_off : IsOffCurves (spot_at (spots s) j)
     own_off = s.placed.off j (let e = points s in omega (arith, l, e))
 
     abbrev face_here : Spot → ℕ
-    face_here x = spot_face (d s) (level s) (mesh s).face x
+    face_here x = spot_face (d s) (levels s) (mesh s).face x
 
     pub face_is : (x : Spot) → spot_at (spots s) j ≡ x → slice_index (fs s) j ≡ face_here x
     face_is x e =
-        nth_face (d s) (level s) (mesh s).face (spots s) j (let k = points s in omega (arith, l, k))
+        nth_face (d s) (levels s) (mesh s).face (spots s) j (let k = points s in omega (arith, l, k))
         ∙ ap face_here e
 
     pub inner_face : slice_index (fs s) j ≡ 0 → ⊥
@@ -72,8 +72,8 @@ module _ (s : Labelling) where
 
     -- ---- in a cell
     module _ (i : ℕ) (lo up : Option ℕ) (is : spot_at (spots s) j ≡ spot.Cell i lo up)
-        (cell : IsCell (edges_at (d s) (λ n. level s)) (vs s) v i lo up)
-        (clear : IsClearOver (d s) (level s) lo) where
+        (cell : IsCell (edges_at (d s) (levels s)) (vs s) v i lo up)
+        (clear : IsClearOver (d s) (levels s) lo) where
       abbrev pub now : List ℕ
       now = live_from [] (take cell.events (vs s))
 
@@ -104,7 +104,7 @@ module _ (s : Labelling) where
       face_low = face_is (spot.Cell i lo up) is ∙ ap (face_over (mesh s).face) lower_some.1
 
       low_clear : faced (d s) (bays s) (E s) (over lower_some.0) ≡ 0
-      low_clear = subst (IsClearOver (d s) (level s)) lower_some.1 clear
+      low_clear = subst (IsClearOver (d s) (levels s)) lower_some.1 clear
 
       pub low_name : name s (over lower_some.0) ≡ suc j
       low_name = own_label (over lower_some.0) low_fits face_low
@@ -229,14 +229,14 @@ module _ (s : Labelling) where
           ∙ nth_place (spots s) j (let k = points s in omega (arith, l, k)) ∙ ap spot_place e
 
       pub told : CellAt (d s) (r s) (numbers (name s)) places j
-          ⊎ TubeAt (d s) (level s) (inside s) (outside s) places j
+          ⊎ TubeAt (d s) (levels s) (inside s) (outside s) places j
       unfolding in_cell in_inner in_outer
       told = by_spot (spot_at (spots s) j) refl own_spot own_off
         where
-          by_spot : (x : Spot) → spot_at (spots s) j ≡ x → IsSpot (d s) (level s) (vs s) v x
+          by_spot : (x : Spot) → spot_at (spots s) j ≡ x → IsSpot (d s) (levels s) (vs s) v x
               → IsOffCurves x
               → CellAt (d s) (r s) (numbers (name s)) places j
-              ⊎ TubeAt (d s) (level s) (inside s) (outside s) places j
+              ⊎ TubeAt (d s) (levels s) (inside s) (outside s) places j
           by_spot (spot.On c) e h o = absurd o
           by_spot (spot.Cell i lo up) e h o =
               inl (record {

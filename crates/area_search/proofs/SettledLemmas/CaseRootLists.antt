@@ -37,7 +37,7 @@ use Rattle.area_search.specs.Settled.Cases.{IsClearOver, IsOffCurves, IsRunMesh,
 use Rattle.area_search.specs.Settled.Cases.{spot_at}
 use Rattle.area_search.specs.Settled.Writing.{over_some, under_some}
 use Rattle.area_search.proofs.SettledLemmas.CaseNames.{E, Labelling, bays, clear_least, d, inside}
-use Rattle.area_search.proofs.SettledLemmas.CaseNames.{labels_are, level, m, mesh, name}
+use Rattle.area_search.proofs.SettledLemmas.CaseNames.{labels_are, levels, m, mesh, name}
 use Rattle.area_search.proofs.SettledLemmas.CaseNames.{named_faces, outside, points, r, spots}
 use Rattle.area_search.proofs.SettledLemmas.CaseNames.{steps, touches_fits, twin_fits, vs, within}
 use Rattle.area_search.proofs.SettledLemmas.CasePlaces.{at_up, before_low, in_cell, in_inner}
@@ -85,11 +85,11 @@ spot_index (q ∷ ps) p (inr h) =
 -- what the program holds of a settled drawing: the mesh of its run, the edges' facings and owners,
 -- the chains beside which points lie, the half-edges at the border, and the places
 pub record Rooting (s : Labelling) : Type 0 where
-  pub mesh_is : IsRunMesh s.d s.level s.vs s.mesh
+  pub mesh_is : IsRunMesh s.d s.levels s.vs s.mesh
   pub facings : List Facing
-  pub facings_are : AreFacings s.d (λ n. s.level) facings
+  pub facings_are : AreFacings s.d s.levels facings
   pub edge_owners : List Owner
-  pub owners_are : edge_owners ≡ map owner_as (runs.edge_list (drawn_bays s.d (λ n. s.level)) 0 s.d.curves)
+  pub owners_are : edge_owners ≡ map owner_as (runs.edge_list (drawn_bays s.d s.levels) 0 s.d.curves)
   pub chains : Chains
   pub chains_are : AreChains s.spots (length s.spots) (length s.d.curves) chains
   pub border : List ℕ
@@ -153,7 +153,7 @@ module _ (s : Labelling) (g : Rooting s) where
   tube_listed h i l e =
       edge_listed (edge_of h) (number h) l
       (tag_listed _ _ i h _
-      (tag_is (d s) (level s) g.facings g.facings_are g.edge_owners g.owners_are h l ∙ e))
+      (tag_is (d s) (levels s) g.facings g.facings_are g.edge_owners g.owners_are h l ∙ e))
 
   pub chain_listed : (e : ℕ) → e < m s → runs.IsOfTube (own e).part
       → is_marked g.chains (own e).curve (part_of (own e).part) ≡ true
@@ -161,7 +161,7 @@ module _ (s : Labelling) (g : Rooting s) where
   chain_listed e l o marked =
       edge_listed e (number (twin (within s e))) l
       (subst (Has (number (twin (within s e))))
-      (sym (roots_are (d s) (level s) g.facings g.facings_are g.edge_owners g.owners_are
+      (sym (roots_are (d s) (levels s) g.facings g.facings_are g.edge_owners g.owners_are
       g.chains e l))
       (subst (λ (b : Bool). Has (number (twin (within s e)))
       (tube_sides (facing_of (own e).part (within s e)) b e)) (sym marked)
@@ -178,8 +178,8 @@ module _ (s : Labelling) (g : Rooting s) where
     spot_there = let e = points s in omega (arith, l, e)
 
     in_cell_named : (i : ℕ) (lo up : Option ℕ) → spot_at (spots s) j ≡ spot.Cell i lo up
-        → IsCell (edges_at (d s) (λ n. level s)) (vs s) (object (d s) j) i lo up
-        → IsClearOver (d s) (level s) lo → Named
+        → IsCell (edges_at (d s) (levels s)) (vs s) (object (d s) j) i lo up
+        → IsClearOver (d s) (levels s) lo → Named
     in_cell_named i lo up is cell clear =
         let low = lower_some s j l i lo up is cell clear in (
           over low.0,
@@ -232,7 +232,7 @@ module _ (s : Labelling) (g : Rooting s) where
         (s.placed.off j spot_there)
       where
         by_spot : (x : Spot) → spot_at (spots s) j ≡ x
-            → IsSpot (d s) (level s) (vs s) (object (d s) j) x → IsOffCurves x → Named
+            → IsSpot (d s) (levels s) (vs s) (object (d s) j) x → IsOffCurves x → Named
         by_spot (spot.On c) e h o = absurd o
         by_spot (spot.Cell i lo up) e h o = in_cell_named i lo up e h.0 h.1
         by_spot (spot.InTube c true) e h o = in_inner_named c h.0 e
@@ -278,7 +278,7 @@ module _ (s : Labelling) (g : Rooting s) where
 
   -- ---- and what is listed is a root
   abbrev Told : Half → Type 0
-  Told h = RootAt (d s) (level s) (r s) (numbers (name s)) g.places h
+  Told h = RootAt (d s) (levels s) (r s) (numbers (name s)) g.places h
 
   -- a half-edge of the run that is a root as a settled drawing has it, and as the laws of the plane
   -- know it
@@ -309,9 +309,9 @@ module _ (s : Labelling) (g : Rooting s) where
     )
 
     in_tube : (j : ℕ) → j < length (d s).points → (x : Spot) → spot_at (spots s) j ≡ x
-        → IsSpot (d s) (level s) (vs s) (object (d s) j) x
+        → IsSpot (d s) (levels s) (vs s) (object (d s) j) x
     in_tube j n x is =
-        subst (IsSpot (d s) (level s) (vs s) (object (d s) j)) is (s.placed.spots_are.each j n)
+        subst (IsSpot (d s) (levels s) (vs s) (object (d s) j)) is (s.placed.spots_are.each j n)
 
     beside_root : (h : Half) → edge_of h ≡ e → h ≡ twin (within s e)
         → is_marked g.chains (own e).curve (part_of (own e).part) ≡ true → Root h
@@ -401,7 +401,7 @@ module _ (s : Labelling) (g : Rooting s) where
       (tube_sides (facing_of (own e).part (within s e))
       (is_marked g.chains (own e).curve (part_of (own e).part)) x)) (sym q)
       (subst (Has (number h))
-      (roots_are (d s) (level s) g.facings g.facings_are g.edge_owners g.owners_are g.chains e
+      (roots_are (d s) (levels s) g.facings g.facings_are g.edge_owners g.owners_are g.chains e
       l) w)) in
       elim k.which [
         | inl a ↦ same_edge e l k.of_tube h (ap edge_of a ∙ q) a
@@ -412,8 +412,8 @@ module _ (s : Labelling) (g : Rooting s) where
   -- of a point
   module _ (j : ℕ) (l : j < length (d s).points) (i : ℕ) (lo up : Option ℕ)
       (is : spot_at (spots s) j ≡ spot.Cell i lo up)
-      (cell : IsCell (edges_at (d s) (λ n. level s)) (vs s) (object (d s) j) i lo up)
-      (clear : IsClearOver (d s) (level s) lo) where
+      (cell : IsCell (edges_at (d s) (levels s)) (vs s) (object (d s) j) i lo up)
+      (clear : IsClearOver (d s) (levels s) lo) where
     told : (h : Half) → edge_of h < m s → name s h ≡ suc j → Beside (r s) h (position cell.events i)
         → Root h
     unfolding in_cell
@@ -468,7 +468,7 @@ module _ (s : Labelling) (g : Rooting s) where
         by_up (inr e) = absurd e
 
   spot_root : (h : Half) (j : ℕ) → j < length (d s).points → (x : Spot) → spot_at (spots s) j ≡ x
-      → IsSpot (d s) (level s) (vs s) (object (d s) j) x → Has (number h) (spot_roots x) → Root h
+      → IsSpot (d s) (levels s) (vs s) (object (d s) j) x → Has (number h) (spot_roots x) → Root h
   spot_root h j l (spot.On c) is q w = absurd w
   spot_root h j l (spot.InTube c side) is q w = absurd w
   spot_root h j l (spot.Cell i lo up) is q w = cell_sides j l i lo up is q.0 q.1 h w
@@ -485,7 +485,7 @@ module _ (s : Labelling) (g : Rooting s) where
           let l : i.0 < length (d s).points = (let a = i.1 in let b = points s in
           omega (arith, a, b)) in
           spot_root h i.0 l y.0 i.2
-          (subst (IsSpot (d s) (level s) (vs s) (object (d s) i.0)) i.2
+          (subst (IsSpot (d s) (levels s) (vs s) (object (d s) i.0)) i.2
           (s.placed.spots_are.each i.0 l)) y.2
     ]
   ]

@@ -30,16 +30,16 @@ use Rattle.area_search.proofs.SettledLemmas.RunPlaces.{inside_of, outer, outside
 use Rattle.area_search.proofs.SettledLemmas.RunPlaces.{straight_ends, straight_segment}
 use Rattle.area_search.proofs.SettledLemmas.TurnedCrossings.{crosses_forth, crosses_turned}
 
-module _ (d : Plan) (level : ℕ) (edges : List Edge) (owners : List Owner) (facings : List Facing)
-    (vs : List Move) (is : IsCase d level edges owners facings vs) (mesh : HalfEdges) (n : ℕ)
-    (f : HasRunFaces d level vs mesh n)
-    (chains : (i : ℕ) → IsHalfArc d i → AreFirstOfArc d level i) (besides : List Beside)
-    (are : AreBeside d level mesh.face (length d.curves) besides) where
+module _ (d : Plan) (levels : ℕ → ℕ) (edges : List Edge) (owners : List Owner) (facings : List Facing)
+    (vs : List Move) (is : IsCase d levels edges owners facings vs) (mesh : HalfEdges) (n : ℕ)
+    (f : HasRunFaces d levels vs mesh n)
+    (chains : (i : ℕ) → IsHalfArc d i → AreFirstOfArc d levels i) (besides : List Beside)
+    (are : AreBeside d levels mesh.face (length d.curves) besides) where
   abbrev m : ℕ
-  m = length (edges_at d (λ n. level))
+  m = length (edges_at d levels)
 
   abbrev E : ℕ → Edge
-  E = edge_at d (λ n. level)
+  E = edge_at d levels
 
   abbrev face : Half → ℕ
   face = face_in mesh.face
@@ -52,30 +52,30 @@ module _ (d : Plan) (level : ℕ) (edges : List Edge) (owners : List Owner) (fac
 
   abbrev pub Face : Vector → ℕ → Type 0
   Face z k =
-      run_places.Face d (drawn_bays d (λ n. level)) m E (steps_from [] vs) is.settled.run is.settled.wide
+      run_places.Face d (drawn_bays d levels) m E (steps_from [] vs) is.settled.run is.settled.wide
       is.settled.settled face f.faces z k
 
   -- ---- the number of a place is 0 or that of a face beside a curve
   by_owner : (k : ℕ)
-      → Owns d (drawn_bays d (λ n. level)) m E
+      → Owns d (drawn_bays d levels) m E
       (steps_from [] vs) is.settled.run is.settled.wide is.settled.settled face f.faces k
       → (k ≡ 0) ⊎ Met k
   by_owner k (outer e) = inl e
   by_owner k (edge h l c e) =
       inr (subst Met (sym e)
-      (clear_met d level edges owners facings vs is mesh n f chains besides are h
+      (clear_met d levels edges owners facings vs is mesh n f chains besides are h
       (record { there = l; clear = c })))
   by_owner k (inside_of i h e) =
       inr (subst Met (sym e)
-      (inner_met d level edges owners facings vs is mesh n f chains besides are i h))
+      (inner_met d levels edges owners facings vs is mesh n f chains besides are i h))
   by_owner k (outside_of i h e) =
       inr (subst Met (sym e)
-      (outer_met d level edges owners facings vs is mesh n f chains besides are i h))
+      (outer_met d levels edges owners facings vs is mesh n f chains besides are i h))
 
   pub face_met : (z : Vector) → Place z → (k : ℕ) → Face z k → (k ≡ 0) ⊎ Met k
   face_met z Z k h =
       by_owner k
-      (face_owns d (drawn_bays d (λ n. level)) m E (steps_from [] vs) is.settled.run is.settled.wide
+      (face_owns d (drawn_bays d levels) m E (steps_from [] vs) is.settled.run is.settled.wide
       is.settled.settled face f.faces z Z k h)
 
   -- ---- both sides of a curve
@@ -84,7 +84,7 @@ module _ (d : Plan) (level : ℕ) (edges : List Edge) (owners : List Owner) (fac
 
   arc_is_crossed : (i : ℕ) → IsHalfArc d i → Crossed i
   arc_is_crossed i h =
-      let (p, q, x) = arc_segment d (drawn_bays d (λ n. level)) m E (steps_from [] vs) is.settled.run
+      let (p, q, x) = arc_segment d (drawn_bays d levels) m E (steps_from [] vs) is.settled.run
       is.settled.wide is.settled.settled face f.faces i h in
       record {
         p = p;
@@ -95,8 +95,8 @@ module _ (d : Plan) (level : ℕ) (edges : List Edge) (owners : List Owner) (fac
     where
       ends : (u v : Vector) → CrossesHalfArc d i u v → AreEnds d Face (side i) u v
       ends u v x =
-          let e = arc_faces d level edges owners facings vs is mesh n f chains besides are i h in
-          let a = arc_ends d (drawn_bays d (λ n. level)) m E (steps_from [] vs) is.settled.run
+          let e = arc_faces d levels edges owners facings vs is mesh n f chains besides are i h in
+          let a = arc_ends d (drawn_bays d levels) m E (steps_from [] vs) is.settled.run
           is.settled.wide is.settled.settled face f.faces i h u v x in
           record {
             p_place = x.p_place;
@@ -109,7 +109,7 @@ module _ (d : Plan) (level : ℕ) (edges : List Edge) (owners : List Owner) (fac
 
   module _ (i : ℕ) (s : IsStraight d i) where
     abbrev x : ℕ
-    x = first_at d level i
+    x = first_at d levels i
 
     one_of : (p q : Vector) → Crosses d i p q → CrossesOne d i p q
     one_of p q y =
@@ -124,13 +124,13 @@ module _ (d : Plan) (level : ℕ) (edges : List Edge) (owners : List Owner) (fac
     faces_of : (p q : Vector) → CrossesCurve d (E x) i p q
         → Face p (face (over x)) × Face q (face (under x))
     faces_of p q c =
-        let o = straight_first d level edges owners facings vs is i s in
-        straight_ends d (drawn_bays d (λ n. level)) m E (steps_from [] vs) is.settled.run
+        let o = straight_first d levels edges owners facings vs is i s in
+        straight_ends d (drawn_bays d levels) m E (steps_from [] vs) is.settled.run
         is.settled.wide is.settled.settled face f.faces i x o.there o.curve_is o.part p q c
 
     ends : (u v : Vector) → Crosses d i u v → AreEnds d Face (side i) u v
     ends u v y =
-        elim (straight_beside d level edges owners facings vs is mesh n f chains besides are i s) [
+        elim (straight_beside d levels edges owners facings vs is mesh n f chains besides are i s) [
           | inl b ↦
               let a = faces_of u v ((crosses_forth d (E x) i u v b.low b.high).0 y) in
               record {
@@ -155,11 +155,11 @@ module _ (d : Plan) (level : ℕ) (edges : List Edge) (owners : List Owner) (fac
 
     found : (p : Vector) × (q : Vector) × Crosses d i p q
     found =
-        let o = straight_first d level edges owners facings vs is i s in
-        let (p, q, c) = straight_segment d (drawn_bays d (λ n. level)) m E (steps_from [] vs)
+        let o = straight_first d levels edges owners facings vs is i s in
+        let (p, q, c) = straight_segment d (drawn_bays d levels) m E (steps_from [] vs)
         is.settled.run is.settled.wide is.settled.settled face f.faces i x o.there o.curve_is
         o.part s.there s.kind in
-        elim (straight_beside d level edges owners facings vs is mesh n f chains besides are i s) [
+        elim (straight_beside d levels edges owners facings vs is mesh n f chains besides are i s) [
           | inl b ↦ (p, q, (crosses_forth d (E x) i p q b.low b.high).1 c)
           | inr b ↦ (q, p, (crosses_turned d (E x) i q p b.low b.high).1 c)
         ]
@@ -175,7 +175,7 @@ module _ (d : Plan) (level : ℕ) (edges : List Edge) (owners : List Owner) (fac
         }
 
   pub crossed : (i : ℕ) → i < length d.curves → Crossed i
-  crossed i l = elim (decide d level edges owners facings vs is mesh n f chains besides are i l) [
+  crossed i l = elim (decide d levels edges owners facings vs is mesh n f chains besides are i l) [
     | inl s ↦ straight_is_crossed i s
     | inr h ↦ arc_is_crossed i h
   ]

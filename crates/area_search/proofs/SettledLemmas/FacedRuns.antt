@@ -45,15 +45,15 @@ pub points_from : (now : List ℕ) (vs : List Move)
 points_from now [] = refl
 points_from now (v ∷ vs) = ap (λ (ps : List Point). v.at ∷ ps) (points_from _ vs)
 
-module _ (d : Plan) (level : ℕ) (edges : List Edge) (owners : List Owner) (facings : List Facing)
-    (vs : List Move) (is : IsCase d level edges owners facings vs)
-    (straight_list : edges_at d (λ n. level) ≡ edges_of d) (count : length (edges_of d) ≡ length d.curves)
+module _ (d : Plan) (levels : ℕ → ℕ) (edges : List Edge) (owners : List Owner) (facings : List Facing)
+    (vs : List Move) (is : IsCase d levels edges owners facings vs)
+    (straight_list : edges_at d levels ≡ edges_of d) (count : length (edges_of d) ≡ length d.curves)
     (law : AreEdgesOf (edge d) d) (straights : AreStraights d) (partition : IsPartition d) where
   abbrev steps : List Step
   steps = steps_from [] vs
 
   -- what is said of the edges at the level holds of the drawing's straights
-  moved : (P : ℕ → List Edge → Type 0) → P (length (edges_at d (λ n. level))) (edges_at d (λ n. level))
+  moved : (P : ℕ → List Edge → Type 0) → P (length (edges_at d levels)) (edges_at d levels)
       → P (length d.curves) (edges_of d)
   moved P h = subst (λ (n : ℕ). P n (edges_of d)) count
       (subst (λ (es : List Edge). P (length es) es) straight_list h)
@@ -62,11 +62,11 @@ module _ (d : Plan) (level : ℕ) (edges : List Edge) (owners : List Owner) (fac
   run_of = record { edges = law; run = moved (λ n es. Run n (edge_of es) steps) is.settled.run.run }
 
   pub turned_of : (mesh : HalfEdges) (k : ℕ)
-      → IsTurned (length (edges_at d (λ n. level))) (edge_at d (λ n. level)) steps mesh k
+      → IsTurned (length (edges_at d levels)) (edge_at d levels) steps mesh k
       → IsTurned (length d.curves) (edge d) steps mesh k
   turned_of mesh k t = moved (λ n es. IsTurned n (edge_of es) steps mesh k) t
 
-  pub faces_with : (mesh : HalfEdges) (n : ℕ) → HasRunFaces d level vs mesh n → (w : ℤ)
+  pub faces_with : (mesh : HalfEdges) (n : ℕ) → HasRunFaces d levels vs mesh n → (w : ℤ)
       → IsFaces (drawn w d (edge d) steps) (λ h. slice_index mesh.face (number h))
   faces_with mesh n f w =
       faces_to (pos 0) w (length d.curves) (edge d) steps (face_in mesh.face)
@@ -75,7 +75,7 @@ module _ (d : Plan) (level : ℕ) (edges : List Edge) (owners : List Owner) (fac
   -- ---- points
   abbrev CellFace : List ℕ → Point → ℕ → Option ℕ → Option ℕ → Type 0
   CellFace faces v i l u =
-      (c : IsCell (edges_at d (λ n. level)) vs v i l u) → (w : ℤ)
+      (c : IsCell (edges_at d levels) vs v i l u) → (w : ℤ)
       → face_of (drawn w d (edge d) steps) (face_in faces) (position c.events i)
       ≡ face_over faces l
 
@@ -91,7 +91,7 @@ module _ (d : Plan) (level : ℕ) (edges : List Edge) (owners : List Owner) (fac
       ∙ face_over_is faces l
 
   by_spot : (faces : List ℕ) (j : ℕ) (s : Spot) → j < length d.points
-      → IsSpot d level vs (object d j) s → IsPointFace d steps faces j (cell_face faces s)
+      → IsSpot d levels vs (object d j) s → IsPointFace d steps faces j (cell_face faces s)
   by_spot faces j (spot.On c) l h = absurd (partition.off j l c h.there h.on)
   by_spot faces j (spot.InTube c true) l h =
       absurd (no_half_arc d straights c (record { there = h.0.there; kind = h.0.bent }))
@@ -106,7 +106,7 @@ module _ (d : Plan) (level : ℕ) (edges : List Edge) (owners : List Owner) (fac
     face_is = λ w. cell_face_is faces (object d j) i lo up h.0 w;
   }
 
-  module _ (spots : List Spot) (placed : AreSpots d level vs spots) where
+  module _ (spots : List Spot) (placed : AreSpots d levels vs spots) where
     pub point_face : (faces : List ℕ) (j : ℕ) → j < length d.points
         → IsPointFace d steps faces j (slice_index (map (cell_face faces) spots) j)
     point_face faces j l =
@@ -118,33 +118,33 @@ module _ (d : Plan) (level : ℕ) (edges : List Edge) (owners : List Owner) (fac
     pub point_faces : (faces : List ℕ) → length (map (cell_face faces) spots) ≡ length d.points
     point_faces faces = length-map spots (cell_face faces) ∙ placed.size
 
-    among : (n : ℕ) → n ≡ 2 * length (edges_at d (λ n. level)) → (v : Point) (s : Spot)
-        → IsSpot d level vs v s → IsCellSpot n s
+    among : (n : ℕ) → n ≡ 2 * length (edges_at d levels) → (v : Point) (s : Spot)
+        → IsSpot d levels vs v s → IsCellSpot n s
     among n e v (spot.On c) h = tt
     among n e v (spot.InTube c b) h = tt
     among n e v (spot.Cell i None up) h = tt
     among n e v (spot.Cell i (Some k) up) h =
-        let l : k < length (edges_at d (λ n. level)) = cell_in d level edges owners facings vs is v i
+        let l : k < length (edges_at d levels) = cell_in d levels edges owners facings vs is v i
         (Some k) up h.0 in
         omega (arith, l, e)
 
-    pub cell_spots : (n : ℕ) → n ≡ 2 * length (edges_at d (λ n. level)) → (j : ℕ) → j < length spots
+    pub cell_spots : (n : ℕ) → n ≡ 2 * length (edges_at d levels) → (j : ℕ) → j < length spots
         → IsCellSpot n (spot_at spots j)
     cell_spots n e j l =
         let size = placed.size in
         among n e (object d j) (spot_at spots j) (placed.each j (omega (arith, l, size)))
 
     -- faces of points are known, inner ones, and no two are one
-    module _ (mesh : HalfEdges) (n : ℕ) (f : HasRunFaces d level vs mesh n) where
+    module _ (mesh : HalfEdges) (n : ℕ) (f : HasRunFaces d levels vs mesh n) where
       abbrev number_of : ℕ → ℕ
       number_of j = slice_index (map (cell_face mesh.face) spots) j
 
-      below : (v : Point) (s : Spot) → IsSpot d level vs v s → cell_face mesh.face s < n
+      below : (v : Point) (s : Spot) → IsSpot d levels vs v s → cell_face mesh.face s < n
       below v (spot.On c) h = f.some
       below v (spot.InTube c b) h = f.some
       below v (spot.Cell i None up) h = f.some
       below v (spot.Cell i (Some k) up) h =
-          let l : k < length (edges_at d (λ n. level)) = cell_in d level edges owners facings vs is v i
+          let l : k < length (edges_at d levels) = cell_in d levels edges owners facings vs is v i
           (Some k) up h.0 in
           let e = f.size_is in
           f.below (number (over k)) (omega (arith, l, e))

@@ -35,16 +35,16 @@ use Rattle.area_search.proofs.SettledLemmas.CaseSpots.{cell_in}
 use Rattle.area_search.proofs.SettledLemmas.NumberedPlaces.{IsMet}
 use Rattle.area_search.proofs.SettledLemmas.RunFaces.{face_in}
 
-module _ (d : Plan) (level : ℕ) (edges : List Edge) (owners : List Owner) (facings : List Facing)
-    (vs : List Move) (is : IsCase d level edges owners facings vs) (mesh : HalfEdges) (n : ℕ)
-    (f : HasRunFaces d level vs mesh n)
-    (chains : (i : ℕ) → IsHalfArc d i → AreFirstOfArc d level i) (besides : List Beside)
-    (are : AreBeside d level mesh.face (length d.curves) besides) where
+module _ (d : Plan) (levels : ℕ → ℕ) (edges : List Edge) (owners : List Owner) (facings : List Facing)
+    (vs : List Move) (is : IsCase d levels edges owners facings vs) (mesh : HalfEdges) (n : ℕ)
+    (f : HasRunFaces d levels vs mesh n)
+    (chains : (i : ℕ) → IsHalfArc d i → AreFirstOfArc d levels i) (besides : List Beside)
+    (are : AreBeside d levels mesh.face (length d.curves) besides) where
   abbrev m : ℕ
-  m = length (edges_at d (λ n. level))
+  m = length (edges_at d levels)
 
   abbrev E : ℕ → Edge
-  E = edge_at d (λ n. level)
+  E = edge_at d levels
 
   abbrev face : Half → ℕ
   face = face_in mesh.face
@@ -66,13 +66,13 @@ module _ (d : Plan) (level : ℕ) (edges : List Edge) (owners : List Owner) (fac
   -- ---- a straight
   module _ (i : ℕ) (s : IsStraight d i) where
     abbrev pub x : ℕ
-    x = first_at d level i
+    x = first_at d levels i
 
     pub there : x < m
-    there = (straight_first d level edges owners facings vs is i s).there
+    there = (straight_first d levels edges owners facings vs is i s).there
 
     ends : IsEdgeOf (E x) (curve d i)
-    ends = (straight_first d level edges owners facings vs is i s).edge
+    ends = (straight_first d levels edges owners facings vs is i s).edge
 
     rises : Before (E x).low (E x).high
     rises = is.settled.run.run.edges x there
@@ -135,60 +135,60 @@ module _ (d : Plan) (level : ℕ) (edges : List Edge) (owners : List Owner) (fac
 
     pub straight_beside : IsForth ⊎ IsBack
     straight_beside =
-        let b = subst (λ (t : CurveKind). IsBesideKind t d level mesh.face i (beside i)) s.kind
+        let b = subst (λ (t : CurveKind). IsBesideKind t d levels mesh.face i (beside i)) s.kind
         (are.each i s.there) in
         by_sides b.0.0 b.1.0 b.0.1 b.1.1 b.0.2 b.1.2
 
   -- ---- a half arc
   abbrev pub inner_face : ℕ → ℕ
-  inner_face i = beside_inner d (drawn_bays d (λ n. level)) E face i
+  inner_face i = beside_inner d (drawn_bays d levels) E face i
 
   abbrev pub outer_face : ℕ → ℕ
-  outer_face i = beside_outer d (drawn_bays d (λ n. level)) E face i
+  outer_face i = beside_outer d (drawn_bays d levels) E face i
 
   pub arc_faces : (i : ℕ) → IsHalfArc d i
       → ((beside i).first ≡ inner_face i) × ((beside i).second ≡ outer_face i)
   arc_faces i h =
-      subst (λ (t : CurveKind). IsBesideKind t d level mesh.face i (beside i)) h.kind
+      subst (λ (t : CurveKind). IsBesideKind t d levels mesh.face i (beside i)) h.kind
       (are.each i h.there)
 
-  pub tube_faces : AreFacesOfTubes d (drawn_bays d (λ n. level)) m E face
+  pub tube_faces : AreFacesOfTubes d (drawn_bays d levels) m E face
   tube_faces =
       let u = run_weight m E (steps_from [] vs) [] is.settled.run.run in
-      run_faces d (drawn_bays d (λ n. level)) m E (steps_from [] vs) is.settled.run is.settled.wide
+      run_faces d (drawn_bays d levels) m E (steps_from [] vs) is.settled.run is.settled.wide
       is.settled.settled u.weight u.swept face
       (faces_to (pos 0) u.weight m E (steps_from [] vs) face f.faces)
 
   abbrev within : ℕ → Half
-  within = half_within d (drawn_bays d (λ n. level)) E
+  within = half_within d (drawn_bays d levels) E
 
   twin_there : (e : ℕ) → e < m → edge_of (twin (within e)) < m
   twin_there e l =
       subst (λ (y : ℕ). y < m)
-      (sym (edge_twin (within e) ∙ edge_within d (drawn_bays d (λ n. level)) E e)) l
+      (sym (edge_twin (within e) ∙ edge_within d (drawn_bays d levels) E e)) l
 
   pub inner_known : (i : ℕ) → IsHalfArc d i → inner_face i < n
   inner_known i h =
-      let e = first_at d level i in
+      let e = first_at d levels i in
       face_known (twin (within e)) (twin_there e (chains i h).inner_there)
 
   pub outer_known : (i : ℕ) → IsHalfArc d i → outer_face i < n
   outer_known i h =
-      let e = first_at d level i + length (drawn_bays d (λ n. level) i) in
+      let e = first_at d levels i + length (drawn_bays d levels i) in
       face_known (twin (within e)) (twin_there e (chains i h).outer_there)
 
-  pub inner_same : (i : ℕ) → IsHalfArc d i → (e : ℕ) → e < m → (owned_at d (λ n. level) e).curve ≡ i
-      → (owned_at d (λ n. level) e).part ≡ inner → face (twin (within e)) ≡ inner_face i
+  pub inner_same : (i : ℕ) → IsHalfArc d i → (e : ℕ) → e < m → (owned_at d levels e).curve ≡ i
+      → (owned_at d levels e).part ≡ inner → face (twin (within e)) ≡ inner_face i
   inner_same i h e l o p =
       let a = chains i h in
-      tube_faces.inner_chain e (first_at d level i) l a.inner_there p a.inner_part
+      tube_faces.inner_chain e (first_at d levels i) l a.inner_there p a.inner_part
       (o ∙ sym a.inner_curve)
 
-  pub outer_same : (i : ℕ) → IsHalfArc d i → (e : ℕ) → e < m → (owned_at d (λ n. level) e).curve ≡ i
-      → (owned_at d (λ n. level) e).part ≡ outer → face (twin (within e)) ≡ outer_face i
+  pub outer_same : (i : ℕ) → IsHalfArc d i → (e : ℕ) → e < m → (owned_at d levels e).curve ≡ i
+      → (owned_at d levels e).part ≡ outer → face (twin (within e)) ≡ outer_face i
   outer_same i h e l o p =
       let a = chains i h in
-      tube_faces.outer_chain e (first_at d level i + length (drawn_bays d (λ n. level) i)) l a.outer_there
+      tube_faces.outer_chain e (first_at d levels i + length (drawn_bays d levels i)) l a.outer_there
       p a.outer_part (o ∙ sym a.outer_curve)
 
   -- ---- the two faces are there
@@ -250,37 +250,37 @@ module _ (d : Plan) (level : ℕ) (edges : List Edge) (owners : List Owner) (fac
         | inr b ↦ met_of i s.there true (face (under e)) (b.first ∙ same)
       ]
 
-  pub clear_met : (h : Half) → IsClearHalf d level h → Met (face h)
+  pub clear_met : (h : Half) → IsClearHalf d levels h → Met (face h)
   clear_met h clear =
-      elim (owner_is d (drawn_bays d (λ n. level)) m E (steps_from [] vs) is.settled.run
+      elim (owner_is d (drawn_bays d levels) m E (steps_from [] vs) is.settled.run
       (edge_of h) clear.there) [
         | inl o ↦
             let s : IsStraight d o.index = record { there = o.fits; kind = o.straight } in
             edge_met o.index s h
-            (straight_only d level edges owners facings vs is (edge_of h) clear.there
-            (subst (λ (j : ℕ). IsStraight d j) (sym o.number) s) ∙ ap (first_at d level) o.number)
+            (straight_only d levels edges owners facings vs is (edge_of h) clear.there
+            (subst (λ (j : ℕ). IsStraight d j) (sym o.number) s) ∙ ap (first_at d levels) o.number)
         | inr a ↦
             by_part a.index (record { there = a.fits; kind = a.bent }) a.number
-            (owned_at d (λ n. level) (edge_of h)).part refl a.part
+            (owned_at d levels (edge_of h)).part refl a.part
       ]
     where
-      by_part : (i : ℕ) → IsHalfArc d i → (owned_at d (λ n. level) (edge_of h)).curve ≡ i → (p : Part)
-          → (owned_at d (λ n. level) (edge_of h)).part ≡ p → IsOfTube p → Met (face h)
+      by_part : (i : ℕ) → IsHalfArc d i → (owned_at d levels (edge_of h)).curve ≡ i → (p : Part)
+          → (owned_at d levels (edge_of h)).part ≡ p → IsOfTube p → Met (face h)
       by_part i r c whole e t = absurd t
       by_part i r c inner e t =
-          let z : h ≡ twin (within (edge_of h)) = not_faced d (drawn_bays d (λ n. level)) E h
+          let z : h ≡ twin (within (edge_of h)) = not_faced d (drawn_bays d levels) E h
           (subst IsOfTube (sym e) tt) clear.clear in
           subst Met (sym (ap face z ∙ inner_same i r (edge_of h) clear.there c e))
           (inner_met i r)
       by_part i r c outer e t =
-          let z : h ≡ twin (within (edge_of h)) = not_faced d (drawn_bays d (λ n. level)) E h
+          let z : h ≡ twin (within (edge_of h)) = not_faced d (drawn_bays d levels) E h
           (subst IsOfTube (sym e) tt) clear.clear in
           subst Met (sym (ap face z ∙ outer_same i r (edge_of h) clear.there c e))
           (outer_met i r)
 
   -- ---- the faces of points
-  pub spot_known : (v : Point) (s : Spot) → IsSpot d level vs v s
-      → spot_face d level mesh.face s < n
+  pub spot_known : (v : Point) (s : Spot) → IsSpot d levels vs v s
+      → spot_face d levels mesh.face s < n
   spot_known v (spot.On c) h = f.some
   spot_known v (spot.InTube c true) h =
       inner_known c (record { there = h.0.there; kind = h.0.bent })
@@ -288,4 +288,4 @@ module _ (d : Plan) (level : ℕ) (edges : List Edge) (owners : List Owner) (fac
       outer_known c (record { there = h.0.there; kind = h.0.bent })
   spot_known v (spot.Cell i None u) h = f.some
   spot_known v (spot.Cell i (Some e) u) h =
-      face_known (over e) (cell_in d level edges owners facings vs is v i (Some e) u h.0)
+      face_known (over e) (cell_in d levels edges owners facings vs is v i (Some e) u h.0)

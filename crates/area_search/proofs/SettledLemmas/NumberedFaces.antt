@@ -64,27 +64,27 @@ pub none_open : (n : ℕ) (opened : List Bool) → opened ≡ replicate n false 
 none_open n opened e k =
     ap (λ (bs : List Bool). slice_index_or bs k false) e ∙ all_false n k
 
-module _ (d : Plan) (level : ℕ) (edges : List Edge) (owners : List Owner) (facings : List Facing)
-    (vs : List Move) (is : IsCase d level edges owners facings vs) (mesh : HalfEdges) (n : ℕ)
-    (f : HasRunFaces d level vs mesh n)
-    (chains : (i : ℕ) → IsHalfArc d i → AreFirstOfArc d level i) (besides : List Beside)
-    (are : AreBeside d level mesh.face (length d.curves) besides) (names : List ℕ) (count : ℕ)
+module _ (d : Plan) (levels : ℕ → ℕ) (edges : List Edge) (owners : List Owner) (facings : List Facing)
+    (vs : List Move) (is : IsCase d levels edges owners facings vs) (mesh : HalfEdges) (n : ℕ)
+    (f : HasRunFaces d levels vs mesh n)
+    (chains : (i : ℕ) → IsHalfArc d i → AreFirstOfArc d levels i) (besides : List Beside)
+    (are : AreBeside d levels mesh.face (length d.curves) besides) (names : List ℕ) (count : ℕ)
     (size : length names ≡ n) (named : AreFaceNumbers (faces_met besides) names count) where
   abbrev m : ℕ
-  m = length (edges_at d (λ n. level))
+  m = length (edges_at d levels)
 
   abbrev E : ℕ → Edge
-  E = edge_at d (λ n. level)
+  E = edge_at d levels
 
   abbrev face : Half → ℕ
   face = face_in mesh.face
 
   abbrev HasNumber : Vector → ℕ → Type 0
-  HasNumber z k = Face d level edges owners facings vs is mesh n f chains besides are z k
+  HasNumber z k = Face d levels edges owners facings vs is mesh n f chains besides are z k
 
   abbrev far_point : Point
   far_point =
-      places.far d (drawn_bays d (λ n. level)) m E (steps_from [] vs) is.settled.run is.settled.wide
+      places.far d (drawn_bays d levels) m E (steps_from [] vs) is.settled.run is.settled.wide
       is.settled.settled face f.faces
 
   abbrev far : Vector
@@ -92,61 +92,61 @@ module _ (d : Plan) (level : ℕ) (edges : List Edge) (owners : List Owner) (fac
 
   far_off : IsOff d far
   far_off =
-      places.point_off d (drawn_bays d (λ n. level)) m E (steps_from [] vs) is.settled.run
+      places.point_off d (drawn_bays d levels) m E (steps_from [] vs) is.settled.run
       is.settled.wide is.settled.settled face f.faces far_point 0
-      (places.far_face d (drawn_bays d (λ n. level)) m E (steps_from [] vs) is.settled.run
+      (places.far_face d (drawn_bays d levels) m E (steps_from [] vs) is.settled.run
       is.settled.wide is.settled.settled face f.faces)
 
   far_number : HasNumber far 0
   far_number =
-      places.far_number d (drawn_bays d (λ n. level)) m E (steps_from [] vs) is.settled.run
+      places.far_number d (drawn_bays d levels) m E (steps_from [] vs) is.settled.run
       is.settled.wide is.settled.settled face f.faces
 
   -- what the laws of places say of this drawing
   abbrev at : ℕ → Vector
   at =
       numbers.at d n f.some besides are.size
-      (besides_known d level edges owners facings vs is mesh n f chains besides are) HasNumber
-      (places.numbered d (drawn_bays d (λ n. level)) m E (steps_from [] vs) is.settled.run
+      (besides_known d levels edges owners facings vs is mesh n f chains besides are) HasNumber
+      (places.numbered d (drawn_bays d levels) m E (steps_from [] vs) is.settled.run
       is.settled.wide is.settled.settled face f.faces)
-      (places.joined_is d (drawn_bays d (λ n. level)) m E (steps_from [] vs) is.settled.run
+      (places.joined_is d (drawn_bays d levels) m E (steps_from [] vs) is.settled.run
       is.settled.wide is.settled.settled face f.faces)
-      (places.outer_is d (drawn_bays d (λ n. level)) m E (steps_from [] vs) is.settled.run
+      (places.outer_is d (drawn_bays d levels) m E (steps_from [] vs) is.settled.run
       is.settled.wide is.settled.settled face f.faces)
-      (face_met d level edges owners facings vs is mesh n f chains besides are) far
+      (face_met d levels edges owners facings vs is mesh n f chains besides are) far
       (a_place far_point)
-      far_off far_number (crossed d level edges owners facings vs is mesh n f chains besides are)
+      far_off far_number (crossed d levels edges owners facings vs is mesh n f chains besides are)
       names count size named
 
   face_places : AreFacePlaces d count at
   face_places =
       numbers.places d n f.some besides are.size
-      (besides_known d level edges owners facings vs is mesh n f chains besides are) HasNumber
-      (places.numbered d (drawn_bays d (λ n. level)) m E (steps_from [] vs) is.settled.run
+      (besides_known d levels edges owners facings vs is mesh n f chains besides are) HasNumber
+      (places.numbered d (drawn_bays d levels) m E (steps_from [] vs) is.settled.run
       is.settled.wide is.settled.settled face f.faces)
-      (places.joined_is d (drawn_bays d (λ n. level)) m E (steps_from [] vs) is.settled.run
+      (places.joined_is d (drawn_bays d levels) m E (steps_from [] vs) is.settled.run
       is.settled.wide is.settled.settled face f.faces)
-      (places.outer_is d (drawn_bays d (λ n. level)) m E (steps_from [] vs) is.settled.run
+      (places.outer_is d (drawn_bays d levels) m E (steps_from [] vs) is.settled.run
       is.settled.wide is.settled.settled face f.faces)
-      (face_met d level edges owners facings vs is mesh n f chains besides are) far
+      (face_met d levels edges owners facings vs is mesh n f chains besides are) far
       (a_place far_point)
-      far_off far_number (crossed d level edges owners facings vs is mesh n f chains besides are)
+      far_off far_number (crossed d levels edges owners facings vs is mesh n f chains besides are)
       names count size named
 
   place_in : (z : Vector) → Place z → IsOff d z → (g : ℕ) → HasNumber z g
       → IsInFace d count at z (slice_index names g)
   place_in =
       numbers.place_in d n f.some besides are.size
-      (besides_known d level edges owners facings vs is mesh n f chains besides are) HasNumber
-      (places.numbered d (drawn_bays d (λ n. level)) m E (steps_from [] vs) is.settled.run
+      (besides_known d levels edges owners facings vs is mesh n f chains besides are) HasNumber
+      (places.numbered d (drawn_bays d levels) m E (steps_from [] vs) is.settled.run
       is.settled.wide is.settled.settled face f.faces)
-      (places.joined_is d (drawn_bays d (λ n. level)) m E (steps_from [] vs) is.settled.run
+      (places.joined_is d (drawn_bays d levels) m E (steps_from [] vs) is.settled.run
       is.settled.wide is.settled.settled face f.faces)
-      (places.outer_is d (drawn_bays d (λ n. level)) m E (steps_from [] vs) is.settled.run
+      (places.outer_is d (drawn_bays d levels) m E (steps_from [] vs) is.settled.run
       is.settled.wide is.settled.settled face f.faces)
-      (face_met d level edges owners facings vs is mesh n f chains besides are) far
+      (face_met d levels edges owners facings vs is mesh n f chains besides are) far
       (a_place far_point)
-      far_off far_number (crossed d level edges owners facings vs is mesh n f chains besides are)
+      far_off far_number (crossed d levels edges owners facings vs is mesh n f chains besides are)
       names count size named
 
   curve_is : (i : ℕ) → i < length d.curves
@@ -154,16 +154,16 @@ module _ (d : Plan) (level : ℕ) (edges : List Edge) (owners : List Owner) (fac
       (curve_faces (curve d i) (beside_at besides i) names)
   curve_is i l =
       numbers.curve_is d n f.some besides are.size
-      (besides_known d level edges owners facings vs is mesh n f chains besides are) HasNumber
-      (places.numbered d (drawn_bays d (λ n. level)) m E (steps_from [] vs) is.settled.run
+      (besides_known d levels edges owners facings vs is mesh n f chains besides are) HasNumber
+      (places.numbered d (drawn_bays d levels) m E (steps_from [] vs) is.settled.run
       is.settled.wide is.settled.settled face f.faces)
-      (places.joined_is d (drawn_bays d (λ n. level)) m E (steps_from [] vs) is.settled.run
+      (places.joined_is d (drawn_bays d levels) m E (steps_from [] vs) is.settled.run
       is.settled.wide is.settled.settled face f.faces)
-      (places.outer_is d (drawn_bays d (λ n. level)) m E (steps_from [] vs) is.settled.run
+      (places.outer_is d (drawn_bays d levels) m E (steps_from [] vs) is.settled.run
       is.settled.wide is.settled.settled face f.faces)
-      (face_met d level edges owners facings vs is mesh n f chains besides are) far
+      (face_met d levels edges owners facings vs is mesh n f chains besides are) far
       (a_place far_point)
-      far_off far_number (crossed d level edges owners facings vs is mesh n f chains besides are)
+      far_off far_number (crossed d levels edges owners facings vs is mesh n f chains besides are)
       names count size named i l
 
   abbrev on_side : ℕ → Type 0
@@ -175,50 +175,50 @@ module _ (d : Plan) (level : ℕ) (edges : List Edge) (owners : List Owner) (fac
   side_of : (k : ℕ) → k < count → (k ≡ 0 → ⊥) → on_side k
   side_of k l inner =
       let s = numbers.number_on_side d n f.some besides are.size
-      (besides_known d level edges owners facings vs is mesh n f chains besides are) HasNumber
-      (places.numbered d (drawn_bays d (λ n. level)) m E (steps_from [] vs) is.settled.run
+      (besides_known d levels edges owners facings vs is mesh n f chains besides are) HasNumber
+      (places.numbered d (drawn_bays d levels) m E (steps_from [] vs) is.settled.run
       is.settled.wide is.settled.settled face f.faces)
-      (places.joined_is d (drawn_bays d (λ n. level)) m E (steps_from [] vs) is.settled.run
+      (places.joined_is d (drawn_bays d levels) m E (steps_from [] vs) is.settled.run
       is.settled.wide is.settled.settled face f.faces)
-      (places.outer_is d (drawn_bays d (λ n. level)) m E (steps_from [] vs) is.settled.run
+      (places.outer_is d (drawn_bays d levels) m E (steps_from [] vs) is.settled.run
       is.settled.wide is.settled.settled face f.faces)
-      (face_met d level edges owners facings vs is mesh n f chains besides are) far
+      (face_met d levels edges owners facings vs is mesh n f chains besides are) far
       (a_place far_point)
-      far_off far_number (crossed d level edges owners facings vs is mesh n f chains besides are)
+      far_off far_number (crossed d levels edges owners facings vs is mesh n f chains besides are)
       names count size named k l inner in
       (s.index, s.fits, s.on)
 
   -- ---- points
-  point_in : (j : ℕ) → j < length d.points → (s : Spot) → IsSpot d level vs (object d j) s
+  point_in : (j : ℕ) → j < length d.points → (s : Spot) → IsSpot d levels vs (object d j) s
       → IsOffCurves s
-      → IsInFace d count at (point (object d j)) (slice_index names (spot_face d level mesh.face s))
+      → IsInFace d count at (point (object d j)) (slice_index names (spot_face d levels mesh.face s))
   point_in j l s h o =
       place_in (point (object d j)) (a_place (object d j))
-      (off_spot d level edges owners facings vs is (object d j) s h o)
-      (spot_face d level mesh.face s)
-      (places.object_number d (drawn_bays d (λ n. level)) m E (steps_from [] vs) is.settled.run
-      is.settled.wide is.settled.settled face f.faces j l (spot_face d level mesh.face s)
-      (spot_has_face d level edges owners facings vs is mesh.face (object d j) s h o))
+      (off_spot d levels edges owners facings vs is (object d j) s h o)
+      (spot_face d levels mesh.face s)
+      (places.object_number d (drawn_bays d levels) m E (steps_from [] vs) is.settled.run
+      is.settled.wide is.settled.settled face f.faces j l (spot_face d levels mesh.face s)
+      (spot_has_face d levels edges owners facings vs is mesh.face (object d j) s h o))
 
-  point_is : (j : ℕ) → j < length d.points → (s : Spot) → IsSpot d level vs (object d j) s
-      → IsPointPlace d d none count at j (point_place d level mesh.face names s)
+  point_is : (j : ℕ) → j < length d.points → (s : Spot) → IsSpot d levels vs (object d j) s
+      → IsPointPlace d d none count at j (point_place d levels mesh.face names s)
   point_is j l (spot.On c) h = record {
     on = record {
       point_there = l;
       curve_there = h.there;
       on = h.on;
-      has_side = λ b. on_arc_side d level edges owners facings vs is (object d j) c
+      has_side = λ b. on_arc_side d levels edges owners facings vs is (object d j) c
           (record { there = h.there; kind = b }) h.on;
     };
     kept = never_out;
     least = λ k o kept q. h.least k o q.on;
   }
   point_is j l (spot.InTube c b) h = record {
-    off = off_spot d level edges owners facings vs is (object d j) (spot.InTube c b) h tt;
+    off = off_spot d levels edges owners facings vs is (object d j) (spot.InTube c b) h tt;
     in_face = point_in j l (spot.InTube c b) h tt;
   }
   point_is j l (spot.Cell i lo up) h = record {
-    off = off_spot d level edges owners facings vs is (object d j) (spot.Cell i lo up) h tt;
+    off = off_spot d levels edges owners facings vs is (object d j) (spot.Cell i lo up) h tt;
     in_face = point_in j l (spot.Cell i lo up) h tt;
   }
 
@@ -228,23 +228,23 @@ module _ (d : Plan) (level : ℕ) (edges : List Edge) (owners : List Owner) (fac
   point_below (InFace k) j h = h.in_face.there
 
   -- ---- all of it
-  module _ (spots : List Spot) (placed : AreSpots d level vs spots) (g : DrawingFaces)
+  module _ (spots : List Spot) (placed : AreSpots d levels vs spots) (g : DrawingFaces)
       (opened : length g.open.items ≡ count)
       (closed : (k : ℕ) → slice_index_or g.open.items k false ≡ false)
-      (points_are : g.points.items ≡ map (point_place d level mesh.face names) spots)
+      (points_are : g.points.items ≡ map (point_place d levels mesh.face names) spots)
       (curves_are : HaveFaces d.curves besides names (length d.curves) g.curves.items) where
     moved : (P : ℕ → Type 0) → P count → P (face_count g)
     moved P h = subst P (sym opened) h
 
     points_size : length g.points.items ≡ length d.points
     points_size =
-        ap length points_are ∙ length-map spots (point_place d level mesh.face names) ∙ placed.size
+        ap length points_are ∙ length-map spots (point_place d levels mesh.face names) ∙ placed.size
 
     its_point : (j : ℕ) → j < length d.points → IsPointPlace d d none count at j (place_of g j)
     its_point j l =
         subst (IsPointPlace d d none count at j)
         (sym (ap (λ (ps : List PointPlace). slice_index_or ps j (InFace 0)) points_are
-        ∙ nth_place (point_place d level mesh.face names) spots j
+        ∙ nth_place (point_place d levels mesh.face names) spots j
         (let e = placed.size in omega (arith, l, e))))
         (point_is j l (spot_at spots j) (placed.each j l))
 

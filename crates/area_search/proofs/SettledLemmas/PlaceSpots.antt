@@ -61,8 +61,8 @@ one_inside : (low high p : Point) → IsInside low high p
 one_inside low high p h zero x l = h
 one_inside low high p h (suc j) x l = absurd (omega (arith, l))
 
-module _ (d : Plan) (level : ℕ) (edges : List Edge) (owners : List Owner) (facings : List Facing)
-    (vs : List Move) (is : IsCase d level edges owners facings vs) where
+module _ (d : Plan) (levels : ℕ → ℕ) (edges : List Edge) (owners : List Owner) (facings : List Facing)
+    (vs : List Move) (is : IsCase d levels edges owners facings vs) where
   abbrev AreDrawn : Type 0
   AreDrawn = All (λ (c : Curve). IsDrawn d.window.low d.window.high c) d.curves
 
@@ -75,7 +75,7 @@ module _ (d : Plan) (level : ℕ) (edges : List Edge) (owners : List Owner) (fac
   place_close : AreDrawn → (p : Point) → IsInside d.window.low d.window.high p
       → IsCloseToAll edges p
   place_close drawn p h =
-      (usable (with_points d (one p)) (λ n. level) edges drawn
+      (usable (with_points d (one p)) levels edges drawn
       (one_inside d.window.low d.window.high p h)
       (λ i k. is.tubes i (record { there = k.there; kind = k.kind })) is.edges_are).points 0
       (omega arith)
@@ -89,35 +89,35 @@ module _ (d : Plan) (level : ℕ) (edges : List Edge) (owners : List Owner) (fac
       (subst (λ (xs : List Edge). (j : ℕ) → j < length (points_at ++ places)
       → IsCloseToAll xs (slice_index_or (points_at ++ places) j no_point)) (sym q)
       (both (IsCloseToAll edges) no_point points_at places
-      (points_close d level edges owners facings vs is
-      (are_usable d level edges owners facings vs is drawn inside) points_at edges refl refl)
+      (points_close d levels edges owners facings vs is
+      (are_usable d levels edges owners facings vs is drawn inside) points_at edges refl refl)
       (λ j l. place_close drawn (slice_index_or places j no_point) (near j no_point l))))
 
   -- ---- the objects' points alone, and the places alone
   abbrev Spotted : Point → Spot → Type 0
-  Spotted v s = IsSpot d level vs v s
+  Spotted v s = IsSpot d levels vs v s
 
   module _ (places : List Point) (all spots others : List Spot)
-      (are : AreSpotsOf d level vs (with_places d places) all) (parts : all ≡ spots ++ others)
+      (are : AreSpotsOf d levels vs (with_places d places) all) (parts : all ≡ spots ++ others)
       (count : length spots ≡ length d.points) where
     points_size : length points_at ≡ length d.points
     points_size = length-map d.points (λ (p : Placed). p.at)
 
     each : (j : ℕ) → j < length (points_at ++ places)
-        → IsSpot d level vs (get_or (points_at ++ places) j no_point)
+        → IsSpot d levels vs (get_or (points_at ++ places) j no_point)
         (get_or (spots ++ others) j no_spot)
     each = subst (λ (ss : List Spot). (j : ℕ) → j < length (points_at ++ places)
-        → IsSpot d level vs (get_or (points_at ++ places) j no_point) (get_or ss j no_spot)) parts
+        → IsSpot d levels vs (get_or (points_at ++ places) j no_point) (get_or ss j no_spot)) parts
         are.each
 
-    pub objects_front : AreSpots d level vs spots
-    objects_front = objects_placed d level edges owners facings vs is points_at refl spots (record {
+    pub objects_front : AreSpots d levels vs spots
+    objects_front = objects_placed d levels edges owners facings vs is points_at refl spots (record {
       size = omega (arith, count, points_size);
       each = front Spotted no_point no_spot points_at places spots others
           (omega (arith, count, points_size)) each;
     })
 
-    pub places_back : AreSpotsOf d level vs places others
+    pub places_back : AreSpotsOf d levels vs places others
     places_back = record {
       size =
           let a = ap length parts in
@@ -129,10 +129,10 @@ module _ (d : Plan) (level : ℕ) (edges : List Edge) (owners : List Owner) (fac
           (omega (arith, count, points_size)) each;
     }
 
-  pub objects_alone : (all : List Spot) → AreSpotsOf d level vs (with_places d []) all
-      → AreSpots d level vs all
+  pub objects_alone : (all : List Spot) → AreSpotsOf d levels vs (with_places d []) all
+      → AreSpots d levels vs all
   objects_alone all are =
-      objects_placed d level edges owners facings vs is (points_at ++ []) (without_tail points_at)
+      objects_placed d levels edges owners facings vs is (points_at ++ []) (without_tail points_at)
       all are
     where
       without_tail : (xs : List Point) → xs ++ [] ≡ xs

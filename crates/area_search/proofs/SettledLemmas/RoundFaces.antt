@@ -35,23 +35,23 @@ use Rattle.area_search.proofs.SettledLemmas.SettledSides.{straight_ends}
 use Rattle.area_search.proofs.SettledLemmas.SidesRound.{go_round}
 use Rattle.area_search.proofs.SettledLemmas.TubeHalves.{half_or_twin, not_within, some_side}
 
-module _ (d : Plan) (level : ℕ) (edges : List Edge) (owners : List Owner) (facings : List Facing)
-    (vs : List Move) (is : IsCase d level edges owners facings vs) (mesh : HalfEdges) (n : ℕ)
-    (f : HasRunFaces d level vs mesh n)
-    (chains : (i : ℕ) → IsHalfArc d i → AreFirstOfArc d level i) (besides : List Beside)
-    (are : AreBeside d level mesh.face (length d.curves) besides)
-    (outline : IsRunMesh d level vs mesh) where
+module _ (d : Plan) (levels : ℕ → ℕ) (edges : List Edge) (owners : List Owner) (facings : List Facing)
+    (vs : List Move) (is : IsCase d levels edges owners facings vs) (mesh : HalfEdges) (n : ℕ)
+    (f : HasRunFaces d levels vs mesh n)
+    (chains : (i : ℕ) → IsHalfArc d i → AreFirstOfArc d levels i) (besides : List Beside)
+    (are : AreBeside d levels mesh.face (length d.curves) besides)
+    (outline : IsRunMesh d levels vs mesh) where
   abbrev m : ℕ
-  m = length (edges_at d (λ n. level))
+  m = length (edges_at d levels)
 
   abbrev E : ℕ → Edge
-  E = edge_at d (λ n. level)
+  E = edge_at d levels
 
   abbrev o : ℕ → Owned
-  o e = owned_at d (λ n. level) e
+  o e = owned_at d levels e
 
   abbrev within : ℕ → Half
-  within = half_within d (drawn_bays d (λ n. level)) E
+  within = half_within d (drawn_bays d levels) E
 
   abbrev face : Half → ℕ
   face = face_in mesh.face
@@ -68,7 +68,7 @@ module _ (d : Plan) (level : ℕ) (edges : List Edge) (owners : List Owner) (fac
       let x = half_of g in
       let q : number x ≡ g = number_half g in
       let e : edge_of x < m = below_number x m (omega (arith, k, c, q)) in
-      elim (some_side d (drawn_bays d (λ n. level)) m E (steps_from [] vs) is.settled.run x e) [
+      elim (some_side d (drawn_bays d levels) m E (steps_from [] vs) is.settled.run x e) [
         | inl w ↦ absurd (faced x q w.0 w.1)
         | inr w ↦ (w.0, subst (On w.0) q w.1)
       ]
@@ -82,19 +82,19 @@ module _ (d : Plan) (level : ℕ) (edges : List Edge) (owners : List Owner) (fac
           let one : face (within (edge_of x)) ≡ face a.half = ap face (sym same)
           ∙ ap (slice_index mesh.face) q ∙ outline.mesh_is.one_face.same h l
           ∙ ap (slice_index mesh.face) (sym a.is) in
-          let w = (beside.tube_faces d level edges owners facings vs is mesh n f chains besides
+          let w = (beside.tube_faces d levels edges owners facings vs is mesh n f chains besides
           are).own (edge_of x) a.half e a.there tube one in
-          not_within d (drawn_bays d (λ n. level)) m E (steps_from [] vs) is.settled.run s h
+          not_within d (drawn_bays d levels) m E (steps_from [] vs) is.settled.run s h
           (edge_of a.half) a a.there w.0 (sym a.is ∙ ap number w.2)
 
   -- ---- the face on a side of a straight
   module _ (i : ℕ) (s : IsStraight d i) where
     abbrev x : ℕ
-    x = first_at d level i
+    x = first_at d levels i
 
     ends_apart : (curve d i).from ≡ (curve d i).to → ⊥
     ends_apart e =
-        beside.two_ends d level edges owners facings vs is mesh n f chains besides are i s e
+        beside.two_ends d levels edges owners facings vs is mesh n f chains besides are i s e
 
     -- by the way of the half-edge along the straight
     abbrev start : Bool → Point
@@ -102,7 +102,7 @@ module _ (d : Plan) (level : ℕ) (edges : List Edge) (owners : List Owner) (fac
     start false = (curve d i).to
 
     forth_face : (y : Half) (b : Bool)
-        → beside.IsForth d level edges owners facings vs is mesh n f chains besides are i s
+        → beside.IsForth d levels edges owners facings vs is mesh n f chains besides are i s
         → edge_of y ≡ x → origin E y ≡ start b → face_on b (beside_at besides i) ≡ face y
     forth_face (over e) true r q u = r.first ∙ ap (λ (k : ℕ). face (over k)) (sym q)
     forth_face (over e) false r q u =
@@ -112,7 +112,7 @@ module _ (d : Plan) (level : ℕ) (edges : List Edge) (owners : List Owner) (fac
     forth_face (under e) false r q u = r.second ∙ ap (λ (k : ℕ). face (under k)) (sym q)
 
     back_face : (y : Half) (b : Bool)
-        → beside.IsBack d level edges owners facings vs is mesh n f chains besides are i s
+        → beside.IsBack d levels edges owners facings vs is mesh n f chains besides are i s
         → edge_of y ≡ x → origin E y ≡ start b → face_on b (beside_at besides i) ≡ face y
     back_face (over e) true r q u =
         absurd (ends_apart (sym u ∙ ap (λ (k : ℕ). (E k).low) q ∙ r.low))
@@ -123,7 +123,7 @@ module _ (d : Plan) (level : ℕ) (edges : List Edge) (owners : List Owner) (fac
 
     whole_part : (e : ℕ) → e < m → (o e).curve ≡ i → (o e).part ≡ whole
     whole_part e l c =
-        elim (owner_is d (drawn_bays d (λ n. level)) m E (steps_from [] vs) is.settled.run e l) [
+        elim (owner_is d (drawn_bays d levels) m E (steps_from [] vs) is.settled.run e l) [
           | inl r ↦ r.part
           | inr a ↦ absurd (let q : kind.Straight ≡ kind.HalfArc = sym s.kind
               ∙ ap (λ (k : ℕ). (curve d k).kind) (sym c ∙ a.number) ∙ a.bent in cc)
@@ -133,7 +133,7 @@ module _ (d : Plan) (level : ℕ) (edges : List Edge) (owners : List Owner) (fac
         → origin E a.half ≡ start b
     starts_at b h a =
         let p = whole_part (edge_of a.half) a.there a.curve_is in
-        let w = straight_ends d level edges owners facings vs is (edge_of a.half) a.there p in
+        let w = straight_ends d levels edges owners facings vs is (edge_of a.half) a.there p in
         by b a.starts
         (w.0 ∙ ap (λ (k : ℕ). (curve d k).from) a.curve_is)
         (w.1 ∙ ap (λ (k : ℕ). (curve d k).to) a.curve_is)
@@ -147,11 +147,11 @@ module _ (d : Plan) (level : ℕ) (edges : List Edge) (owners : List Owner) (fac
     pub straight_face : (b : Bool) (h : ℕ) (a : On (record { curve = i; left = b }) h)
         → face_on (is_first (curve d i) b) (beside_at besides i) ≡ face a.half
     straight_face b h a =
-        let q : edge_of a.half ≡ x = only d level edges owners facings vs is
+        let q : edge_of a.half ≡ x = only d levels edges owners facings vs is
         (edge_of a.half) a.there
-        (subst (IsStraight d) (sym a.curve_is) s) ∙ ap (first_at d level) a.curve_is in
+        (subst (IsStraight d) (sym a.curve_is) s) ∙ ap (first_at d levels) a.curve_is in
         ap (λ (k : CurveKind). face_on (is_first_kind k (curve d i) b) (beside_at besides i)) s.kind
-        ∙ elim (beside.straight_beside d level edges owners facings vs is mesh n f chains besides
+        ∙ elim (beside.straight_beside d levels edges owners facings vs is mesh n f chains besides
         are
         i s) [
           | inl r ↦ forth_face a.half b r q (starts_at b h a)
@@ -162,7 +162,7 @@ module _ (d : Plan) (level : ℕ) (edges : List Edge) (owners : List Owner) (fac
   module _ (i : ℕ) (r : IsHalfArc d i) where
     arc_part : (e : ℕ) → e < m → (o e).curve ≡ i → IsOfTube (o e).part
     arc_part e l c =
-        elim (owner_is d (drawn_bays d (λ n. level)) m E (steps_from [] vs) is.settled.run e l) [
+        elim (owner_is d (drawn_bays d levels) m E (steps_from [] vs) is.settled.run e l) [
           | inl s ↦ absurd (let q : kind.Straight ≡ kind.HalfArc = sym s.straight
               ∙ ap (λ (k : ℕ). (curve d k).kind) (sym s.number ∙ c) ∙ r.kind in cc)
           | inr a ↦ a.part
@@ -172,8 +172,8 @@ module _ (d : Plan) (level : ℕ) (edges : List Edge) (owners : List Owner) (fac
         → a.half ≡ twin (within (edge_of a.half))
     free s h a t =
         elim (half_or_twin a.half (within (edge_of a.half))
-        (sym (edge_within d (drawn_bays d (λ n. level)) E (edge_of a.half)))) [
-          | inl q ↦ absurd (not_within d (drawn_bays d (λ n. level)) m E (steps_from [] vs) is.settled.run
+        (sym (edge_within d (drawn_bays d levels) E (edge_of a.half)))) [
+          | inl q ↦ absurd (not_within d (drawn_bays d levels) m E (steps_from [] vs) is.settled.run
               s h (edge_of a.half) a a.there t (sym a.is ∙ ap number q))
           | inr q ↦ q
         ]
@@ -185,14 +185,14 @@ module _ (d : Plan) (level : ℕ) (edges : List Edge) (owners : List Owner) (fac
         (arc_part (edge_of a.half) a.there a.curve_is) a.part_is
       where
         both : (beside_at besides i).first
-            ≡ beside.inner_face d level edges owners facings vs is mesh n f chains besides are i
-        both = (beside.arc_faces d level edges owners facings vs is mesh n f chains besides are i
+            ≡ beside.inner_face d levels edges owners facings vs is mesh n f chains besides are i
+        both = (beside.arc_faces d levels edges owners facings vs is mesh n f chains besides are i
             r).0
 
         other : (beside_at besides i).second
-            ≡ beside.outer_face d level edges owners facings vs is mesh n f chains besides are i
+            ≡ beside.outer_face d levels edges owners facings vs is mesh n f chains besides are i
         other =
-            (beside.arc_faces d level edges owners facings vs is mesh n f chains besides are i r).1
+            (beside.arc_faces d levels edges owners facings vs is mesh n f chains besides are i r).1
 
         here : face (twin (within (edge_of a.half))) ≡ face a.half
         here = ap face (sym (free _ h a (arc_part (edge_of a.half) a.there a.curve_is)))
@@ -202,25 +202,25 @@ module _ (d : Plan) (level : ℕ) (edges : List Edge) (owners : List Owner) (fac
         by whole g q t k = absurd t
         by inner true q t k =
             both
-            ∙ sym (beside.inner_same d level edges owners facings vs is mesh n f chains besides are
+            ∙ sym (beside.inner_same d levels edges owners facings vs is mesh n f chains besides are
             i
             r (edge_of a.half) a.there a.curve_is q) ∙ here
         by inner false q t k = absurd (let c : false ≡ true = k in cc)
         by outer true q t k = absurd (let c : true ≡ false = k in cc)
         by outer false q t k =
             other
-            ∙ sym (beside.outer_same d level edges owners facings vs is mesh n f chains besides are
+            ∙ sym (beside.outer_same d levels edges owners facings vs is mesh n f chains besides are
             i
             r (edge_of a.half) a.there a.curve_is q) ∙ here
 
   -- ---- all sides
   its_curve : (s : SideAt) (h : ℕ) → On s h → s.curve < length d.curves
-  its_curve s h a = side_there d level edges owners facings vs is s h a
+  its_curve s h a = side_there d levels edges owners facings vs is s h a
 
   side_face : (i : ℕ) (b : Bool) (h : ℕ) (a : On (record { curve = i; left = b }) h)
       → face_on (is_first (curve d i) b) (beside_at besides i) ≡ face_of mesh h
   side_face i b h a =
-      elim (beside.decide d level edges owners facings vs is mesh n f chains besides are i
+      elim (beside.decide d levels edges owners facings vs is mesh n f chains besides are i
       (its_curve _ h a)) [
         | inl s ↦ straight_face i s b h a ∙ ap (slice_index mesh.face) a.is
         | inr r ↦ arc_face i r b h a ∙ ap (slice_index mesh.face) a.is
@@ -248,6 +248,6 @@ module _ (d : Plan) (level : ℕ) (edges : List Edge) (owners : List Owner) (fac
 
     pub faces_round : AreNextTo d m E o mesh (size mesh) g.next.items → GoRound d g
     faces_round next =
-        go_round d m E o (case_chains d level edges owners facings vs is) mesh outline.mesh_is
+        go_round d m E o (case_chains d levels edges owners facings vs is) mesh outline.mesh_is
         (steps_from [] vs) (length (steps_from [] vs)) outline.turned g names faces.size stays
         its_side next

@@ -67,25 +67,25 @@ chain_first c whole left t f g = absurd t
 chain_first c inner left t f g = ap (is_first_kind c.kind c) (f refl) ∙ inner_side c.kind c
 chain_first c outer left t f g = ap (is_first_kind c.kind c) (g refl) ∙ outer_side c.kind c
 
-module _ (d : Plan) (level : ℕ) (edges : List Edge) (owners : List Owner) (facings : List Facing)
-    (vs : List Move) (is : IsCase d level edges owners facings vs) where
+module _ (d : Plan) (levels : ℕ → ℕ) (edges : List Edge) (owners : List Owner) (facings : List Facing)
+    (vs : List Move) (is : IsCase d levels edges owners facings vs) where
   abbrev m : ℕ
-  m = length (edges_at d (λ n. level))
+  m = length (edges_at d levels)
 
   abbrev E : ℕ → Edge
-  E = edge_at d (λ n. level)
+  E = edge_at d levels
 
   abbrev bays : ℕ → List Bay
-  bays = drawn_bays d (λ n. level)
+  bays = drawn_bays d levels
 
   abbrev o : ℕ → Owned
-  o e = owned_at d (λ n. level) e
+  o e = owned_at d levels e
 
   abbrev within : ℕ → Half
   within = half_within d bays E
 
-  pub only : (e : ℕ) → e < m → IsStraight d (o e).curve → e ≡ first_at d level (o e).curve
-  only e l s = straight_only d level edges owners facings vs is e l s
+  pub only : (e : ℕ) → e < m → IsStraight d (o e).curve → e ≡ first_at d levels (o e).curve
+  only e l s = straight_only d levels edges owners facings vs is e l s
 
   pub case_chains : AreChains d m E o
   case_chains = chains d bays m E (steps_from [] vs) is.settled.run only
@@ -95,7 +95,7 @@ module _ (d : Plan) (level : ℕ) (edges : List Edge) (owners : List Owner) (fac
   edge_there h l = omega (arith, l)
 
   pub owner_here : (e : ℕ) → e < m → e < length owners
-  owner_here e l = let n = owners_size d level edges owners facings vs is in omega (arith, l, n)
+  owner_here e l = let n = owners_size d levels edges owners facings vs is in omega (arith, l, n)
 
   pub facing_here : (e : ℕ) → e < m → e < length facings
   facing_here e l = let n = is.facings_are.count in omega (arith, l, n)
@@ -108,11 +108,11 @@ module _ (d : Plan) (level : ℕ) (edges : List Edge) (owners : List Owner) (fac
 
   own_is : (e : ℕ) → e < m → (owner_at owners e).curve ≡ (o e).curve
   own_is e l =
-      ap (λ (x : Owner). x.curve) (nth_owner d level edges owners facings vs is e no_owner l)
+      ap (λ (x : Owner). x.curve) (nth_owner d levels edges owners facings vs is e no_owner l)
 
   part_is : (e : ℕ) → e < m → (owner_at owners e).part ≡ part_of (o e).part
   part_is e l =
-      ap (λ (x : Owner). x.part) (nth_owner d level edges owners facings vs is e no_owner l)
+      ap (λ (x : Owner). x.part) (nth_owner d levels edges owners facings vs is e no_owner l)
 
   pub curve_there : (e : ℕ) → e < m → (owner_at owners e).curve < length d.curves
   curve_there e l = subst (λ (i : ℕ). i < length d.curves) (sym (own_is e l)) (own_there e l)
@@ -258,7 +258,7 @@ module _ (d : Plan) (level : ℕ) (edges : List Edge) (owners : List Owner) (fac
       not_within d bays m E (steps_from [] vs) is.settled.run s h (h / 2) a (edge_there h l) t q
 
   -- ---- a half-edge is noted
-  module _ (mesh : HalfEdges) (outline : IsRunMesh d level vs mesh) where
+  module _ (mesh : HalfEdges) (outline : IsRunMesh d levels vs mesh) where
     abbrev Next : ℕ → List ℕ → Type 0
     Next k next = AreNextTo d m E o mesh k next
 

@@ -28,18 +28,18 @@ pub face_over_is : (faces : List ℕ) (o : Option ℕ)
 face_over_is faces None = refl
 face_over_is faces (Some e) = refl
 
-module _ (d : Plan) (level : ℕ) (edges : List Edge) (owners : List Owner) (facings : List Facing)
-    (vs : List Move) (is : IsCase d level edges owners facings vs) (faces : List ℕ) where
+module _ (d : Plan) (levels : ℕ → ℕ) (edges : List Edge) (owners : List Owner) (facings : List Facing)
+    (vs : List Move) (is : IsCase d levels edges owners facings vs) (faces : List ℕ) where
   abbrev m : ℕ
-  m = length (edges_at d (λ n. level))
+  m = length (edges_at d levels)
 
   abbrev E : ℕ → Edge
-  E = edge_at d (λ n. level)
+  E = edge_at d levels
 
   abbrev r : Replay
   r = replay (pos 0) m E (steps_from [] vs)
 
-  cell_face : (v : Point) (i : ℕ) (l u : Option ℕ) (c : IsCell (edges_at d (λ n. level)) vs v i l u)
+  cell_face : (v : Point) (i : ℕ) (l u : Option ℕ) (c : IsCell (edges_at d levels) vs v i l u)
       → face_of r (face_in faces) (position c.events i) ≡ face_over faces l
   cell_face v i l u c =
       let list : r.list c.events ≡ live_from [] (take c.events vs) =
@@ -51,20 +51,20 @@ module _ (d : Plan) (level : ℕ) (edges : List Edge) (owners : List Owner) (fac
       ∙ ap (over_or (numbers (face_in faces)) 0) (sym c.lower_is)
       ∙ face_over_is faces l
 
-  pub spot_has_face : (v : Point) (s : Spot) → IsSpot d level vs v s → IsOffCurves s
-      → PointHasFace d (drawn_bays d (λ n. level)) r (face_in faces) v (spot_face d level faces s)
+  pub spot_has_face : (v : Point) (s : Spot) → IsSpot d levels vs v s → IsOffCurves s
+      → PointHasFace d (drawn_bays d levels) r (face_in faces) v (spot_face d levels faces s)
   spot_has_face v (spot.On c) h o = absurd o
   spot_has_face v (spot.InTube c true) h o =
-      tube_inside (pos 0) d (drawn_bays d (λ n. level)) m E (steps_from [] vs) (face_in faces) v c h.0 h.1
+      tube_inside (pos 0) d (drawn_bays d levels) m E (steps_from [] vs) (face_in faces) v c h.0 h.1
   spot_has_face v (spot.InTube c false) h o =
-      tube_outside (pos 0) d (drawn_bays d (λ n. level)) m E (steps_from [] vs) (face_in faces) v c h.0 h.1
+      tube_outside (pos 0) d (drawn_bays d levels) m E (steps_from [] vs) (face_in faces) v c h.0 h.1
   spot_has_face v (spot.Cell i l u) h o =
       let c = h.0 in
       inl (record {
         strip = c.events;
         index = i;
         located = c.located (pos 0);
-        clear = λ e b. clear_is d level edges owners facings vs is l e h.1
-            (lower_at d level edges owners facings vs is v i e l u c b);
+        clear = λ e b. clear_is d levels edges owners facings vs is l e h.1
+            (lower_at d levels edges owners facings vs is v i e l u c b);
         number = cell_face v i l u c;
       })

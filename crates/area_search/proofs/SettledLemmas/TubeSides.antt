@@ -113,33 +113,33 @@ nth_owner [] e l = absurd (omega (arith, l))
 nth_owner (o ∷ os) zero l = refl
 nth_owner (o ∷ os) (suc e) l = nth_owner os e (omega (arith, l))
 
-module _ (d : Plan) (level : ℕ) (facings : List Facing) (told : AreFacings d (λ n. level) facings)
+module _ (d : Plan) (levels : ℕ → ℕ) (facings : List Facing) (told : AreFacings d levels facings)
     (owners : List Owner) (are : owners
-    ≡ map owner_as (runs.edge_list (drawn_bays d (λ n. level)) 0 d.curves)) where
+    ≡ map owner_as (runs.edge_list (drawn_bays d levels) 0 d.curves)) where
   abbrev within : ℕ → Half
-  within = runs.half_within d (drawn_bays d (λ n. level)) (edge_at d (λ n. level))
+  within = runs.half_within d (drawn_bays d levels) (edge_at d levels)
 
   abbrev own : ℕ → runs.Owned
-  own = runs.owned d (drawn_bays d (λ n. level))
+  own = runs.owned d (drawn_bays d levels)
 
-  edge_count : length (edges_at d (λ n. level)) ≡ length (runs.edge_list (drawn_bays d (λ n. level)) 0 d.curves)
-  edge_count = length-map (runs.edge_list (drawn_bays d (λ n. level)) 0 d.curves) edge_as
+  edge_count : length (edges_at d levels) ≡ length (runs.edge_list (drawn_bays d levels) 0 d.curves)
+  edge_count = length-map (runs.edge_list (drawn_bays d levels) 0 d.curves) edge_as
 
-  pub owner_count : length owners ≡ length (edges_at d (λ n. level))
-  owner_count = ap length are ∙ length-map (runs.edge_list (drawn_bays d (λ n. level)) 0 d.curves) owner_as
+  pub owner_count : length owners ≡ length (edges_at d levels)
+  owner_count = ap length are ∙ length-map (runs.edge_list (drawn_bays d levels) 0 d.curves) owner_as
       ∙ sym edge_count
 
-  pub facing_is : (e : ℕ) → e < length (edges_at d (λ n. level))
+  pub facing_is : (e : ℕ) → e < length (edges_at d levels)
       → facing_in facings e ≡ facing_of (own e).part (within e)
   facing_is e l = told.each e l
 
-  pub owner_is : (e : ℕ) → e < length (edges_at d (λ n. level)) → owner_at owners e ≡ owner_as (own e)
+  pub owner_is : (e : ℕ) → e < length (edges_at d levels) → owner_at owners e ≡ owner_as (own e)
   owner_is e l = ap (λ (os : List Owner). owner_at os e) are
-      ∙ nth_owner (runs.edge_list (drawn_bays d (λ n. level)) 0 d.curves) e (let q = edge_count in
+      ∙ nth_owner (runs.edge_list (drawn_bays d levels) 0 d.curves) e (let q = edge_count in
       omega (arith, l, q))
 
-  pub tag_is : (h : Half) → edge_of h < length (edges_at d (λ n. level))
-      → tag_at facings owners h ≡ faced d (drawn_bays d (λ n. level)) (edge_at d (λ n. level)) h
+  pub tag_is : (h : Half) → edge_of h < length (edges_at d levels)
+      → tag_at facings owners h ≡ faced d (drawn_bays d levels) (edge_at d levels) h
   tag_is h l =
       ap (λ (f : Facing). tag f (owner_at owners (edge_of h)).curve h) (facing_is (edge_of h) l)
       ∙ ap (λ (o : Owner). tag (facing_of (own (edge_of h)).part (within (edge_of h))) o.curve h)
@@ -147,7 +147,7 @@ module _ (d : Plan) (level : ℕ) (facings : List Facing) (told : AreFacings d (
       ∙ tag_case (own (edge_of h)).part (within (edge_of h)) h (own (edge_of h)).curve
 
   -- the roots of an edge, by its part and the half-edge that faces its tube
-  pub roots_are : (chains : Chains) (e : ℕ) → e < length (edges_at d (λ n. level))
+  pub roots_are : (chains : Chains) (e : ℕ) → e < length (edges_at d levels)
       → tube_roots facings owners chains e
       ≡ tube_sides (facing_of (own e).part (within e))
       (is_marked chains (own e).curve (part_of (own e).part)) e

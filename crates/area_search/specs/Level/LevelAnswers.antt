@@ -37,7 +37,8 @@ AreOfCurves d owners =
 -- the moves are a complete run over them, with their timetable and the cells between them.
 pub record IsSettlingLevel (d : Plan) (s : SettledLevel) : Type 0 where
   pub least : IsLeastLevel d s.level
-  pub case : IsCase d s.level (edges_at d (λ n. s.level)) s.owners.items s.facings.items s.swept.events
+  pub case : IsCase d (λ n. s.level) (edges_at d (λ n. s.level)) s.owners.items s.facings.items
+      s.swept.events
   pub edges : s.edges.items ≡ edges_at d (λ n. s.level)
   pub few : length (edges_at d (λ n. s.level)) < 2 ^ 31
   pub timed : HasTimetable (edges_at d (λ n. s.level)) s.swept.events

@@ -22,29 +22,29 @@ use Rattle.area_search.specs.Settled.Sides.{IsOnSide}
 
 -- ---- the faces beside curves
 -- the number of the first edge of a curve
-abbrev pub first_at : Plan → ℕ → ℕ → ℕ
-first_at d level i = first_edge (drawn_bays d (λ n. level)) 0 d.curves i
+abbrev pub first_at : Plan → (ℕ → ℕ) → ℕ → ℕ
+first_at d levels i = first_edge (drawn_bays d levels) 0 d.curves i
 
 -- The face is that on the named side of straight i.
-abbrev pub IsFaceOn : Plan → ℕ → List ℕ → ℕ → Bool → ℕ → Type 0
-IsFaceOn d level faces i left n =
+abbrev pub IsFaceOn : Plan → (ℕ → ℕ) → List ℕ → ℕ → Bool → ℕ → Type 0
+IsFaceOn d levels faces i left n =
     (h : ℕ)
-    × IsOnSide (edge_at d (λ n. level) (first_at d level i)) (curve d i) (first_at d level i) left h
+    × IsOnSide (edge_at d levels (first_at d levels i)) (curve d i) (first_at d levels i) left h
     × (n ≡ slice_index faces h)
 
 -- On the left and on the right of a straight, as seen from `from` to `to`; beside the inner and
 -- beside the outer chain of a half arc's tube.
-abbrev pub IsBesideKind : CurveKind → Plan → ℕ → List ℕ → ℕ → Beside → Type 0
-IsBesideKind kind.Straight d level faces i b =
-    IsFaceOn d level faces i true b.first × IsFaceOn d level faces i false b.second
-IsBesideKind kind.HalfArc d level faces i b =
+abbrev pub IsBesideKind : CurveKind → Plan → (ℕ → ℕ) → List ℕ → ℕ → Beside → Type 0
+IsBesideKind kind.Straight d levels faces i b =
+    IsFaceOn d levels faces i true b.first × IsFaceOn d levels faces i false b.second
+IsBesideKind kind.HalfArc d levels faces i b =
     (b.first
-    ≡ beside_inner d (drawn_bays d (λ n. level)) (edge_at d (λ n. level)) (λ h. slice_index faces (number h)) i)
+    ≡ beside_inner d (drawn_bays d levels) (edge_at d levels) (λ h. slice_index faces (number h)) i)
     × (b.second
-    ≡ beside_outer d (drawn_bays d (λ n. level)) (edge_at d (λ n. level)) (λ h. slice_index faces (number h)) i)
+    ≡ beside_outer d (drawn_bays d levels) (edge_at d levels) (λ h. slice_index faces (number h)) i)
 
-abbrev pub IsBeside : Plan → ℕ → List ℕ → ℕ → Beside → Type 0
-IsBeside d level faces i b = IsBesideKind (curve d i).kind d level faces i b
+abbrev pub IsBeside : Plan → (ℕ → ℕ) → List ℕ → ℕ → Beside → Type 0
+IsBeside d levels faces i b = IsBesideKind (curve d i).kind d levels faces i b
 
 abbrev pub no_beside : Beside
 no_beside = record { first = 0; second = 0 }
@@ -53,16 +53,16 @@ abbrev pub beside_at : List Beside → ℕ → Beside
 beside_at besides i = slice_index_or besides i no_beside
 
 -- Each of the first n curves has its faces.
-pub record AreBeside (d : Plan) (level : ℕ) (faces : List ℕ) (n : ℕ)
+pub record AreBeside (d : Plan) (levels : ℕ → ℕ) (faces : List ℕ) (n : ℕ)
     (besides : List Beside) : Type 0 where
   pub size : length besides ≡ n
-  pub each : (i : ℕ) → i < n → IsBeside d level faces i (beside_at besides i)
+  pub each : (i : ℕ) → i < n → IsBeside d levels faces i (beside_at besides i)
 
 -- The spot has a face: its tube is that of a half arc, the edge under its cell is one of the run's.
-abbrev pub IsSpotOf : Plan → ℕ → Spot → Type 0
-IsSpotOf d level (spot.On c) = ⊤
-IsSpotOf d level (spot.InTube c inside) = IsHalfArc d c
-IsSpotOf d level (spot.Cell position lower upper) = IsOver (length (edges_at d (λ n. level))) lower
+abbrev pub IsSpotOf : Plan → (ℕ → ℕ) → Spot → Type 0
+IsSpotOf d levels (spot.On c) = ⊤
+IsSpotOf d levels (spot.InTube c inside) = IsHalfArc d c
+IsSpotOf d levels (spot.Cell position lower upper) = IsOver (length (edges_at d levels)) lower
 
 -- the number of edges of a curve at a level
 abbrev pub edges_of_kind : CurveKind → ℕ → ℕ

@@ -34,12 +34,12 @@ pub record AreFaceNumbers (met numbers : List ℕ) (count : ℕ) : Type 0 where
 
 -- ---- points and curves
 -- Where a point lies, by its spot.
-abbrev pub point_place : Plan → ℕ → List ℕ → List ℕ → Spot → PointPlace
-point_place d level faces numbers (spot.On c) = OnCurve c
-point_place d level faces numbers (spot.InTube c inside) =
-    InFace (slice_index numbers (spot_face d level faces (spot.InTube c inside)))
-point_place d level faces numbers (spot.Cell position lower upper) =
-    InFace (slice_index numbers (spot_face d level faces (spot.Cell position lower upper)))
+abbrev pub point_place : Plan → (ℕ → ℕ) → List ℕ → List ℕ → Spot → PointPlace
+point_place d levels faces numbers (spot.On c) = OnCurve c
+point_place d levels faces numbers (spot.InTube c inside) =
+    InFace (slice_index numbers (spot_face d levels faces (spot.InTube c inside)))
+point_place d levels faces numbers (spot.Cell position lower upper) =
+    InFace (slice_index numbers (spot_face d levels faces (spot.Cell position lower upper)))
 
 -- The numbers of the faces on the left and on the right of a curve.
 abbrev pub curve_faces : Curve → Beside → List ℕ → CurveFaces

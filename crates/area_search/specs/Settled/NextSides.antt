@@ -15,7 +15,7 @@ use Rattle.plane.specs.declared.kinds.Edge.{Edge}
 use Rattle.plane.specs.declared.kinds.Point.{Point}
 use Rattle.tubes.specs.Settled.{edge_at, owned_at}
 use Rattle.tubes.specs.TubedEdges.{drawn_bays}
-use Rattle.area_search.specs.Settled.Cases.{IsCaseOf, IsRunMesh, edges_of}
+use Rattle.area_search.specs.Settled.Cases.{IsCaseOf, IsRunMesh, edges_of, levels_in}
 use Rattle.area_search.specs.declared.settled.case.SettledDrawing.{SettledDrawing}
 
 -- Where the way along an edge begins that has the named side of its curve on the left.
@@ -62,21 +62,21 @@ AreNextTo d m E o mesh k next =
 -- The mesh is that of a complete run of the drawing's edges.
 abbrev pub HasRunMesh : SettledDrawing → HalfEdges → Type 0
 HasRunMesh c mesh =
-    (vs : List Move) × IsCaseOf c vs × IsRunMesh (plan c.drawing.now) c.level vs mesh
+    (vs : List Move) × IsCaseOf c vs × IsRunMesh (plan c.drawing.now) (levels_in c) vs mesh
 
 abbrev pub IsHalfOfSide : SettledDrawing → SideAt → ℕ → Type 0
 IsHalfOfSide c s h =
-    IsHalfOf (plan c.drawing.now) (length (edges_of c)) (edge_at (plan c.drawing.now) (λ n. c.level))
-    (owned_at (plan c.drawing.now) (λ n. c.level)) s h
+    IsHalfOf (plan c.drawing.now) (length (edges_of c)) (edge_at (plan c.drawing.now) (levels_in c))
+    (owned_at (plan c.drawing.now) (levels_in c)) s h
 
 -- The half-edge faces the tube of its edge from within.
 abbrev pub IsHalfWithin : SettledDrawing → ℕ → Type 0
 IsHalfWithin c h =
-    IsOfTube (owned_at (plan c.drawing.now) (λ n. c.level) (h / 2)).part
-    × (h ≡ number (half_within (plan c.drawing.now) (drawn_bays (plan c.drawing.now) (λ n. c.level))
-    (edge_at (plan c.drawing.now) (λ n. c.level)) (h / 2)))
+    IsOfTube (owned_at (plan c.drawing.now) (levels_in c) (h / 2)).part
+    × (h ≡ number (half_within (plan c.drawing.now) (drawn_bays (plan c.drawing.now) (levels_in c))
+    (edge_at (plan c.drawing.now) (levels_in c)) (h / 2)))
 
 abbrev pub AreNextSides : SettledDrawing → HalfEdges → ℕ → List ℕ → Type 0
 AreNextSides c mesh k next =
-    AreNextTo (plan c.drawing.now) (length (edges_of c)) (edge_at (plan c.drawing.now) (λ n. c.level))
-    (owned_at (plan c.drawing.now) (λ n. c.level)) mesh k next
+    AreNextTo (plan c.drawing.now) (length (edges_of c)) (edge_at (plan c.drawing.now) (levels_in c))
+    (owned_at (plan c.drawing.now) (levels_in c)) mesh k next

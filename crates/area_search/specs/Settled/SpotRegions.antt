@@ -13,12 +13,12 @@ owned_region zero = region.Outer
 owned_region (suc k) = region.Of k
 
 -- that of the face in which the spot lies, or on a curve
-abbrev pub spot_region : Plan → ℕ → List ℕ → List ℕ → Spot → Region
-spot_region d level faces owners (spot.On c) = region.OnCurve
-spot_region d level faces owners (spot.InTube c inside) =
-    owned_region (slice_index owners (spot_face d level faces (spot.InTube c inside)))
-spot_region d level faces owners (spot.Cell position lower upper) =
-    owned_region (slice_index owners (spot_face d level faces (spot.Cell position lower upper)))
+abbrev pub spot_region : Plan → (ℕ → ℕ) → List ℕ → List ℕ → Spot → Region
+spot_region d levels faces owners (spot.On c) = region.OnCurve
+spot_region d levels faces owners (spot.InTube c inside) =
+    owned_region (slice_index owners (spot_face d levels faces (spot.InTube c inside)))
+spot_region d levels faces owners (spot.Cell position lower upper) =
+    owned_region (slice_index owners (spot_face d levels faces (spot.Cell position lower upper)))
 
-abbrev pub spot_regions : Plan → ℕ → List ℕ → List ℕ → List Spot → List Region
-spot_regions d level faces owners spots = map (spot_region d level faces owners) spots
+abbrev pub spot_regions : Plan → (ℕ → ℕ) → List ℕ → List ℕ → List Spot → List Region
+spot_regions d levels faces owners spots = map (spot_region d levels faces owners) spots

@@ -12,10 +12,10 @@ use Rattle.area_search.specs.Settled.Cases.{AreOffCurves, IsClearOver, spot_at}
 
 -- the half arc whose tube the half-edge over the edge faces from within; the half-edge, if there is
 -- one, faces none
-abbrev pub IsTubeOver : Plan → ℕ → Option ℕ → Option ℕ → Type 0
-IsTubeOver d level lower None = IsClearOver d level lower
-IsTubeOver d level lower (Some c) =
-    (e : ℕ) × (lower ≡ Some e) × (faced d (drawn_bays d (λ n. level)) (edge_at d (λ n. level)) (over e) ≡ suc c)
+abbrev pub IsTubeOver : Plan → (ℕ → ℕ) → Option ℕ → Option ℕ → Type 0
+IsTubeOver d levels lower None = IsClearOver d levels lower
+IsTubeOver d levels lower (Some c) =
+    (e : ℕ) × (lower ≡ Some e) × (faced d (drawn_bays d levels) (edge_at d levels) (over e) ≡ suc c)
 
 -- the first point on a curve, with its curve; all points are on none
 abbrev pub IsFirstSpotOn : List Spot → Option OnCurve → Type 0

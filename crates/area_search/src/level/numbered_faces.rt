@@ -16,6 +16,7 @@ use meetings::BadPair;
 use plane::Drawing;
 use ports::Memory;
 use std::alloc::Global;
+use tubes::Levels;
 
 /// The faces of a drawing by numbers, or that no level settles it.
 #[derive(Drop)]
@@ -73,9 +74,10 @@ fn faces_of_level(
         facings,
         swept,
     } = found;
+    let levels = Levels::One(level);
     let settled = SettledDrawing {
         drawing,
-        level,
+        levels: &levels,
         owners: &owners,
         facings: &facings,
     };

@@ -10,7 +10,7 @@ use line_sweep::Swept;
 use plane::{Drawing, Edge, Point};
 use ports::Memory;
 use std::alloc::Global;
-use tubes::{Facing, Owner};
+use tubes::{Facing, Levels, Owner};
 
 /// A level that settles a drawing: the edges of the drawing there, what each of them stands for and
 /// which of its sides faces a tube, and their complete run.
@@ -42,9 +42,10 @@ pub(crate) fn answer_of_level(
         facings,
         swept,
     } = found;
+    let levels = Levels::One(level);
     let settled = SettledDrawing {
         drawing,
-        level,
+        levels: &levels,
         owners: &owners,
         facings: &facings,
     };

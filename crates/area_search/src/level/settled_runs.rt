@@ -38,7 +38,7 @@ pub(crate) fn settled_facings(
     requires fit { Fit [] swept.now.events }
     requires timed { HasTimetable list.now.edges.items swept.now.events }
     requires cells { gaps_of swept.now.cells.items ≡ closed_gaps swept.now.events }
-    ensures case { IfOk result (λ r. IfSome r (λ facings. IsCase (plan drawing.now) level
+    ensures case { IfOk result (λ r. IfSome r (λ facings. IsCase (plan drawing.now) (λ n. level)
         list.now.edges.items list.now.owners.items facings.items swept.now.events)) }
     ensures settled { IfOk result (λ r. IfSome r (λ _. IsSettledAt (plan drawing.now) (λ n. level))) }
     ensures unsettled { IfOk result (λ r. r ≡ None → IsSettledAt (plan drawing.now) (λ n. level) → ⊥) }

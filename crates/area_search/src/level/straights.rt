@@ -20,7 +20,7 @@ use line_sweep::{SweepRefusal, Swept, sweep};
 use plane::Drawing;
 use ports::Memory;
 use std::alloc::Global;
-use tubes::{EdgeList, edge_list};
+use tubes::{EdgeList, Levels, edge_list};
 
 /// The mesh of a drawing of at most 16,000,000 straights that is a partition, with its faces and
 /// the face of each object's point. The only error is out of memory. It takes a sweep of the
@@ -84,9 +84,10 @@ fn faces_of_swept(
     match settled_facings(alloc, drawing, 0, &list, &swept)? {
         Some(facings) => {
             let EdgeList { edges, owners } = list;
+            let levels = Levels::One(0);
             let settled = SettledDrawing {
                 drawing,
-                level: 0,
+                levels: &levels,
                 owners: &owners,
                 facings: &facings,
             };

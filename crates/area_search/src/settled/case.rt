@@ -1,24 +1,24 @@
-// A drawing that a level settles, where its points lie, and what is kept of its run.
+// A drawing that levels of its curves settle, where its points lie, and what is kept of its run.
 use faces::{Joins, Labelled};
 use line_sweep::Swept;
 use plane::{Drawing, Edge, Point};
-use tubes::{Facing, Owner};
+use tubes::{Facing, Levels, Owner};
 
-/// A drawing that a level settles, and of each of its edges at that level what it stands for and
-/// which side faces a tube.
+/// A drawing that levels of its curves settle, and of each of its edges at these levels what it
+/// stands for and which side faces a tube.
 #[derive(Drop)]
 pub(crate) struct SettledDrawing<'a> {
     pub drawing: &'a Drawing,
-    pub level: u8,
+    pub levels: &'a Levels,
     pub owners: &'a [Owner],
     pub facings: &'a [Facing],
 }
 
-/// Such a drawing with its edges at the level and their complete run.
+/// Such a drawing with its edges at the levels and their complete run.
 #[derive(Drop)]
 pub(crate) struct SweptDrawing<'a> {
     pub drawing: &'a Drawing,
-    pub level: u8,
+    pub levels: &'a Levels,
     pub edges: &'a [Edge],
     pub owners: &'a [Owner],
     pub facings: &'a [Facing],

@@ -6,7 +6,7 @@ ghost use Rattle.plane.specs.Rule.Cuts.{HasNoCut};
 ghost use Rattle.area_search.specs.Answers.{IsNameless};
 ghost use Rattle.area_search.specs.Chosen.{IsChosen};
 ghost use Rattle.area_search.specs.Settled.CaseOwners.{HaveOwners};
-ghost use Rattle.area_search.specs.Settled.Cases.{IsSettledRun, level_of, plan_of};
+ghost use Rattle.area_search.specs.Settled.Cases.{IsRunAt, plan_of};
 
 use super::case::SettledRun;
 use super::case_notes::{named_notes, spot_places};
@@ -16,7 +16,7 @@ use faces::links_by_joins;
 use ports::{Memory, Name};
 use std::alloc::Global;
 
-/// The certificate that is chosen of those that prove the drawing at its level: the positions of
+/// The certificate that is chosen of those that prove the drawing at this level: the positions of
 /// the events, the place of each point, and a note for each half-edge, with the label of the tube
 /// that it faces or the owner of its face. Its names are empty. The only error is out of memory.
 /// It takes time linear in the edges, the cells, the curves and the points, and for a while
@@ -24,14 +24,15 @@ use std::alloc::Global;
 pub(crate) fn certify_run(
     alloc: Global,
     run: SettledRun,
+    level: u8,
     owners: &[u32],
 ) -> Result<Certificate, Memory>
-    requires run { IsSettledRun run }
-    requires owned { HaveOwners (plan_of run) (level_of run) run.labelled.now.mesh.face
+    requires run { IsRunAt (λ i. level) run }
+    requires owned { HaveOwners (plan_of run) (λ i. level) run.labelled.now.mesh.face
         run.spots.now run.labelled.now.count owners.now }
     requires uncut { HasNoCut (plan_of run) }
     ensures proves { IfOk result (λ c. Proves (plan_of run.entry) (claims c)) }
-    ensures level { IfOk result (λ c. c.level ≡ level_of run.entry) }
+    ensures level { IfOk result (λ c. c.level ≡ level) }
     ensures names { IfOk result IsNameless }
     ensures chosen { IfOk result (λ c. IsChosen (plan_of run.entry) (claims c)) }
 {
@@ -54,7 +55,7 @@ pub(crate) fn certify_run(
         owners,
     );
     let places = spot_places(alloc, run.spots)?;
-    let certificate = nameless(alloc, settled.level, run.positions, notes, places)?;
+    let certificate = nameless(alloc, level, run.positions, notes, places)?;
     Ok(certificate)
 }
 

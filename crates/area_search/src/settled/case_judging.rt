@@ -1,8 +1,8 @@
 // The first fault of the faces of a run, or the owner of each face.
 ghost use Rattle.std.specs.Prelude.{IfOk};
-ghost use Rattle.area_search.specs.Answers.{IsLeastLevel};
+ghost use Rattle.area_search.specs.Answers.{IsSettled};
 ghost use Rattle.area_search.specs.Settled.CaseOwners.{IsCaseJudged};
-ghost use Rattle.area_search.specs.Settled.Cases.{IsSettledRun, level_of, plan_of};
+ghost use Rattle.area_search.specs.Settled.Cases.{IsSettledRun, levels_of, plan_of};
 
 use super::case::SettledRun;
 use super::case_sides::{Beside, faces_beside, faces_of_spots, first_cut, first_free};
@@ -23,8 +23,8 @@ pub(crate) enum Judged {
 /// time linear in the curves and the points, and 8 bytes a curve and 4 a point and a face.
 pub(crate) fn judge_run(alloc: Global, run: &SettledRun) -> Result<Judged, Memory>
     requires run { IsSettledRun run.now }
-    requires least { IsLeastLevel (plan_of run.now) (level_of run.now) }
-    ensures { IfOk result (IsCaseJudged (plan_of run.now) (level_of run.now)
+    requires settled { IsSettled (plan_of run.now) }
+    ensures { IfOk result (IsCaseJudged (plan_of run.now) (levels_of run.now)
         run.now.labelled.now.mesh.face run.now.spots.now run.now.labelled.now.count) }
 {
     tubes::laws::chains_have_edges();

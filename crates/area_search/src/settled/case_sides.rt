@@ -14,7 +14,8 @@ ghost use Rattle.tubes.specs.DrawnEdges.{nth_curve};
 ghost use Rattle.tubes.specs.Settled.{edge_at, owned_at};
 ghost use Rattle.tubes.specs.TubedEdges.{drawn_bays};
 ghost use Rattle.area_search.specs.Settled.Sides.{IsOnSide};
-ghost use Rattle.area_search.specs.Settled.Cases.{HasRun, edges_of, spot_face, spot_faces, spot_at};
+ghost use Rattle.area_search.specs.Settled.Cases.{HasRun, edges_of, levels_in, spot_at, spot_face};
+ghost use Rattle.area_search.specs.Settled.Cases.{spot_faces};
 ghost use Rattle.area_search.specs.Settled.CaseSides.{AreBeside, AreFreeSides, IsBeside};
 ghost use Rattle.area_search.specs.Settled.CaseSides.{IsBesideIn, IsFirstOneFaced, IsFreeFace};
 ghost use Rattle.area_search.specs.Settled.CaseSides.{IsFreeSide, IsSpotOf};
@@ -48,7 +49,7 @@ pub(crate) fn faces_beside(
     requires settled { HasRun settled.now }
     requires few { length (edges_of settled.now) < 2 ^ 31 }
     requires size { size mesh.now ≡ 2 * length (edges_of settled.now) }
-    ensures { IfOk result (λ besides. AreBeside (plan settled.now.drawing.now) settled.now.level
+    ensures { IfOk result (λ besides. AreBeside (plan settled.now.drawing.now) (levels_in settled.now)
         mesh.now.face (length (plan settled.now.drawing.now).curves) besides.items) }
 {
     let mut besides = Vec::with_capacity(alloc, settled.drawing.curves.len())?;
@@ -56,7 +57,7 @@ pub(crate) fn faces_beside(
     for number in 0..settled.drawing.curves.len() {
         let curve = &settled.drawing.curves[number];
         besides.push(faces_of_curve(settled, mesh, curve, number as u32, first))?;
-        first += edge_count(curve.kind, settled.level);
+        first += edge_count(curve.kind, settled.levels.of(number as u32));
     }
     Ok(besides)
 }
@@ -93,15 +94,15 @@ fn faces_of_curve(
     requires size { size mesh.now ≡ 2 * length (edges_of settled.now) }
     requires there { number < length (plan settled.now.drawing.now).curves }
     requires curve { curve.now ≡ nth_curve (plan settled.now.drawing.now).curves number }
-    requires first { first ≡ first_at (plan settled.now.drawing.now) settled.now.level number }
-    ensures { IsBeside (plan settled.now.drawing.now) settled.now.level mesh.now.face number
+    requires first { first ≡ first_at (plan settled.now.drawing.now) (levels_in settled.now) number }
+    ensures { IsBeside (plan settled.now.drawing.now) (levels_in settled.now) mesh.now.face number
         result }
 {
     tubes::laws::chains_have_edges();
     match curve.kind {
         CurveKind::Straight => faces_of_straight(mesh, curve, first),
         CurveKind::HalfArc => {
-            let second = first + bay_count(settled.level);
+            let second = first + bay_count(settled.levels.of(number));
             Beside {
                 first: face_outside(settled, mesh, first),
                 second: face_outside(settled, mesh, second),
@@ -134,10 +135,10 @@ fn face_outside(settled: &SettledDrawing, mesh: &Mesh, edge: u32) -> u32
     requires few { length (edges_of settled.now) < 2 ^ 31 }
     requires size { size mesh.now ≡ 2 * length (edges_of settled.now) }
     requires there { edge < length (edges_of settled.now) }
-    requires tube { IsOfTube (owned_at (plan settled.now.drawing.now) (λ n. settled.now.level) edge).part }
+    requires tube { IsOfTube (owned_at (plan settled.now.drawing.now) (levels_in settled.now) edge).part }
     ensures { result ≡ slice_index mesh.now.face (number (twin (half_within
-        (plan settled.now.drawing.now) (drawn_bays (plan settled.now.drawing.now) (λ n. settled.now.level))
-        (edge_at (plan settled.now.drawing.now) (λ n. settled.now.level)) edge))) }
+        (plan settled.now.drawing.now) (drawn_bays (plan settled.now.drawing.now) (levels_in settled.now))
+        (edge_at (plan settled.now.drawing.now) (levels_in settled.now)) edge))) }
 {
     let outside = if settled.facings[edge as usize] == Facing::Below {
         HalfEdgeId::over(edge)
@@ -157,12 +158,12 @@ pub(crate) fn faces_of_spots(
 ) -> Result<Vec<u32>, Memory>
     requires few { length (edges_of settled.now) < 2 ^ 31 }
     requires size { size mesh.now ≡ 2 * length (edges_of settled.now) }
-    requires besides { AreBeside (plan settled.now.drawing.now) settled.now.level mesh.now.face
+    requires besides { AreBeside (plan settled.now.drawing.now) (levels_in settled.now) mesh.now.face
         (length (plan settled.now.drawing.now).curves) besides.now }
     requires known { (j : ℕ) → j < length spots.now
-        → IsSpotOf (plan settled.now.drawing.now) settled.now.level (spot_at spots.now j) }
+        → IsSpotOf (plan settled.now.drawing.now) (levels_in settled.now) (spot_at spots.now j) }
     ensures { IfOk result (λ fs. fs.items
-        ≡ spot_faces (plan settled.now.drawing.now) settled.now.level mesh.now.face spots.now) }
+        ≡ spot_faces (plan settled.now.drawing.now) (levels_in settled.now) mesh.now.face spots.now) }
 {
     let mut faces = Vec::with_capacity(alloc, spots.len())?;
     for point in 0..spots.len() {
@@ -180,11 +181,11 @@ pub(crate) fn spot_face(
 ) -> u32
     requires few { length (edges_of settled.now) < 2 ^ 31 }
     requires size { size mesh.now ≡ 2 * length (edges_of settled.now) }
-    requires besides { AreBeside (plan settled.now.drawing.now) settled.now.level mesh.now.face
+    requires besides { AreBeside (plan settled.now.drawing.now) (levels_in settled.now) mesh.now.face
         (length (plan settled.now.drawing.now).curves) besides.now }
-    requires known { IsSpotOf (plan settled.now.drawing.now) settled.now.level spot.now }
+    requires known { IsSpotOf (plan settled.now.drawing.now) (levels_in settled.now) spot.now }
     ensures { result
-        ≡ spot_face (plan settled.now.drawing.now) settled.now.level mesh.now.face spot.now }
+        ≡ spot_face (plan settled.now.drawing.now) (levels_in settled.now) mesh.now.face spot.now }
 {
     let _ = settled;
     match spot {

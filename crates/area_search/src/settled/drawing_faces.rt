@@ -9,7 +9,7 @@ ghost use Rattle.plane.specs.Runs.Gaps.{closed_gaps};
 ghost use Rattle.tubes.specs.DrawnEdges.{nth_curve};
 ghost use Rattle.area_search.specs.Settled.CaseSides.{AreBeside, IsBesideIn, IsSpotOf};
 ghost use Rattle.area_search.specs.Settled.CaseSides.{IsTurnable, beside_at};
-ghost use Rattle.area_search.specs.Settled.Cases.{IsCaseOf, edges_of, spot_at, spot_face};
+ghost use Rattle.area_search.specs.Settled.Cases.{IsCaseOf, edges_of, levels_in, spot_at, spot_face};
 ghost use Rattle.area_search.specs.Settled.FaceNumbers.{HaveFaces, curve_faces, point_place};
 
 use super::case::{SettledDrawing, Spot};
@@ -71,15 +71,15 @@ fn places_of(
 ) -> Result<Vec<PointPlace>, Memory>
     requires few { length (edges_of settled.now) < 2 ^ 31 }
     requires size { size mesh.now ≡ 2 * length (edges_of settled.now) }
-    requires besides { AreBeside (plan settled.now.drawing.now) settled.now.level mesh.now.face
+    requires besides { AreBeside (plan settled.now.drawing.now) (levels_in settled.now) mesh.now.face
         (length (plan settled.now.drawing.now).curves) besides.now }
     requires known { (j : ℕ) → j < length spots.now
-        → IsSpotOf (plan settled.now.drawing.now) settled.now.level (spot_at spots.now j) }
+        → IsSpotOf (plan settled.now.drawing.now) (levels_in settled.now) (spot_at spots.now j) }
     requires numbered { (j : ℕ) → j < length spots.now
-        → spot_face (plan settled.now.drawing.now) settled.now.level mesh.now.face
+        → spot_face (plan settled.now.drawing.now) (levels_in settled.now) mesh.now.face
         (spot_at spots.now j) < length numbers.now }
     ensures { IfOk result (λ ps. ps.items ≡ map (point_place (plan settled.now.drawing.now)
-        settled.now.level mesh.now.face numbers.now) spots.now) }
+        (levels_in settled.now) mesh.now.face numbers.now) spots.now) }
 {
     let mut places = Vec::with_capacity(alloc, spots.len())?;
     for point in 0..spots.len() {
@@ -98,12 +98,12 @@ fn place_of(
 ) -> PointPlace
     requires few { length (edges_of settled.now) < 2 ^ 31 }
     requires size { size mesh.now ≡ 2 * length (edges_of settled.now) }
-    requires besides { AreBeside (plan settled.now.drawing.now) settled.now.level mesh.now.face
+    requires besides { AreBeside (plan settled.now.drawing.now) (levels_in settled.now) mesh.now.face
         (length (plan settled.now.drawing.now).curves) besides.now }
-    requires known { IsSpotOf (plan settled.now.drawing.now) settled.now.level spot.now }
-    requires numbered { spot_face (plan settled.now.drawing.now) settled.now.level mesh.now.face
+    requires known { IsSpotOf (plan settled.now.drawing.now) (levels_in settled.now) spot.now }
+    requires numbered { spot_face (plan settled.now.drawing.now) (levels_in settled.now) mesh.now.face
         spot.now < length numbers.now }
-    ensures { result ≡ point_place (plan settled.now.drawing.now) settled.now.level mesh.now.face
+    ensures { result ≡ point_place (plan settled.now.drawing.now) (levels_in settled.now) mesh.now.face
         numbers.now spot.now }
 {
     match spot {

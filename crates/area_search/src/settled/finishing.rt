@@ -6,13 +6,14 @@ ghost use Rattle.plane.specs.Rule.Cuts.{HasNoCut};
 ghost use Rattle.plane.specs.Rule.Plans.{plan};
 ghost use Rattle.plane.specs.Runs.Gaps.{closed_gaps};
 ghost use Rattle.straight_predicates.specs.EdgeLists.{IsCloseToAll, no_point};
-ghost use Rattle.area_search.specs.Answers.{IsLeastLevel};
+ghost use Rattle.tubes.specs.declared.kinds.Levels.TheVariants.{One};
 ghost use Rattle.area_search.specs.Regions.{AreInWindow, IsFound};
 ghost use Rattle.area_search.specs.Settled.CaseOwners.{HaveOwners};
 ghost use Rattle.area_search.specs.Settled.CaseSides.{AreBeside};
 ghost use Rattle.area_search.specs.Settled.Cases.{ArePlacedOff, AreSpots, AreSpotsOf, IsCaseOf};
-ghost use Rattle.area_search.specs.Settled.Cases.{IsSettledRun, edges_of, level_of, plan_of};
+ghost use Rattle.area_search.specs.Settled.Cases.{IsSettledRun, edges_of, levels_in, levels_of, plan_of};
 ghost use Rattle.area_search.specs.Settled.Cases.{with_places};
+ghost use Rattle.area_search.specs.Settled.LeastLevels.{IsLeastOne, IsOneLevel};
 
 use super::case::{SettledDrawing, SettledRun, Spot, SweptDrawing};
 use super::case_certificates::certify_run;
@@ -29,6 +30,7 @@ use line_sweep::{Cell, Swept};
 use plane::{Edge, Point};
 use ports::Memory;
 use std::alloc::Global;
+use tubes::Levels;
 
 /// The answer to a drawing by a complete run of its edges at the least level that settles it: its
 /// first fault, or a certificate with empty names, with the region of each of these places. The
@@ -45,7 +47,7 @@ pub(crate) fn answer_settled(
     requires near { AreInWindow (plan settled.now.drawing.now) places.now }
     requires settled { IsCaseOf settled.now swept.events }
     requires edges { edges.items ≡ edges_of settled.now }
-    requires least { IsLeastLevel (plan settled.now.drawing.now) settled.now.level }
+    requires least { IsLeastOne (plan settled.now.drawing.now) settled.now.levels.now }
     requires few { length (edges_of settled.now) < 2 ^ 31 }
     requires timed { HasTimetable (edges_of settled.now) swept.events }
     requires cells { gaps_of swept.cells.items ≡ closed_gaps swept.events }
@@ -73,7 +75,7 @@ pub(crate) fn object_spots(
     requires settled { IsCaseOf settled.now swept.now.events }
     requires edges { edges.items ≡ edges_of settled.now }
     requires few { length (edges_of settled.now) < 2 ^ 31 }
-    ensures { IfOk result (λ spots. AreSpots (plan settled.now.drawing.now) settled.now.level
+    ensures { IfOk result (λ spots. AreSpots (plan settled.now.drawing.now) (levels_in settled.now)
         swept.now.events spots.items) }
 {
     let spots = spots_with(alloc, settled, &[], edges, swept)?;
@@ -92,7 +94,7 @@ fn spots_with(
     requires near { AreInWindow (plan settled.now.drawing.now) places.now }
     requires edges { edges.items ≡ edges_of settled.now }
     requires few { length (edges_of settled.now) < 2 ^ 31 }
-    ensures { IfOk result (λ spots. AreSpotsOf (plan settled.now.drawing.now) settled.now.level
+    ensures { IfOk result (λ spots. AreSpotsOf (plan settled.now.drawing.now) (levels_in settled.now)
         swept.now.events (with_places (plan settled.now.drawing.now) places.now) spots.items) }
 {
     let mut points = points_at(alloc, &settled.drawing.points)?;
@@ -115,12 +117,12 @@ pub(crate) fn spots_of_run(
     requires few { length (edges_of settled.now) < 2 ^ 31 }
     requires close { (j : ℕ) → j < length points.now
         → IsCloseToAll (edges_of settled.now) (slice_index_or points.now j no_point) }
-    ensures { IfOk result (λ spots. AreSpotsOf (plan settled.now.drawing.now) settled.now.level
+    ensures { IfOk result (λ spots. AreSpotsOf (plan settled.now.drawing.now) (levels_in settled.now)
         swept.now.events points.now spots.items) }
 {
     let swept_drawing = SweptDrawing {
         drawing: settled.drawing,
-        level: settled.level,
+        levels: settled.levels,
         edges: &edges,
         owners: settled.owners,
         facings: settled.facings,
@@ -140,13 +142,13 @@ fn answer_placed(
     swept: Swept,
 ) -> Result<FoundObjects, Memory>
     requires settled { IsCaseOf settled.now swept.events }
-    requires least { IsLeastLevel (plan settled.now.drawing.now) settled.now.level }
+    requires least { IsLeastOne (plan settled.now.drawing.now) settled.now.levels.now }
     requires few { length (edges_of settled.now) < 2 ^ 31 }
     requires timed { HasTimetable (edges_of settled.now) swept.events }
     requires cells { gaps_of swept.cells.items ≡ closed_gaps swept.events }
-    requires placed { ArePlacedOff (plan settled.now.drawing.now) settled.now.level
+    requires placed { ArePlacedOff (plan settled.now.drawing.now) (levels_in settled.now)
         swept.events spots.now }
-    requires places { AreSpotsOf (plan settled.now.drawing.now) settled.now.level
+    requires places { AreSpotsOf (plan settled.now.drawing.now) (levels_in settled.now)
         swept.events places.now place_spots.now }
     ensures { IfOk result (IsFound (plan settled.now.drawing.now) places.now) }
 {
@@ -178,7 +180,7 @@ pub(super) fn cells_alone(swept: Swept) -> Vec<Cell>
 // The answer to the drawing of a run, and the regions of its places.
 fn answer_run(alloc: Global, run: SettledRun) -> Result<FoundObjects, Memory>
     requires run { IsSettledRun run }
-    requires least { IsLeastLevel (plan_of run) (level_of run) }
+    requires least { IsLeastOne (plan_of run) run.settled.now.levels.now }
     ensures { IfOk result (IsFound (plan_of run.entry) run.entry.places.now) }
 {
     match judge_run(alloc, &run)? {
@@ -195,15 +197,27 @@ fn answer_owned(
     owners: &[u32],
 ) -> Result<FoundObjects, Memory>
     requires run { IsSettledRun run }
-    requires least { IsLeastLevel (plan_of run) (level_of run) }
-    requires owned { HaveOwners (plan_of run) (level_of run) run.labelled.now.mesh.face
+    requires least { IsLeastOne (plan_of run) run.settled.now.levels.now }
+    requires owned { HaveOwners (plan_of run) (levels_of run) run.labelled.now.mesh.face
         run.spots.now run.labelled.now.count owners.now }
     requires uncut { HasNoCut (plan_of run) }
-    requires besides { AreBeside (plan_of run) (level_of run) run.labelled.now.mesh.face
+    requires besides { AreBeside (plan_of run) (levels_of run) run.labelled.now.mesh.face
         (length (plan_of run).curves) besides.items }
     ensures { IfOk result (IsFound (plan_of run.entry) run.entry.places.now) }
 {
+    let level = only_level(run.settled.levels);
     let regions = regions_of(alloc, &run, besides, owners)?;
-    let answer = AreaAnswer::Proved(certify_run(alloc, run, owners)?);
+    let answer = AreaAnswer::Proved(certify_run(alloc, run, level, owners)?);
     Ok(FoundObjects { answer, regions })
+}
+
+// The one level of all curves.
+fn only_level(levels: &Levels) -> u8
+    requires { IsOneLevel levels.now }
+    ensures { levels.now ≡ One result }
+{
+    match levels {
+        Levels::One(level) => *level,
+        Levels::Own(_) => unreachable!(),
+    }
 }

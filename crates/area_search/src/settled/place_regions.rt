@@ -5,7 +5,7 @@ ghost use Rattle.plane.specs.Rule.Plans.{plan};
 ghost use Rattle.area_search.specs.Regions.{AreRegionsIn};
 ghost use Rattle.area_search.specs.Settled.CaseOwners.{HaveOwners};
 ghost use Rattle.area_search.specs.Settled.CaseSides.{AreBeside, IsSpotOf};
-ghost use Rattle.area_search.specs.Settled.Cases.{IsSettledRun, edges_of, level_of, plan_of};
+ghost use Rattle.area_search.specs.Settled.Cases.{IsSettledRun, edges_of, levels_in, levels_of, plan_of};
 ghost use Rattle.area_search.specs.Settled.Cases.{spot_at, spot_face};
 ghost use Rattle.area_search.specs.Settled.SpotRegions.{owned_region, spot_region, spot_regions};
 
@@ -25,9 +25,9 @@ pub(crate) fn regions_of(
     owners: &[u32],
 ) -> Result<Vec<Region>, Memory>
     requires run { IsSettledRun run.now }
-    requires owned { HaveOwners (plan_of run.now) (level_of run.now) run.now.labelled.now.mesh.face
+    requires owned { HaveOwners (plan_of run.now) (levels_of run.now) run.now.labelled.now.mesh.face
         run.now.spots.now run.now.labelled.now.count owners.now }
-    requires besides { AreBeside (plan_of run.now) (level_of run.now)
+    requires besides { AreBeside (plan_of run.now) (levels_of run.now)
         run.now.labelled.now.mesh.face (length (plan_of run.now).curves) besides.items }
     ensures { IfOk result (λ regions. AreRegionsIn (plan_of run.now) run.now.places.now
         regions.items) }
@@ -49,15 +49,15 @@ fn regions_of_spots(
 ) -> Result<Vec<Region>, Memory>
     requires few { length (edges_of settled.now) < 2 ^ 31 }
     requires size { size mesh.now ≡ 2 * length (edges_of settled.now) }
-    requires besides { AreBeside (plan settled.now.drawing.now) settled.now.level mesh.now.face
+    requires besides { AreBeside (plan settled.now.drawing.now) (levels_in settled.now) mesh.now.face
         (length (plan settled.now.drawing.now).curves) besides.now }
     requires known { (j : ℕ) → j < length spots.now
-        → IsSpotOf (plan settled.now.drawing.now) settled.now.level (spot_at spots.now j) }
+        → IsSpotOf (plan settled.now.drawing.now) (levels_in settled.now) (spot_at spots.now j) }
     requires owned { (j : ℕ) → j < length spots.now
-        → spot_face (plan settled.now.drawing.now) settled.now.level mesh.now.face
+        → spot_face (plan settled.now.drawing.now) (levels_in settled.now) mesh.now.face
         (spot_at spots.now j) < length owners.now }
     ensures { IfOk result (λ rs. rs.items ≡ spot_regions (plan settled.now.drawing.now)
-        settled.now.level mesh.now.face owners.now spots.now) }
+        (levels_in settled.now) mesh.now.face owners.now spots.now) }
 {
     let mut regions = Vec::with_capacity(alloc, spots.len())?;
     for place in 0..spots.len() {
@@ -75,12 +75,12 @@ fn region_of(
 ) -> Region
     requires few { length (edges_of settled.now) < 2 ^ 31 }
     requires size { size mesh.now ≡ 2 * length (edges_of settled.now) }
-    requires besides { AreBeside (plan settled.now.drawing.now) settled.now.level mesh.now.face
+    requires besides { AreBeside (plan settled.now.drawing.now) (levels_in settled.now) mesh.now.face
         (length (plan settled.now.drawing.now).curves) besides.now }
-    requires known { IsSpotOf (plan settled.now.drawing.now) settled.now.level spot.now }
-    requires owned { spot_face (plan settled.now.drawing.now) settled.now.level mesh.now.face
+    requires known { IsSpotOf (plan settled.now.drawing.now) (levels_in settled.now) spot.now }
+    requires owned { spot_face (plan settled.now.drawing.now) (levels_in settled.now) mesh.now.face
         spot.now < length owners.now }
-    ensures { result ≡ spot_region (plan settled.now.drawing.now) settled.now.level mesh.now.face
+    ensures { result ≡ spot_region (plan settled.now.drawing.now) (levels_in settled.now) mesh.now.face
         owners.now spot.now }
 {
     match spot {

@@ -8,6 +8,7 @@ ghost use Rattle.plane.specs.Rule.Plans.{curve, plan};
 ghost use Rattle.plane.specs.Rule.Places.{point};
 ghost use Rattle.plane.specs.declared.kinds.CurveKind.TheVariants as kind;
 ghost use Rattle.point_location.specs.Places.{IsPlaceOf};
+ghost use Rattle.tubes.specs.Levels.{level_by};
 ghost use Rattle.tubes.specs.TubedEdges.{drawn_bays};
 ghost use Rattle.straight_predicates.specs.EdgeLists.{IsCloseToAll, no_point};
 ghost use Rattle.area_search.specs.Settled.Cases.{AreSpotsOf, IsSpot, IsSweptDrawing};
@@ -33,7 +34,7 @@ pub(crate) fn spots_at(
     requires few { length swept.now.edges.now < 2 ^ 31 }
     requires close { (j : ℕ) → j < length points.now
         → IsCloseToAll swept.now.edges.now (slice_index_or points.now j no_point) }
-    ensures { IfOk result (λ spots. AreSpotsOf (plan swept.now.drawing.now) swept.now.level
+    ensures { IfOk result (λ spots. AreSpotsOf (plan swept.now.drawing.now) (level_by swept.now.levels.now)
         swept.now.run.now.events points.now spots.items) }
 {
     let places = locate(alloc, swept.edges, swept.run, points)?;
@@ -49,7 +50,7 @@ fn spot_of(swept: &SweptDrawing, at: Point, place: Place) -> Spot
     requires swept { IsSweptDrawing swept.now }
     requires place { IsPlaceOf swept.now.edges.now
         swept.now.run.now.events at place }
-    ensures { IsSpot (plan swept.now.drawing.now) swept.now.level
+    ensures { IsSpot (plan swept.now.drawing.now) (level_by swept.now.levels.now)
         swept.now.run.now.events at result }
 {
     match place {
@@ -79,7 +80,7 @@ fn spot_of(swept: &SweptDrawing, at: Point, place: Place) -> Spot
 fn tube_over(swept: &SweptDrawing, lower: Option<u32>) -> Option<u32>
     requires swept { IsSweptDrawing swept.now }
     requires known { IsOver (length swept.now.edges.now) lower }
-    ensures { IsTubeOver (plan swept.now.drawing.now) swept.now.level lower result }
+    ensures { IsTubeOver (plan swept.now.drawing.now) (level_by swept.now.levels.now) lower result }
 {
     let edge = lower?;
     if swept.facings[edge as usize] == Facing::Above {
@@ -93,8 +94,8 @@ fn tube_over(swept: &SweptDrawing, lower: Option<u32>) -> Option<u32>
 fn spot_in_tube(swept: &SweptDrawing, number: u32, at: Point) -> Spot
     requires swept { IsSweptDrawing swept.now }
     requires tube { LiesInTube (plan swept.now.drawing.now)
-        (drawn_bays (plan swept.now.drawing.now) (λ n. swept.now.level)) number at }
-    ensures { IsSpot (plan swept.now.drawing.now) swept.now.level
+        (drawn_bays (plan swept.now.drawing.now) (level_by swept.now.levels.now)) number at }
+    ensures { IsSpot (plan swept.now.drawing.now) (level_by swept.now.levels.now)
         swept.now.run.now.events at result }
 {
     match side_in_tube(&swept.drawing.curves[number as usize], at) {

@@ -17,7 +17,7 @@ returns-in-Some c =
     record {
       least = record { low = c.requires.low; settled = settled; least = c.requires.least };
       case = subst
-          (λ (es : List Edge). IsCase d level es list.owners.items c.in-Some.facings.items vs)
+          (λ (es : List Edge). IsCase d (λ n. level) es list.owners.items c.in-Some.facings.items vs)
           same case;
       edges = same;
       few = subst (λ (es : List Edge). length es < 2 ^ 31) same c.requires.few;

@@ -22,7 +22,7 @@ returns-in_ok-faces-in-Settled c =
     let h = subst (AreShown d) c.in-Settled.is c.in_ok-found.ensures in
     record {
       settled = (s.level, h.least);
-      clear = no_bad_pair d s.level (edges_at d (λ n. s.level)) s.owners.items s.facings.items
+      clear = no_bad_pair d (λ n. s.level) (edges_at d (λ n. s.level)) s.owners.items s.facings.items
           s.swept.events h.case;
       faces = c.in_ok-faces-in-Settled.ensures.faces;
       numbered = c.in_ok-faces-in-Settled.ensures.numbered;

@@ -16,7 +16,7 @@ returns c =
       answer = record {
         answer = g.answer;
         settled = (s.level, h.least);
-        pairs = no_bad_pair d s.level (edges_at d (λ n. s.level)) s.owners.items s.facings.items
+        pairs = no_bad_pair d (λ n. s.level) (edges_at d (λ n. s.level)) s.owners.items s.facings.items
             s.swept.events h.case;
       };
       regions = g.regions;

@@ -26,32 +26,32 @@ faces_beside-requires-clause-settled c = (c.requires.run.vs, c.requires.run.sett
 pub faces_beside-requires-clause-few : goal.faces_beside-requires-clause-few
 faces_beside-requires-clause-few c =
     let s = c.args.run.now.settled.now in
-    few_edges (plan s.drawing.now) s.level
+    few_edges (plan s.drawing.now) (levels_in s)
     (edges_of s) s.owners.now s.facings.now c.requires.run.vs c.requires.run.settled
     c.args.run.now.labelled.now.mesh c.requires.run.outline
 
 pub faces_of_spots-requires-clause-few : goal.faces_of_spots-requires-clause-few
 faces_of_spots-requires-clause-few c =
     let s = c.args.run.now.settled.now in
-    few_edges (plan s.drawing.now) s.level
+    few_edges (plan s.drawing.now) (levels_in s)
     (edges_of s) s.owners.now s.facings.now c.requires.run.vs c.requires.run.settled
     c.args.run.now.labelled.now.mesh c.requires.run.outline
 
 pub faces_of_spots-requires-clause-known : goal.faces_of_spots-requires-clause-known
 faces_of_spots-requires-clause-known c =
-    spots_have (plan c.args.run.now.settled.now.drawing.now) c.args.run.now.settled.now.level
+    spots_have (plan c.args.run.now.settled.now.drawing.now) (levels_in c.args.run.now.settled.now)
     (edges_of c.args.run.now.settled.now) c.args.run.now.settled.now.owners.now
     c.args.run.now.settled.now.facings.now c.requires.run.vs c.requires.run.settled
     c.args.run.now.spots.now c.requires.run.placed
 
 pub returns-in-Some : goal.returns-in-Some
 returns-in-Some c =
-    outside_answer (plan c.args.run.now.settled.now.drawing.now) c.args.run.now.settled.now.level
+    outside_answer (plan c.args.run.now.settled.now.drawing.now) (levels_in c.args.run.now.settled.now)
     (edges_of c.args.run.now.settled.now) c.args.run.now.settled.now.owners.now
     c.args.run.now.settled.now.facings.now c.requires.run.vs c.requires.run.settled
     c.args.run.now.spots.now c.requires.run.placed c.args.run.now.labelled.now.mesh
     c.args.run.now.labelled.now.count c.requires.run.faces c.in-Some.point
-    (c.args.run.now.settled.now.level, c.requires.least)
+    c.requires.settled
     (subst (λ (fs : List ℕ). IsFirstOutside fs (Some c.in-Some.point)) (c.deref-2.ensures.value
     ∙ c.in_ok-faces.ensures) c.in-Some.ensures)
 
@@ -60,27 +60,27 @@ owners_of-requires-clause-known c =
     subst (λ (fs : List ℕ). (j : ℕ) → j < length fs
     → slice_index fs j < c.args.run.now.labelled.now.count)
     (sym (c.deref-3.ensures.value ∙ c.in_ok-faces.ensures))
-    (point_known (plan c.args.run.now.settled.now.drawing.now) c.args.run.now.settled.now.level
+    (point_known (plan c.args.run.now.settled.now.drawing.now) (levels_in c.args.run.now.settled.now)
     (edges_of c.args.run.now.settled.now) c.args.run.now.settled.now.owners.now
     c.args.run.now.settled.now.facings.now c.requires.run.vs c.requires.run.settled
     c.args.run.now.spots.now c.requires.run.placed c.args.run.now.labelled.now.mesh
     c.args.run.now.labelled.now.count c.requires.run.faces
     (λ i h. arc_first (plan c.args.run.now.settled.now.drawing.now)
-    c.args.run.now.settled.now.level i
+    (levels_in c.args.run.now.settled.now) i
     (c.chains_have_edges.ensures.inner
-    (plan c.args.run.now.settled.now.drawing.now) (λ n. c.args.run.now.settled.now.level) i
+    (plan c.args.run.now.settled.now.drawing.now) (levels_in c.args.run.now.settled.now) i
     c.requires.run.settled.tubes h)
     (c.chains_have_edges.ensures.outer
-    (plan c.args.run.now.settled.now.drawing.now) (λ n. c.args.run.now.settled.now.level) i h)))
+    (plan c.args.run.now.settled.now.drawing.now) (levels_in c.args.run.now.settled.now) i h)))
 
 pub returns-in-Some-shared : goal.returns-in-Some-shared
 returns-in-Some-shared c =
-    two_answer (plan c.args.run.now.settled.now.drawing.now) c.args.run.now.settled.now.level
+    two_answer (plan c.args.run.now.settled.now.drawing.now) (levels_in c.args.run.now.settled.now)
     (edges_of c.args.run.now.settled.now) c.args.run.now.settled.now.owners.now
     c.args.run.now.settled.now.facings.now c.requires.run.vs c.requires.run.settled
     c.args.run.now.spots.now c.requires.run.placed c.args.run.now.labelled.now.mesh
     c.args.run.now.labelled.now.count c.requires.run.faces c.in-Some-shared.two
-    (c.args.run.now.settled.now.level, c.requires.least)
+    c.requires.settled
     (subst (λ (fs : List ℕ). IsFirstOutside fs None) (c.deref-2.ensures.value
     ∙ c.in_ok-faces.ensures) c.in_default.ensures)
     (subst (λ (fs : List ℕ). IsLeastShare fs
@@ -100,18 +100,18 @@ first_free-requires-clause-known c =
     → IsBesideIn c.args.run.now.labelled.now.count (beside_at bs i))
     (sym c.deref-5.ensures.value)
     (λ i l. besides_known (plan c.args.run.now.settled.now.drawing.now)
-    c.args.run.now.settled.now.level (edges_of c.args.run.now.settled.now)
+    (levels_in c.args.run.now.settled.now) (edges_of c.args.run.now.settled.now)
     c.args.run.now.settled.now.owners.now c.args.run.now.settled.now.facings.now
     c.requires.run.vs c.requires.run.settled
     c.args.run.now.spots.now c.requires.run.placed c.args.run.now.labelled.now.mesh
     c.args.run.now.labelled.now.count c.requires.run.faces
     (λ i h. arc_first (plan c.args.run.now.settled.now.drawing.now)
-    c.args.run.now.settled.now.level i
+    (levels_in c.args.run.now.settled.now) i
     (c.chains_have_edges.ensures.inner
-    (plan c.args.run.now.settled.now.drawing.now) (λ n. c.args.run.now.settled.now.level) i
+    (plan c.args.run.now.settled.now.drawing.now) (levels_in c.args.run.now.settled.now) i
     c.requires.run.settled.tubes h)
     (c.chains_have_edges.ensures.outer
-    (plan c.args.run.now.settled.now.drawing.now) (λ n. c.args.run.now.settled.now.level) i h))
+    (plan c.args.run.now.settled.now.drawing.now) (levels_in c.args.run.now.settled.now) i h))
     c.in_ok-besides.besides.items c.in_ok-besides.ensures i (let s = c.in_ok-besides.ensures.size in
     omega (arith, l, s))))
 
@@ -125,23 +125,23 @@ pub returns-in-Some-first_free : goal.returns-in-Some-first_free
 returns-in-Some-first_free c =
     let o = c.in_ok-owners.ensures in
     let same = c.deref-3.ensures.value ∙ c.in_ok-faces.ensures in
-    empty_answer (plan c.args.run.now.settled.now.drawing.now) c.args.run.now.settled.now.level
+    empty_answer (plan c.args.run.now.settled.now.drawing.now) (levels_in c.args.run.now.settled.now)
     (edges_of c.args.run.now.settled.now) c.args.run.now.settled.now.owners.now
     c.args.run.now.settled.now.facings.now c.requires.run.vs c.requires.run.settled
     c.args.run.now.spots.now c.requires.run.placed c.args.run.now.labelled.now.mesh
     c.args.run.now.labelled.now.count c.requires.run.faces
     (λ i h. arc_first (plan c.args.run.now.settled.now.drawing.now)
-    c.args.run.now.settled.now.level i
+    (levels_in c.args.run.now.settled.now) i
     (c.chains_have_edges.ensures.inner
-    (plan c.args.run.now.settled.now.drawing.now) (λ n. c.args.run.now.settled.now.level) i
+    (plan c.args.run.now.settled.now.drawing.now) (levels_in c.args.run.now.settled.now) i
     c.requires.run.settled.tubes h)
     (c.chains_have_edges.ensures.outer
-    (plan c.args.run.now.settled.now.drawing.now) (λ n. c.args.run.now.settled.now.level) i h))
+    (plan c.args.run.now.settled.now.drawing.now) (levels_in c.args.run.now.settled.now) i h))
     c.in_ok-besides.besides.items c.in_ok-besides.ensures
     c.in_ok-owners.owners.of_face.items
     (subst (λ (fs : List ℕ). AreOwners fs (length fs) c.in_ok-owners.owners.of_face.items) same
     o.owners) o.size c.in-Some-first_free.side
-    (c.args.run.now.settled.now.level, c.requires.least)
+    c.requires.settled
     (subst (λ (fs : List ℕ). IsFirstOutside fs None) (c.deref-2.ensures.value
     ∙ c.in_ok-faces.ensures) c.in_default.ensures)
     (subst (λ (fs : List ℕ). AreShared fs (length fs) None) same
@@ -161,18 +161,18 @@ pub returns-in-Some-first_cut : goal.returns-in-Some-first_cut
 returns-in-Some-first_cut c =
     let o = c.in_ok-owners.ensures in
     let same = c.deref-3.ensures.value ∙ c.in_ok-faces.ensures in
-    let full = filled (plan c.args.run.now.settled.now.drawing.now) c.args.run.now.settled.now.level
+    let full = filled (plan c.args.run.now.settled.now.drawing.now) (levels_in c.args.run.now.settled.now)
     (edges_of c.args.run.now.settled.now) c.args.run.now.settled.now.owners.now
     c.args.run.now.settled.now.facings.now c.requires.run.vs c.requires.run.settled
     c.args.run.now.spots.now c.requires.run.placed c.args.run.now.labelled.now.mesh
     c.args.run.now.labelled.now.count c.requires.run.faces
     (λ i h. arc_first (plan c.args.run.now.settled.now.drawing.now)
-    c.args.run.now.settled.now.level i
+    (levels_in c.args.run.now.settled.now) i
     (c.chains_have_edges.ensures.inner
-    (plan c.args.run.now.settled.now.drawing.now) (λ n. c.args.run.now.settled.now.level) i
+    (plan c.args.run.now.settled.now.drawing.now) (levels_in c.args.run.now.settled.now) i
     c.requires.run.settled.tubes h)
     (c.chains_have_edges.ensures.outer
-    (plan c.args.run.now.settled.now.drawing.now) (λ n. c.args.run.now.settled.now.level) i h))
+    (plan c.args.run.now.settled.now.drawing.now) (levels_in c.args.run.now.settled.now) i h))
     c.in_ok-besides.besides.items c.in_ok-besides.ensures
     c.in_ok-owners.owners.of_face.items
     (subst (λ (fs : List ℕ). AreOwners fs (length fs) c.in_ok-owners.owners.of_face.items) same
@@ -188,12 +188,12 @@ returns-in-Some-first_cut c =
     c.in_ok-owners.owners.of_face.items (length c.deref-4.result.now)) c.deref-5.ensures.value
     (subst (λ (os : List ℕ). HasNoFree c.deref-4.result.now c.deref-5.result.now os
     (length c.deref-4.result.now)) c.deref-6.ensures.value c.in_default-first_free.ensures))) in
-    cut_answer (plan c.args.run.now.settled.now.drawing.now) c.args.run.now.settled.now.level
+    cut_answer (plan c.args.run.now.settled.now.drawing.now) (levels_in c.args.run.now.settled.now)
     (edges_of c.args.run.now.settled.now) c.args.run.now.settled.now.owners.now
     c.args.run.now.settled.now.facings.now c.requires.run.vs c.requires.run.settled
     c.args.run.now.labelled.now.mesh c.args.run.now.labelled.now.count c.requires.run.faces
     c.in_ok-besides.besides.items c.in_ok-besides.ensures c.in-Some-first_cut.curve full
-    (c.args.run.now.settled.now.level, c.requires.least)
+    c.requires.settled
     (subst (λ (bs : List Beside). IsFirstOneFaced bs (Some c.in-Some-first_cut.curve))
     c.deref-7.ensures.value c.in-Some-first_cut.ensures)
 
@@ -203,14 +203,14 @@ returns-in-None c =
     let same = c.deref-3.ensures.value ∙ c.in_ok-faces.ensures in
     let size : length c.deref-3.result.now ≡ length c.args.run.now.spots.now = ap length same
     ∙ length-map c.args.run.now.spots.now
-    (spot_face (plan c.args.run.now.settled.now.drawing.now) c.args.run.now.settled.now.level
+    (spot_face (plan c.args.run.now.settled.now.drawing.now) (levels_in c.args.run.now.settled.now)
     c.args.run.now.labelled.now.mesh.face) in (
       record {
         size = o.size;
         owners_are =
             subst (λ (n : ℕ). AreOwners
             (spot_faces (plan c.args.run.now.settled.now.drawing.now)
-            c.args.run.now.settled.now.level c.args.run.now.labelled.now.mesh.face
+            (levels_in c.args.run.now.settled.now) c.args.run.now.labelled.now.mesh.face
             c.args.run.now.spots.now) n c.in_ok-owners.owners.of_face.items) size
             (subst (λ (fs : List ℕ). AreOwners fs
             (length c.deref-3.result.now) c.in_ok-owners.owners.of_face.items) same o.owners);
@@ -219,24 +219,24 @@ returns-in-None c =
         shared = subst
             (λ (n : ℕ). AreShared
             (spot_faces (plan c.args.run.now.settled.now.drawing.now)
-            c.args.run.now.settled.now.level c.args.run.now.labelled.now.mesh.face
+            (levels_in c.args.run.now.settled.now) c.args.run.now.labelled.now.mesh.face
             c.args.run.now.spots.now) n None) size
             (subst (λ (fs : List ℕ). AreShared fs (length c.deref-3.result.now) None) same
             (subst (λ (s : Option Shared). AreShared c.deref-3.result.now
             (length c.deref-3.result.now) s) c.in_default-shared.is o.shared));
         owned = all_owned (plan c.args.run.now.settled.now.drawing.now)
-            c.args.run.now.settled.now.level
+            (levels_in c.args.run.now.settled.now)
             (edges_of c.args.run.now.settled.now) c.args.run.now.settled.now.owners.now
             c.args.run.now.settled.now.facings.now c.requires.run.vs c.requires.run.settled
             c.args.run.now.spots.now c.requires.run.placed c.args.run.now.labelled.now.mesh
             c.args.run.now.labelled.now.count c.requires.run.faces
             (λ i h. arc_first (plan c.args.run.now.settled.now.drawing.now)
-            c.args.run.now.settled.now.level i
+            (levels_in c.args.run.now.settled.now) i
             (c.chains_have_edges.ensures.inner
-            (plan c.args.run.now.settled.now.drawing.now) (λ n. c.args.run.now.settled.now.level) i
+            (plan c.args.run.now.settled.now.drawing.now) (levels_in c.args.run.now.settled.now) i
             c.requires.run.settled.tubes h)
             (c.chains_have_edges.ensures.outer
-            (plan c.args.run.now.settled.now.drawing.now) (λ n. c.args.run.now.settled.now.level) i h))
+            (plan c.args.run.now.settled.now.drawing.now) (levels_in c.args.run.now.settled.now) i h))
             c.in_ok-besides.besides.items c.in_ok-besides.ensures
             c.in_ok-owners.owners.of_face.items
             (subst (λ (fs : List ℕ). AreOwners fs
@@ -250,7 +250,7 @@ returns-in-None c =
             (length c.deref-4.result.now)) c.deref-6.ensures.value
             c.in_default-first_free.ensures)));
       },
-      no_cut (plan c.args.run.now.settled.now.drawing.now) c.args.run.now.settled.now.level
+      no_cut (plan c.args.run.now.settled.now.drawing.now) (levels_in c.args.run.now.settled.now)
           (edges_of c.args.run.now.settled.now) c.args.run.now.settled.now.owners.now
           c.args.run.now.settled.now.facings.now c.requires.run.vs c.requires.run.settled
           c.args.run.now.labelled.now.mesh c.args.run.now.labelled.now.count c.requires.run.faces

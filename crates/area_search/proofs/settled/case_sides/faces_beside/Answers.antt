@@ -10,7 +10,7 @@ use Rattle.area_search.proofs.settled.case_sides.faces_beside.Goals as goal
 
 pub loop-number-init : goal.loop-number-init
 loop-number-init c = record {
-  first = sym (no_first (drawn_bays (plan c.args.settled.now.drawing.now) (λ n. c.args.settled.now.level))
+  first = sym (no_first (drawn_bays (plan c.args.settled.now.drawing.now) (levels_in c.args.settled.now))
       0 c.args.settled.now.drawing.now.curves.items);
   besides = record { size = search rules; each = λ i l. absurd (omega (arith, l)) };
 }
@@ -21,7 +21,7 @@ overflow_add-first c =
     c.args.settled.now.drawing.now.curves.items =
     (let t = c.loop-number-test.true in let n = c.len-number-end.ensures in
     omega (arith, t, n)) in
-    let t = next_fits (plan c.args.settled.now.drawing.now) c.args.settled.now.level
+    let t = next_fits (plan c.args.settled.now.drawing.now) (levels_in c.args.settled.now)
     (edges_of c.args.settled.now) c.args.settled.now.owners.now c.args.settled.now.facings.now
     c.requires.settled.0 c.requires.settled.1
     c.index-curve.result.now c.loop-number.number c.loop-number.first l
@@ -39,7 +39,7 @@ loop-number-preserved c =
     omega (arith, t, n)) in
     let i = c.loop-number.invariant in
     record {
-      first = next_is (plan c.args.settled.now.drawing.now) c.args.settled.now.level
+      first = next_is (plan c.args.settled.now.drawing.now) (levels_in c.args.settled.now)
           (edges_of c.args.settled.now) c.args.settled.now.owners.now c.args.settled.now.facings.now
           c.requires.settled.0 c.requires.settled.1
           c.index-curve.result.now c.loop-number.number c.loop-number.first l
@@ -50,7 +50,7 @@ loop-number-preserved c =
         size = one_more_size c.loop-number.besides.items c.push.new.self.items
             c.faces_of_curve.result c.loop-number.number i.besides.size c.in_ok-push.ensures.items;
         each = one_more
-            (IsBeside (plan c.args.settled.now.drawing.now) c.args.settled.now.level
+            (IsBeside (plan c.args.settled.now.drawing.now) (levels_in c.args.settled.now)
             c.args.mesh.now.face) c.loop-number.besides.items c.push.new.self.items
             c.faces_of_curve.result no_beside c.loop-number.number
             i.besides.size c.in_ok-push.ensures.items i.besides.each c.faces_of_curve.ensures;

@@ -8,7 +8,7 @@ use Rattle.area_search.proofs.settled.case_sides.faces_of_curve.Goals as goal
 
 pub faces_of_straight-requires-clause-few : goal.faces_of_straight-requires-clause-few
 faces_of_straight-requires-clause-few c =
-    let t = straight_there (plan c.args.settled.now.drawing.now) c.args.settled.now.level
+    let t = straight_there (plan c.args.settled.now.drawing.now) (levels_in c.args.settled.now)
     (edges_of c.args.settled.now) c.args.settled.now.owners.now c.args.settled.now.facings.now
     c.requires.settled.0 c.requires.settled.1
     c.args.curve.now c.args.number c.args.first c.requires.there c.requires.curve c.requires.first
@@ -18,7 +18,7 @@ faces_of_straight-requires-clause-few c =
 
 pub faces_of_straight-requires-clause-there : goal.faces_of_straight-requires-clause-there
 faces_of_straight-requires-clause-there c =
-    let t = straight_there (plan c.args.settled.now.drawing.now) c.args.settled.now.level
+    let t = straight_there (plan c.args.settled.now.drawing.now) (levels_in c.args.settled.now)
     (edges_of c.args.settled.now) c.args.settled.now.owners.now c.args.settled.now.facings.now
     c.requires.settled.0 c.requires.settled.1
     c.args.curve.now c.args.number c.args.first c.requires.there c.requires.curve c.requires.first
@@ -28,7 +28,7 @@ faces_of_straight-requires-clause-there c =
 
 pub returns-in-Straight : goal.returns-in-Straight
 returns-in-Straight c =
-    straight_beside (plan c.args.settled.now.drawing.now) c.args.settled.now.level
+    straight_beside (plan c.args.settled.now.drawing.now) (levels_in c.args.settled.now)
     (edges_of c.args.settled.now) c.args.settled.now.owners.now c.args.settled.now.facings.now
     c.requires.settled.0 c.requires.settled.1
     c.args.curve.now c.args.number c.args.first c.requires.there c.requires.curve c.requires.first
@@ -37,79 +37,79 @@ returns-in-Straight c =
 
 pub overflow_add-second : goal.overflow_add-second
 overflow_add-second c =
-    let t = outer_there (plan c.args.settled.now.drawing.now) c.args.settled.now.level
+    let t = outer_there (plan c.args.settled.now.drawing.now) (levels_in c.args.settled.now)
     (edges_of c.args.settled.now) c.args.settled.now.owners.now c.args.settled.now.facings.now
     c.requires.settled.0 c.requires.settled.1
     c.args.curve.now c.args.number c.args.first c.requires.there c.requires.curve c.requires.first
-    (λ h. arc_first (plan c.args.settled.now.drawing.now) c.args.settled.now.level c.args.number
+    (λ h. arc_first (plan c.args.settled.now.drawing.now) (levels_in c.args.settled.now) c.args.number
     (c.chains_have_edges.ensures.inner
-    (plan c.args.settled.now.drawing.now) (λ n. c.args.settled.now.level) c.args.number
+    (plan c.args.settled.now.drawing.now) (levels_in c.args.settled.now) c.args.number
     c.requires.settled.1.tubes h)
     (c.chains_have_edges.ensures.outer
-    (plan c.args.settled.now.drawing.now) (λ n. c.args.settled.now.level) c.args.number h))
+    (plan c.args.settled.now.drawing.now) (levels_in c.args.settled.now) c.args.number h))
     c.bay_count.result c.bay_count.ensures c.in-HalfArc.is in
     let f = c.requires.few in
     omega (arith, t, f)
 
 pub face_outside-requires-clause-there : goal.face_outside-requires-clause-there
 face_outside-requires-clause-there c =
-    inner_there (plan c.args.settled.now.drawing.now) c.args.settled.now.level
+    inner_there (plan c.args.settled.now.drawing.now) (levels_in c.args.settled.now)
     (edges_of c.args.settled.now) c.args.settled.now.owners.now c.args.settled.now.facings.now
     c.requires.settled.0 c.requires.settled.1
     c.args.curve.now c.args.number c.args.first c.requires.there c.requires.curve c.requires.first
-    (λ h. arc_first (plan c.args.settled.now.drawing.now) c.args.settled.now.level c.args.number
+    (λ h. arc_first (plan c.args.settled.now.drawing.now) (levels_in c.args.settled.now) c.args.number
     (c.chains_have_edges.ensures.inner
-    (plan c.args.settled.now.drawing.now) (λ n. c.args.settled.now.level) c.args.number
+    (plan c.args.settled.now.drawing.now) (levels_in c.args.settled.now) c.args.number
     c.requires.settled.1.tubes h)
     (c.chains_have_edges.ensures.outer
-    (plan c.args.settled.now.drawing.now) (λ n. c.args.settled.now.level) c.args.number h))
+    (plan c.args.settled.now.drawing.now) (levels_in c.args.settled.now) c.args.number h))
     c.in-HalfArc.is
 
 pub face_outside-requires-clause-tube : goal.face_outside-requires-clause-tube
 face_outside-requires-clause-tube c =
-    inner_is (plan c.args.settled.now.drawing.now) c.args.settled.now.level
+    inner_is (plan c.args.settled.now.drawing.now) (levels_in c.args.settled.now)
     (edges_of c.args.settled.now) c.args.settled.now.owners.now c.args.settled.now.facings.now
     c.requires.settled.0 c.requires.settled.1
     c.args.curve.now c.args.number c.args.first c.requires.there c.requires.curve c.requires.first
-    (λ h. arc_first (plan c.args.settled.now.drawing.now) c.args.settled.now.level c.args.number
+    (λ h. arc_first (plan c.args.settled.now.drawing.now) (levels_in c.args.settled.now) c.args.number
     (c.chains_have_edges.ensures.inner
-    (plan c.args.settled.now.drawing.now) (λ n. c.args.settled.now.level) c.args.number
+    (plan c.args.settled.now.drawing.now) (levels_in c.args.settled.now) c.args.number
     c.requires.settled.1.tubes h)
     (c.chains_have_edges.ensures.outer
-    (plan c.args.settled.now.drawing.now) (λ n. c.args.settled.now.level) c.args.number h))
+    (plan c.args.settled.now.drawing.now) (levels_in c.args.settled.now) c.args.number h))
     c.in-HalfArc.is
 
 pub face_outside-requires-in-HalfArc-clause-there : goal.face_outside-requires-in-HalfArc-clause-there
 face_outside-requires-in-HalfArc-clause-there c =
-    outer_there (plan c.args.settled.now.drawing.now) c.args.settled.now.level
+    outer_there (plan c.args.settled.now.drawing.now) (levels_in c.args.settled.now)
     (edges_of c.args.settled.now) c.args.settled.now.owners.now c.args.settled.now.facings.now
     c.requires.settled.0 c.requires.settled.1
     c.args.curve.now c.args.number c.args.first c.requires.there c.requires.curve c.requires.first
-    (λ h. arc_first (plan c.args.settled.now.drawing.now) c.args.settled.now.level c.args.number
+    (λ h. arc_first (plan c.args.settled.now.drawing.now) (levels_in c.args.settled.now) c.args.number
     (c.chains_have_edges.ensures.inner
-    (plan c.args.settled.now.drawing.now) (λ n. c.args.settled.now.level) c.args.number
+    (plan c.args.settled.now.drawing.now) (levels_in c.args.settled.now) c.args.number
     c.requires.settled.1.tubes h)
     (c.chains_have_edges.ensures.outer
-    (plan c.args.settled.now.drawing.now) (λ n. c.args.settled.now.level) c.args.number h))
+    (plan c.args.settled.now.drawing.now) (levels_in c.args.settled.now) c.args.number h))
     c.bay_count.result c.bay_count.ensures c.in-HalfArc.is
 
 pub face_outside-requires-in-HalfArc-clause-tube : goal.face_outside-requires-in-HalfArc-clause-tube
 face_outside-requires-in-HalfArc-clause-tube c =
-    outer_is (plan c.args.settled.now.drawing.now) c.args.settled.now.level
+    outer_is (plan c.args.settled.now.drawing.now) (levels_in c.args.settled.now)
     (edges_of c.args.settled.now) c.args.settled.now.owners.now c.args.settled.now.facings.now
     c.requires.settled.0 c.requires.settled.1
     c.args.curve.now c.args.number c.args.first c.requires.there c.requires.curve c.requires.first
-    (λ h. arc_first (plan c.args.settled.now.drawing.now) c.args.settled.now.level c.args.number
+    (λ h. arc_first (plan c.args.settled.now.drawing.now) (levels_in c.args.settled.now) c.args.number
     (c.chains_have_edges.ensures.inner
-    (plan c.args.settled.now.drawing.now) (λ n. c.args.settled.now.level) c.args.number
+    (plan c.args.settled.now.drawing.now) (levels_in c.args.settled.now) c.args.number
     c.requires.settled.1.tubes h)
     (c.chains_have_edges.ensures.outer
-    (plan c.args.settled.now.drawing.now) (λ n. c.args.settled.now.level) c.args.number h))
+    (plan c.args.settled.now.drawing.now) (levels_in c.args.settled.now) c.args.number h))
     c.bay_count.result c.bay_count.ensures c.in-HalfArc.is
 
 pub returns-in-HalfArc : goal.returns-in-HalfArc
 returns-in-HalfArc c =
-    arc_beside (plan c.args.settled.now.drawing.now) c.args.settled.now.level
+    arc_beside (plan c.args.settled.now.drawing.now) (levels_in c.args.settled.now)
     (edges_of c.args.settled.now) c.args.settled.now.owners.now c.args.settled.now.facings.now
     c.requires.settled.0 c.requires.settled.1
     c.args.curve.now c.args.number c.args.first c.requires.there c.requires.curve c.requires.first

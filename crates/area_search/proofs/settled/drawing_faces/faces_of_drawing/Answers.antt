@@ -38,11 +38,11 @@ numbers_of_faces-requires-clause-known c =
     let beside = c.in_ok-besides.ensures in
     subst (λ (bs : List Beside). (i : ℕ) → i < length bs → IsBesideIn count (beside_at bs i))
     (sym c.deref.ensures.value)
-    (λ i l. besides_known d s.level (edges_of s) s.owners.now s.facings.now c.args.swept.events
+    (λ i l. besides_known d (levels_in s) (edges_of s) s.owners.now s.facings.now c.args.swept.events
     c.requires.settled mesh count faces
-    (λ i h. arc_first d s.level i
-    (c.chains_have_edges.ensures.inner d (λ n. s.level) i c.requires.settled.tubes h)
-    (c.chains_have_edges.ensures.outer d (λ n. s.level) i h))
+    (λ i h. arc_first d (levels_in s) i
+    (c.chains_have_edges.ensures.inner d (levels_in s) i c.requires.settled.tubes h)
+    (c.chains_have_edges.ensures.outer d (levels_in s) i h))
     besides beside i
     (let n = beside.size in omega (arith, l, n)))
 
@@ -50,7 +50,7 @@ pub places_of-requires-clause-besides : goal.places_of-requires-clause-besides
 places_of-requires-clause-besides c =
     let s = c.args.settled.now in
     let d = plan s.drawing.now in
-    subst (AreBeside d s.level c.in_ok-labelled.labelled.mesh.face (length d.curves))
+    subst (AreBeside d (levels_in s) c.in_ok-labelled.labelled.mesh.face (length d.curves))
     (sym c.deref-2.ensures.value) c.in_ok-besides.ensures
 
 pub places_of-requires-clause-known : goal.places_of-requires-clause-known
@@ -59,9 +59,9 @@ places_of-requires-clause-known c =
     let d = plan s.drawing.now in
     let spots = c.in_ok-spots.spots.items in
     let are = c.in_ok-spots.ensures in
-    subst (λ (ss : List Spot). (j : ℕ) → j < length ss → IsSpotOf d s.level (spot_at ss j))
+    subst (λ (ss : List Spot). (j : ℕ) → j < length ss → IsSpotOf d (levels_in s) (spot_at ss j))
     (sym c.deref-4.ensures.value)
-    (λ j l. spot_has d s.level (edges_of s) s.owners.now s.facings.now c.args.swept.events
+    (λ j l. spot_has d (levels_in s) (edges_of s) s.owners.now s.facings.now c.args.swept.events
     c.requires.settled (object d j) (spot_at spots j)
     (are.each j (let n = are.size in omega (arith, l, n))))
 
@@ -78,17 +78,17 @@ places_of-requires-clause-numbered c =
     let are = c.in_ok-spots.ensures in
     let size = c.in_ok-numbers.ensures.size in
     subst (λ (ns : List ℕ). (j : ℕ) → j < length c.deref-4.result.now
-    → spot_face d s.level mesh.face (spot_at c.deref-4.result.now j) < length ns)
+    → spot_face d (levels_in s) mesh.face (spot_at c.deref-4.result.now j) < length ns)
     (sym c.deref-3.ensures.value)
     (subst (λ (ss : List Spot). (j : ℕ) → j < length ss
-    → spot_face d s.level mesh.face (spot_at ss j) < length c.in_ok-numbers.numbers.of_face.items)
+    → spot_face d (levels_in s) mesh.face (spot_at ss j) < length c.in_ok-numbers.numbers.of_face.items)
     (sym c.deref-4.ensures.value)
     (λ j l.
-    let k = spot_known d s.level (edges_of s) s.owners.now s.facings.now c.args.swept.events
+    let k = spot_known d (levels_in s) (edges_of s) s.owners.now s.facings.now c.args.swept.events
     c.requires.settled mesh count faces
-    (λ i h. arc_first d s.level i
-    (c.chains_have_edges.ensures.inner d (λ n. s.level) i c.requires.settled.tubes h)
-    (c.chains_have_edges.ensures.outer d (λ n. s.level) i h))
+    (λ i h. arc_first d (levels_in s) i
+    (c.chains_have_edges.ensures.inner d (levels_in s) i c.requires.settled.tubes h)
+    (c.chains_have_edges.ensures.outer d (levels_in s) i h))
     besides beside
     (object d j) (spot_at spots j) (are.each j (let n = are.size in omega (arith, l, n))) in
     omega (arith, k, size)))
@@ -111,11 +111,11 @@ faces_of-requires-clause-known c =
     subst (λ (bs : List Beside). (i : ℕ) → i < length bs
     → IsBesideIn (length c.deref-7.result.now) (beside_at bs i)) (sym c.deref-6.ensures.value)
     (λ i l. subst (λ (n : ℕ). IsBesideIn n (beside_at besides i)) (sym size)
-    (besides_known d s.level (edges_of s) s.owners.now s.facings.now c.args.swept.events
+    (besides_known d (levels_in s) (edges_of s) s.owners.now s.facings.now c.args.swept.events
     c.requires.settled mesh count faces
-    (λ i h. arc_first d s.level i
-    (c.chains_have_edges.ensures.inner d (λ n. s.level) i c.requires.settled.tubes h)
-    (c.chains_have_edges.ensures.outer d (λ n. s.level) i h))
+    (λ i h. arc_first d (levels_in s) i
+    (c.chains_have_edges.ensures.inner d (levels_in s) i c.requires.settled.tubes h)
+    (c.chains_have_edges.ensures.outer d (levels_in s) i h))
     besides beside i
     (let n = beside.size in omega (arith, l, n))))
 
@@ -138,11 +138,11 @@ returns-clause-rings c =
     let besides = c.in_ok-besides.besides.items in
     let beside = c.in_ok-besides.ensures in
     let names = c.in_ok-numbers.numbers.of_face.items in
-    faces_round d s.level (edges_of s) s.owners.now s.facings.now c.args.swept.events
+    faces_round d (levels_in s) (edges_of s) s.owners.now s.facings.now c.args.swept.events
     c.requires.settled mesh count faces
-    (λ i h. arc_first d s.level i
-    (c.chains_have_edges.ensures.inner d (λ n. s.level) i c.requires.settled.tubes h)
-    (c.chains_have_edges.ensures.outer d (λ n. s.level) i h))
+    (λ i h. arc_first d (levels_in s) i
+    (c.chains_have_edges.ensures.inner d (levels_in s) i c.requires.settled.tubes h)
+    (c.chains_have_edges.ensures.outer d (levels_in s) i h))
     besides beside c.in_ok-labelled.ensures.outline names _
     (subst (λ (cs : List Curve). HaveFaces cs besides names (length cs) c.in_ok-curves.curves.items)
     c.deref-5.ensures.value
@@ -166,11 +166,11 @@ returns-clause-faces c =
     let spots = c.in_ok-spots.spots.items in
     let same : c.in_ok-open.open.items ≡ replicate c.in_ok-numbers.numbers.count false =
     search rules in
-    drawing_faces d s.level (edges_of s) s.owners.now s.facings.now c.args.swept.events
+    drawing_faces d (levels_in s) (edges_of s) s.owners.now s.facings.now c.args.swept.events
     c.requires.settled mesh count faces
-    (λ i h. arc_first d s.level i
-    (c.chains_have_edges.ensures.inner d (λ n. s.level) i c.requires.settled.tubes h)
-    (c.chains_have_edges.ensures.outer d (λ n. s.level) i h))
+    (λ i h. arc_first d (levels_in s) i
+    (c.chains_have_edges.ensures.inner d (levels_in s) i c.requires.settled.tubes h)
+    (c.chains_have_edges.ensures.outer d (levels_in s) i h))
     besides beside names c.in_ok-numbers.numbers.count
     c.in_ok-numbers.ensures.size
     (subst (λ (bs : List Beside). AreFaceNumbers (faces_met bs) names c.in_ok-numbers.numbers.count)
@@ -179,8 +179,8 @@ returns-clause-faces c =
     (ap length same ∙ replicate_length c.in_ok-numbers.numbers.count)
     (none_open c.in_ok-numbers.numbers.count c.in_ok-open.open.items same)
     (c.in_ok-points.ensures
-    ∙ ap (map (point_place d s.level mesh.face c.deref-3.result.now)) c.deref-4.ensures.value
-    ∙ ap (λ (ns : List ℕ). map (point_place d s.level mesh.face ns) spots) c.deref-3.ensures.value)
+    ∙ ap (map (point_place d (levels_in s) mesh.face c.deref-3.result.now)) c.deref-4.ensures.value
+    ∙ ap (λ (ns : List ℕ). map (point_place d (levels_in s) mesh.face ns) spots) c.deref-3.ensures.value)
     (subst (λ (cs : List Curve). HaveFaces cs besides names (length cs) c.in_ok-curves.curves.items)
     c.deref-5.ensures.value
     (subst (λ (bs : List Beside). HaveFaces c.deref-5.result.now bs names
@@ -202,11 +202,11 @@ returns-clause-numbered c =
     let spots = c.in_ok-spots.spots.items in
     let same : c.in_ok-open.open.items ≡ replicate c.in_ok-numbers.numbers.count false =
     search rules in
-    faces_numbered d s.level (edges_of s) s.owners.now s.facings.now c.args.swept.events
+    faces_numbered d (levels_in s) (edges_of s) s.owners.now s.facings.now c.args.swept.events
     c.requires.settled mesh count faces
-    (λ i h. arc_first d s.level i
-    (c.chains_have_edges.ensures.inner d (λ n. s.level) i c.requires.settled.tubes h)
-    (c.chains_have_edges.ensures.outer d (λ n. s.level) i h))
+    (λ i h. arc_first d (levels_in s) i
+    (c.chains_have_edges.ensures.inner d (levels_in s) i c.requires.settled.tubes h)
+    (c.chains_have_edges.ensures.outer d (levels_in s) i h))
     besides beside names c.in_ok-numbers.numbers.count
     c.in_ok-numbers.ensures.size
     (subst (λ (bs : List Beside). AreFaceNumbers (faces_met bs) names c.in_ok-numbers.numbers.count)
@@ -215,8 +215,8 @@ returns-clause-numbered c =
     (ap length same ∙ replicate_length c.in_ok-numbers.numbers.count)
     (none_open c.in_ok-numbers.numbers.count c.in_ok-open.open.items same)
     (c.in_ok-points.ensures
-    ∙ ap (map (point_place d s.level mesh.face c.deref-3.result.now)) c.deref-4.ensures.value
-    ∙ ap (λ (ns : List ℕ). map (point_place d s.level mesh.face ns) spots) c.deref-3.ensures.value)
+    ∙ ap (map (point_place d (levels_in s) mesh.face c.deref-3.result.now)) c.deref-4.ensures.value
+    ∙ ap (λ (ns : List ℕ). map (point_place d (levels_in s) mesh.face ns) spots) c.deref-3.ensures.value)
     (subst (λ (cs : List Curve). HaveFaces cs besides names (length cs) c.in_ok-curves.curves.items)
     c.deref-5.ensures.value
     (subst (λ (bs : List Beside). HaveFaces c.deref-5.result.now bs names

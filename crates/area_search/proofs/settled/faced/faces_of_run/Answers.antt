@@ -19,7 +19,7 @@ cell_faces-requires c =
       known = subst (λ (ss : List Spot). (j : ℕ) → j < length ss
           → IsCellSpot (size c.in_ok-labelled.labelled.mesh) (spot_at ss j))
           (sym c.deref.ensures.value)
-          (cell_spots d s.level (edges_of s) s.owners.now s.facings.now c.args.swept.events
+          (cell_spots d (levels_in s) (edges_of s) s.owners.now s.facings.now c.args.swept.events
           c.requires.settled c.requires.drawn (c.edges_of_drawing.ensures.count d)
           (c.edges_of_drawing.ensures.edges d c.requires.straights) c.requires.straights
           c.requires.partition
@@ -42,41 +42,41 @@ returns c =
     c.in_ok-points.ensures ∙ ap (map (cell_face mesh.face)) c.deref.ensures.value in
     record {
       steps = steps_from [] vs;
-      run = run_of d s.level (edges_of s) s.owners.now s.facings.now vs c.requires.settled
+      run = run_of d (levels_in s) (edges_of s) s.owners.now s.facings.now vs c.requires.settled
           c.requires.drawn count law c.requires.straights c.requires.partition;
       mesh_is = l.outline.mesh_is;
-      turned = turned_of d s.level (edges_of s) s.owners.now s.facings.now vs c.requires.settled
+      turned = turned_of d (levels_in s) (edges_of s) s.owners.now s.facings.now vs c.requires.settled
           c.requires.drawn count law c.requires.straights c.requires.partition
           mesh (length (steps_from [] vs)) l.outline.turned;
       at_is = c.in_ok-at.ensures ∙ sym (points_from [] vs);
       vertices = ap length c.in_ok-at.ensures
           ∙ (length-map vs (λ (v : Move). v.at) ∙ sym l.vertices);
-      faces_are = faces_with d s.level (edges_of s) s.owners.now s.facings.now vs c.requires.settled
+      faces_are = faces_with d (levels_in s) (edges_of s) s.owners.now s.facings.now vs c.requires.settled
           c.requires.drawn count law c.requires.straights c.requires.partition
           mesh c.in_ok-labelled.labelled.count l.faces_are;
       below = l.faces_are.below;
       points = ap length of_points
-          ∙ point_faces d s.level (edges_of s) s.owners.now s.facings.now vs c.requires.settled
+          ∙ point_faces d (levels_in s) (edges_of s) s.owners.now s.facings.now vs c.requires.settled
           c.requires.drawn count law c.requires.straights c.requires.partition
           spots c.in_ok-spots.ensures mesh.face;
       each = λ j k. subst
           (λ (ps : List ℕ). IsPointFace d (steps_from [] vs) mesh.face j (slice_index ps j))
           (sym of_points)
-          (point_face d s.level (edges_of s) s.owners.now s.facings.now vs c.requires.settled
+          (point_face d (levels_in s) (edges_of s) s.owners.now s.facings.now vs c.requires.settled
           c.requires.drawn count law c.requires.straights c.requires.partition
           spots c.in_ok-spots.ensures mesh.face j k);
       known = λ j k. subst (λ (ps : List ℕ). slice_index ps j < c.in_ok-labelled.labelled.count)
           (sym of_points)
-          (known_face d s.level (edges_of s) s.owners.now s.facings.now vs c.requires.settled
+          (known_face d (levels_in s) (edges_of s) s.owners.now s.facings.now vs c.requires.settled
           c.requires.drawn count law c.requires.straights c.requires.partition
           spots c.in_ok-spots.ensures mesh c.in_ok-labelled.labelled.count l.faces_are j k);
       inner = λ j k. subst (λ (ps : List ℕ). slice_index ps j ≡ 0 → ⊥) (sym of_points)
-          (inner_face d s.level (edges_of s) s.owners.now s.facings.now vs c.requires.settled
+          (inner_face d (levels_in s) (edges_of s) s.owners.now s.facings.now vs c.requires.settled
           c.requires.drawn count law c.requires.straights c.requires.partition
           spots c.in_ok-spots.ensures mesh c.in_ok-labelled.labelled.count l.faces_are j k);
       apart = λ i j m k. subst (λ (ps : List ℕ). slice_index ps i ≡ slice_index ps j → i ≡ j)
           (sym of_points)
-          (one_point d s.level (edges_of s) s.owners.now s.facings.now vs c.requires.settled
+          (one_point d (levels_in s) (edges_of s) s.owners.now s.facings.now vs c.requires.settled
           c.requires.drawn count law c.requires.straights c.requires.partition
           spots c.in_ok-spots.ensures mesh c.in_ok-labelled.labelled.count l.faces_are i j m k);
     }

@@ -14,11 +14,11 @@ pub label_with_joins-requires : goal.label_with_joins-requires
 label_with_joins-requires c = record {
   known = subst (λ (cs : List Cell). AreKnown (size c.in_ok-mesh.mesh) (gaps_of cs))
       (sym c.cells_alone-cells.ensures)
-      (known_cells (plan c.args.settled.now.drawing.now) c.args.settled.now.level
+      (known_cells (plan c.args.settled.now.drawing.now) (levels_in c.args.settled.now)
       (edges_of c.args.settled.now) c.args.settled.now.owners.now c.args.settled.now.facings.now
       c.args.swept.events c.requires.settled
       (gaps_of c.args.swept.cells.items) c.in_ok-mesh.mesh c.requires.cells
-      (owner_mesh (plan c.args.settled.now.drawing.now) c.args.settled.now.level
+      (owner_mesh (plan c.args.settled.now.drawing.now) (levels_in c.args.settled.now)
       (edges_of c.args.settled.now) c.args.settled.now.owners.now c.args.settled.now.facings.now
       c.args.swept.events c.requires.settled
       (length c.args.settled.now.owners.now) refl c.in_ok-mesh.mesh
@@ -28,24 +28,24 @@ label_with_joins-requires c = record {
 pub returns : goal.returns
 returns c =
     let d = plan c.args.settled.now.drawing.now in
-    let level = c.args.settled.now.level in
+    let levels = (levels_in c.args.settled.now) in
     let vs = c.args.swept.events in
     let l = c.in_ok-joined.ensures in
     let same = ap gaps_of c.cells_alone-cells.ensures ∙ c.requires.cells in
-    let t = owner_mesh (plan c.args.settled.now.drawing.now) c.args.settled.now.level
+    let t = owner_mesh (plan c.args.settled.now.drawing.now) (levels_in c.args.settled.now)
     (edges_of c.args.settled.now) c.args.settled.now.owners.now c.args.settled.now.facings.now
     c.args.swept.events c.requires.settled (length c.args.settled.now.owners.now) refl
     c.in_ok-mesh.mesh c.in_ok-mesh.ensures.turned in
     record {
       faces_are = subst
-          (λ (m : HalfEdges). HasRunFaces d level vs m c.in_ok-joined.joined.labelled.count)
+          (λ (m : HalfEdges). HasRunFaces d levels vs m c.in_ok-joined.joined.labelled.count)
           (sym l.unchanged)
-          (has_run_faces d level (edges_of c.args.settled.now) c.args.settled.now.owners.now
+          (has_run_faces d levels (edges_of c.args.settled.now) c.args.settled.now.owners.now
           c.args.settled.now.facings.now vs c.requires.settled
           c.in_ok-mesh.mesh t c.in_ok-joined.joined.labelled.mesh.face _
           c.in_ok-joined.joined.labelled.count same l.faces l.count);
-      outline = subst (IsRunMesh d level vs) (sym l.unchanged)
-          (run_mesh d level (edges_of c.args.settled.now) c.args.settled.now.owners.now
+      outline = subst (IsRunMesh d levels vs) (sym l.unchanged)
+          (run_mesh d levels (edges_of c.args.settled.now) c.args.settled.now.owners.now
           c.args.settled.now.facings.now vs c.requires.settled
           c.in_ok-mesh.mesh t c.in_ok-joined.joined.labelled.mesh.face
           (subst IsMesh l.unchanged c.edges.ensures.kept));
@@ -54,13 +54,13 @@ returns c =
 
 pub mesh_of_run-requires-clause-few : goal.mesh_of_run-requires-clause-few
 mesh_of_run-requires-clause-few c =
-    owner_few (plan c.args.settled.now.drawing.now) c.args.settled.now.level
+    owner_few (plan c.args.settled.now.drawing.now) (levels_in c.args.settled.now)
     (edges_of c.args.settled.now) c.args.settled.now.owners.now c.args.settled.now.facings.now
     c.args.swept.events c.requires.settled
     (length c.args.settled.now.owners.now) refl c.requires.few
 
 pub mesh_of_run-requires-clause-run : goal.mesh_of_run-requires-clause-run
 mesh_of_run-requires-clause-run c =
-    owner_edges (plan c.args.settled.now.drawing.now) c.args.settled.now.level
+    owner_edges (plan c.args.settled.now.drawing.now) (levels_in c.args.settled.now)
     (edges_of c.args.settled.now) c.args.settled.now.owners.now c.args.settled.now.facings.now
     c.args.swept.events c.requires.settled (length c.args.settled.now.owners.now) refl

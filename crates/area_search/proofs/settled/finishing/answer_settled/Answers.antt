@@ -25,8 +25,8 @@ returns-in-Some c =
     c.split_at.ensures.front_len ∙ c.len.ensures ∙ s.drawing.now.points.ok.0 in
     own_fault_found d places c.without_regions.result (On p.point p.curve)
     c.without_regions.ensures
-    (on_answer d s.level (edges_of s) s.owners.now s.facings.now vs c.requires.settled spots
-    (objects_front d s.level (edges_of s) s.owners.now s.facings.now vs c.requires.settled places
+    (on_answer d (levels_in s) (edges_of s) s.owners.now s.facings.now vs c.requires.settled spots
+    (objects_front d (levels_in s) (edges_of s) s.owners.now s.facings.now vs c.requires.settled places
     all spots others c.in_ok-all.ensures parts count) p c.in-Some.ensures)
 
 pub answer_placed-requires-clause-placed : goal.answer_placed-requires-clause-placed
@@ -40,7 +40,7 @@ answer_placed-requires-clause-placed c =
     let count : length spots ≡ length d.points =
     c.split_at.ensures.front_len ∙ c.len.ensures ∙ s.drawing.now.points.ok.0 in
     record {
-      spots_are = objects_front d s.level (edges_of s) s.owners.now s.facings.now
+      spots_are = objects_front d (levels_in s) (edges_of s) s.owners.now s.facings.now
           c.args.swept.events c.requires.settled c.args.places.now c.in_ok-all.all.items spots
           others c.in_ok-all.ensures parts count;
       off = c.in-None.ensures;
@@ -56,7 +56,7 @@ answer_placed-requires-clause-places c =
     sym c.deref.ensures.value ∙ c.split_at.ensures.by_index.0 in
     let count : length spots ≡ length d.points =
     c.split_at.ensures.front_len ∙ c.len.ensures ∙ s.drawing.now.points.ok.0 in
-    places_back d s.level (edges_of s) s.owners.now s.facings.now c.args.swept.events
+    places_back d (levels_in s) (edges_of s) s.owners.now s.facings.now c.args.swept.events
     c.requires.settled c.args.places.now c.in_ok-all.all.items spots others c.in_ok-all.ensures
     parts count
 

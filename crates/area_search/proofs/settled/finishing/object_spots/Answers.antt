@@ -10,5 +10,5 @@ spots_with-requires-clause-near c = λ j x l. absurd (omega (arith, l))
 pub returns : goal.returns
 returns c =
     let s = c.args.settled.now in
-    objects_alone (plan s.drawing.now) s.level (edges_of s) s.owners.now s.facings.now
+    objects_alone (plan s.drawing.now) (levels_in s) (edges_of s) s.owners.now s.facings.now
     c.args.swept.now.events c.requires.settled c.in_ok-spots.spots.items c.in_ok-spots.ensures

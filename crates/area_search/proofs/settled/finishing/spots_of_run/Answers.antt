@@ -8,7 +8,7 @@ use Rattle.area_search.proofs.settled.finishing.spots_of_run.Goals as goal
 pub spots_at-requires-clause-swept : goal.spots_at-requires-clause-swept
 spots_at-requires-clause-swept c =
     let s = c.args.settled.now in
-    subst (λ (es : List Edge). IsCase (plan s.drawing.now) s.level es s.owners.now s.facings.now
+    subst (λ (es : List Edge). IsCase (plan s.drawing.now) (levels_in s) es s.owners.now s.facings.now
     c.args.swept.now.events) (sym (c.deref.ensures.value ∙ c.requires.edges)) c.requires.settled
 
 pub spots_at-requires-clause-few : goal.spots_at-requires-clause-few

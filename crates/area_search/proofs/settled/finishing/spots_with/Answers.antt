@@ -15,7 +15,7 @@ spots_of_run-requires-clause-close c =
     c.deref-2.ensures.value ∙ c.in_ok-extend_from_slice.ensures.items
     ∙ ap (λ (ps : List Point). ps ++ places)
     (c.in_ok-points.ensures ∙ ap (map (λ (p : Placed). p.at)) c.deref.ensures.value) in
-    all_close (plan w) s.level (edges_of s) s.owners.now s.facings.now c.args.swept.now.events
+    all_close (plan w) (levels_in s) (edges_of s) s.owners.now s.facings.now c.args.swept.now.events
     c.requires.settled w.curves_drawn w.points_inside places c.requires.near c.deref-2.result.now
     (edges_of s) same refl
 
@@ -28,5 +28,5 @@ returns c =
     c.deref-2.ensures.value ∙ c.in_ok-extend_from_slice.ensures.items
     ∙ ap (λ (ps : List Point). ps ++ places)
     (c.in_ok-points.ensures ∙ ap (map (λ (p : Placed). p.at)) c.deref.ensures.value) in
-    subst (λ (ps : List Point). AreSpotsOf (plan w) s.level c.args.swept.now.events ps
+    subst (λ (ps : List Point). AreSpotsOf (plan w) (levels_in s) c.args.swept.now.events ps
     c.in_ok-spots.spots.items) same c.in_ok-spots.ensures

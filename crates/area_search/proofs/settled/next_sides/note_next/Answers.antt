@@ -10,7 +10,7 @@ use Rattle.area_search.proofs.settled.next_sides.note_next.Goals as goal
 pub note-requires-clause-there : goal.note-requires-clause-there
 note-requires-clause-there c =
     let s = c.args.settled.now in
-    let n = number_there (plan s.drawing.now) s.level (edges_of s) s.owners.now s.facings.now
+    let n = number_there (plan s.drawing.now) (levels_in s) (edges_of s) s.owners.now s.facings.now
     c.requires.run.0 c.requires.run.1 c.in-Some.side c.args.half c.in-Some.ensures.some in
     let a = c.side_number.ensures in
     let room = c.requires.room in
@@ -19,7 +19,7 @@ note-requires-clause-there c =
 pub note-requires-clause-few : goal.note-requires-clause-few
 note-requires-clause-few c =
     let s = c.args.settled.now in
-    let n = number_there (plan s.drawing.now) s.level (edges_of s) s.owners.now s.facings.now
+    let n = number_there (plan s.drawing.now) (levels_in s) (edges_of s) s.owners.now s.facings.now
     c.requires.run.0 c.requires.run.1 c.in-Some-side_of_half.after c.next.result
     c.in-Some-side_of_half.ensures.some in
     let a = c.side_number-in-Some-side_of_half.ensures in
@@ -37,7 +37,7 @@ returns-in-Some-side_of_half-clause-noted c = λ next.
     let a = c.side_number.ensures in
     let b = c.side_number-in-Some-side_of_half.ensures in
     let i = c.side_number.result in
-    both_noted (plan s.drawing.now) s.level (edges_of s) s.owners.now s.facings.now
+    both_noted (plan s.drawing.now) (levels_in s) (edges_of s) s.owners.now s.facings.now
     c.requires.run.0 c.requires.run.1 c.args.mesh.now c.requires.run.2
     c.args.half side after old new c.requires.there c.in-Some.ensures.some
     (subst (IsHalfOfSide s after) c.next.ensures c.in-Some-side_of_half.ensures.some)
@@ -52,7 +52,7 @@ pub returns-in_default-side_of_half-clause-noted :
     goal.returns-in_default-side_of_half-clause-noted
 returns-in_default-side_of_half-clause-noted c = λ next.
     let s = c.args.settled.now in
-    next_faces (plan s.drawing.now) s.level (edges_of s) s.owners.now s.facings.now
+    next_faces (plan s.drawing.now) (levels_in s) (edges_of s) s.owners.now s.facings.now
     c.requires.run.0 c.requires.run.1 c.args.mesh.now c.requires.run.2
     c.args.half c.args.next.now c.requires.there
     (subst (IsHalfWithin s) c.next.ensures
@@ -61,6 +61,6 @@ returns-in_default-side_of_half-clause-noted c = λ next.
 pub returns-in_default-clause-noted : goal.returns-in_default-clause-noted
 returns-in_default-clause-noted c = λ next.
     let s = c.args.settled.now in
-    first_faces (plan s.drawing.now) s.level (edges_of s) s.owners.now s.facings.now
+    first_faces (plan s.drawing.now) (levels_in s) (edges_of s) s.owners.now s.facings.now
     c.requires.run.0 c.requires.run.1 c.args.mesh.now c.requires.run.2
     c.args.half c.args.next.now c.requires.there (c.side_of_half.ensures.none c.in_default.is) next

@@ -20,9 +20,9 @@ index-curve-requires c =
     let d = plan s.drawing.now in
     let l = subst (λ (x : ℕ). (owner_at s.owners.now (x / 2)).curve < length d.curves)
     (sym c.half.view_is)
-    (curve_there d s.level (edges_of s) s.owners.now s.facings.now c.requires.settled.0
+    (curve_there d (levels_in s) (edges_of s) s.owners.now s.facings.now c.requires.settled.0
     c.requires.settled.1 (c.args.half / 2)
-    (edge_there d s.level (edges_of s) s.owners.now s.facings.now c.requires.settled.0
+    (edge_there d (levels_in s) (edges_of s) s.owners.now s.facings.now c.requires.settled.0
     c.requires.settled.1 c.args.half c.requires.there)) in
     subst (λ (n : ℕ). (owner_at s.owners.now (c.half.inside.0 / 2)).curve < n)
     (sym s.drawing.now.curves.ok.0) l
@@ -34,9 +34,9 @@ is_chain_left-requires c =
     let d = plan w in
     let l = subst (λ (x : ℕ). (owner_at s.owners.now (x / 2)).curve < length d.curves)
     (sym c.half.view_is)
-    (curve_there d s.level (edges_of s) s.owners.now s.facings.now c.requires.settled.0
+    (curve_there d (levels_in s) (edges_of s) s.owners.now s.facings.now c.requires.settled.0
     c.requires.settled.1 (c.args.half / 2)
-    (edge_there d s.level (edges_of s) s.owners.now s.facings.now c.requires.settled.0
+    (edge_there d (levels_in s) (edges_of s) s.owners.now s.facings.now c.requires.settled.0
     c.requires.settled.1 c.args.half c.requires.there)) in
     subst IsTurnable (sym (nth_curve_is d _ c.index-curve.result.now l c.index-curve.ensures))
     (curves_turn d w.window refl w.curves_drawn d.curves refl _ l)
@@ -47,10 +47,10 @@ returns-in-Straight-clause-some c =
     let d = plan s.drawing.now in
     let curve = c.index-curve.result.now in
     let left = c.is_on_left.result in
-    subst (λ (x : ℕ). IsHalfOf d (length (edges_of s)) (edge_at d (λ n. s.level)) (owned_at d (λ n. s.level))
+    subst (λ (x : ℕ). IsHalfOf d (length (edges_of s)) (edge_at d (levels_in s)) (owned_at d (levels_in s))
     (record { curve = (owner_at s.owners.now (x / 2)).curve; left = left }) c.args.half)
     (sym c.half.view_is)
-    (straight_on d s.level (edges_of s) s.owners.now s.facings.now c.requires.settled.0
+    (straight_on d (levels_in s) (edges_of s) s.owners.now s.facings.now c.requires.settled.0
     c.requires.settled.1 c.args.half c.requires.there curve
     (subst (λ (x : ℕ). curve ≡ get_or d.curves (owner_at s.owners.now (x / 2)).curve curve)
     c.half.view_is c.index-curve.ensures)
@@ -66,23 +66,23 @@ returns-else-is_within c =
     let curve = c.index-curve.result.now in
     let left = c.is_chain_left.result in
     let e = c.args.half / 2 in
-    let there = edge_there d s.level (edges_of s) s.owners.now s.facings.now c.requires.settled.0
+    let there = edge_there d (levels_in s) (edges_of s) s.owners.now s.facings.now c.requires.settled.0
     c.requires.settled.1 c.args.half c.requires.there in
     let bent = subst (λ (x : ℕ). (owner_at s.owners.now (x / 2)).part ≡ part.Straight → ⊥)
     c.half.view_is c.in_default.not-Straight in
-    let tube = is_tube d s.level (edges_of s) s.owners.now s.facings.now c.requires.settled.0
+    let tube = is_tube d (levels_in s) (edges_of s) s.owners.now s.facings.now c.requires.settled.0
     c.requires.settled.1 e there bent in
     let facing = subst (λ (x : ℕ). facing_in s.facings.now (x / 2)
-    ≡ facing_of (owned_at d (λ n. s.level) e).part (half_within d (drawn_bays d (λ n. s.level))
-    (edge_at d (λ n. s.level)) e)) (sym c.half.view_is)
-    (facing_is d s.level (edges_of s) s.owners.now s.facings.now c.requires.settled.0
+    ≡ facing_of (owned_at d (levels_in s) e).part (half_within d (drawn_bays d (levels_in s))
+    (edge_at d (levels_in s)) e)) (sym c.half.view_is)
+    (facing_is d (levels_in s) (edges_of s) s.owners.now s.facings.now c.requires.settled.0
     c.requires.settled.1 e there) in
     record {
-      some = subst (λ (x : ℕ). IsHalfOf d (length (edges_of s)) (edge_at d (λ n. s.level))
-          (owned_at d (λ n. s.level))
+      some = subst (λ (x : ℕ). IsHalfOf d (length (edges_of s)) (edge_at d (levels_in s))
+          (owned_at d (levels_in s))
           (record { curve = (owner_at s.owners.now (x / 2)).curve; left = left }) c.args.half)
           (sym c.half.view_is)
-          (tube_on d s.level (edges_of s) s.owners.now s.facings.now c.requires.settled.0
+          (tube_on d (levels_in s) (edges_of s) s.owners.now s.facings.now c.requires.settled.0
           c.requires.settled.1 c.args.half c.requires.there curve
           (subst (λ (x : ℕ). curve ≡ get_or d.curves (owner_at s.owners.now (x / 2)).curve curve)
           c.half.view_is c.index-curve.ensures)
@@ -90,9 +90,9 @@ returns-else-is_within c =
           (subst (λ (x : ℕ). (p : Part) → IsOfTube p
           → (owner_at s.owners.now (x / 2)).part ≡ part_of p → IsPartOf p curve left)
           c.half.view_is c.is_chain_left.ensures)
-          (c.is_within.ensures.outside (owned_at d (λ n. s.level) e).part
-          (half_within d (drawn_bays d (λ n. s.level)) (edge_at d (λ n. s.level)) e) tube
-          (within_edge d s.level (edges_of s) s.owners.now s.facings.now c.requires.settled.0
+          (c.is_within.ensures.outside (owned_at d (levels_in s) e).part
+          (half_within d (drawn_bays d (levels_in s)) (edge_at d (levels_in s)) e) tube
+          (within_edge d (levels_in s) (edges_of s) s.owners.now s.facings.now c.requires.settled.0
           c.requires.settled.1 e) facing c.if-is_within.false));
       none = λ n. absurd (cc);
     }

@@ -11,7 +11,7 @@ pub regions_of_spots-requires-clause-few : goal.regions_of_spots-requires-clause
 regions_of_spots-requires-clause-few c =
     let r = c.args.run.now in
     let s = r.settled.now in
-    few_edges (plan s.drawing.now) s.level (edges_of s) s.owners.now s.facings.now
+    few_edges (plan s.drawing.now) (levels_in s) (edges_of s) s.owners.now s.facings.now
     c.requires.run.vs c.requires.run.settled r.labelled.now.mesh
     c.requires.run.outline
 
@@ -20,7 +20,7 @@ regions_of_spots-requires-clause-besides c =
     let r = c.args.run.now in
     let s = r.settled.now in
     let d = plan s.drawing.now in
-    subst (AreBeside d s.level r.labelled.now.mesh.face (length d.curves))
+    subst (AreBeside d (levels_in s) r.labelled.now.mesh.face (length d.curves))
     (sym c.deref.ensures.value) c.requires.besides
 
 pub regions_of_spots-requires-clause-known : goal.regions_of_spots-requires-clause-known
@@ -30,10 +30,10 @@ regions_of_spots-requires-clause-known c =
     let d = plan s.drawing.now in
     let h = c.requires.run in
     let laws = c.chains_have_edges.ensures in
-    places_have d s.level (edges_of s) s.owners.now s.facings.now h.vs h.settled r.spots.now
+    places_have d (levels_in s) (edges_of s) s.owners.now s.facings.now h.vs h.settled r.spots.now
     h.placed r.labelled.now.mesh r.labelled.now.count h.faces
-    (λ i a. arc_first d s.level i (laws.inner d (λ n. s.level) i h.settled.tubes a)
-    (laws.outer d (λ n. s.level) i a)) c.args.owners.now c.requires.owned r.places.now r.place_spots.now
+    (λ i a. arc_first d (levels_in s) i (laws.inner d (levels_in s) i h.settled.tubes a)
+    (laws.outer d (levels_in s) i a)) c.args.owners.now c.requires.owned r.places.now r.place_spots.now
     h.places
 
 pub regions_of_spots-requires-clause-owned : goal.regions_of_spots-requires-clause-owned
@@ -43,10 +43,10 @@ regions_of_spots-requires-clause-owned c =
     let d = plan s.drawing.now in
     let h = c.requires.run in
     let laws = c.chains_have_edges.ensures in
-    places_known d s.level (edges_of s) s.owners.now s.facings.now h.vs h.settled r.spots.now
+    places_known d (levels_in s) (edges_of s) s.owners.now s.facings.now h.vs h.settled r.spots.now
     h.placed r.labelled.now.mesh r.labelled.now.count h.faces
-    (λ i a. arc_first d s.level i (laws.inner d (λ n. s.level) i h.settled.tubes a)
-    (laws.outer d (λ n. s.level) i a)) c.args.owners.now c.requires.owned r.places.now r.place_spots.now
+    (λ i a. arc_first d (levels_in s) i (laws.inner d (levels_in s) i h.settled.tubes a)
+    (laws.outer d (levels_in s) i a)) c.args.owners.now c.requires.owned r.places.now r.place_spots.now
     h.places
 
 pub returns : goal.returns
@@ -56,8 +56,8 @@ returns c =
     let d = plan s.drawing.now in
     let h = c.requires.run in
     let laws = c.chains_have_edges.ensures in
-    regions_are d s.level (edges_of s) s.owners.now s.facings.now h.vs h.settled r.spots.now
+    regions_are d (levels_in s) (edges_of s) s.owners.now s.facings.now h.vs h.settled r.spots.now
     h.placed r.labelled.now.mesh r.labelled.now.count h.faces
-    (λ i a. arc_first d s.level i (laws.inner d (λ n. s.level) i h.settled.tubes a)
-    (laws.outer d (λ n. s.level) i a)) c.args.owners.now c.requires.owned r.places.now r.place_spots.now
+    (λ i a. arc_first d (levels_in s) i (laws.inner d (levels_in s) i h.settled.tubes a)
+    (laws.outer d (levels_in s) i a)) c.args.owners.now c.requires.owned r.places.now r.place_spots.now
     h.places c.in_ok-regions.regions.items c.in_ok-regions.ensures

@@ -6,5 +6,5 @@ use Rattle.area_search.proofs.settled.place_regions.regions_of_spots.Given as go
 abbrev pub invariant-loop-place : goal.invariant-loop-place
 invariant-loop-place l =
     l.regions.items
-    ≡ spot_regions (plan l.settled.drawing.now) l.settled.level l.mesh.face l.owners
+    ≡ spot_regions (plan l.settled.drawing.now) (levels_in l.settled) l.mesh.face l.owners
     (take l.place l.spots)

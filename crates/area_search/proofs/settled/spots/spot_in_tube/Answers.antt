@@ -13,7 +13,7 @@ side_in_tube-requires c = record {
   side = subst (λ (x : Curve). HasSide (arc x) (point c.args.at))
       (sym (nth_curve_is (plan c.args.swept.now.drawing.now) c.args.number c.index.result.now
       c.requires.tube.there c.index.ensures))
-      (tube_side (plan c.args.swept.now.drawing.now) c.args.swept.now.level
+      (tube_side (plan c.args.swept.now.drawing.now) (level_by c.args.swept.now.levels.now)
       c.args.swept.now.edges.now c.args.swept.now.owners.now c.args.swept.now.facings.now
       c.args.swept.now.run.now.events c.requires.swept c.args.at c.args.number c.requires.tube);
 }

@@ -9,7 +9,7 @@ use Rattle.area_search.proofs.settled.spots.spot_of.Goals as goal
 pub spot_in_tube-requires : goal.spot_in_tube-requires
 spot_in_tube-requires c = record {
   swept = c.requires.swept;
-  tube = owner_tube (plan c.args.swept.now.drawing.now) c.args.swept.now.level
+  tube = owner_tube (plan c.args.swept.now.drawing.now) (level_by c.args.swept.now.levels.now)
       c.args.swept.now.edges.now c.args.swept.now.owners.now c.args.swept.now.facings.now
       c.args.swept.now.run.now.events c.requires.swept
       c.args.at c.in-OnEdge.edge
@@ -20,7 +20,7 @@ spot_in_tube-requires c = record {
 
 pub tube_over-requires-clause-known : goal.tube_over-requires-clause-known
 tube_over-requires-clause-known c =
-    cell_over (plan c.args.swept.now.drawing.now) c.args.swept.now.level c.args.swept.now.edges.now
+    cell_over (plan c.args.swept.now.drawing.now) (level_by c.args.swept.now.levels.now) c.args.swept.now.edges.now
     c.args.swept.now.owners.now c.args.swept.now.facings.now c.args.swept.now.run.now.events
     c.requires.swept
     c.args.at c.in-Cell.position c.in-Cell.lower c.in-Cell.upper
@@ -29,7 +29,7 @@ tube_over-requires-clause-known c =
 
 pub spot_in_tube-requires-in-Some-clause-tube : goal.spot_in_tube-requires-in-Some-clause-tube
 spot_in_tube-requires-in-Some-clause-tube c =
-    cell_tube (plan c.args.swept.now.drawing.now) c.args.swept.now.level c.args.swept.now.edges.now
+    cell_tube (plan c.args.swept.now.drawing.now) (level_by c.args.swept.now.levels.now) c.args.swept.now.edges.now
     c.args.swept.now.owners.now c.args.swept.now.facings.now c.args.swept.now.run.now.events
     c.requires.swept
     c.args.at c.in-Cell.position c.in-Some.curve c.in-Cell.lower c.in-Cell.upper
@@ -38,7 +38,7 @@ spot_in_tube-requires-in-Some-clause-tube c =
 
 pub returns-in-Straight : goal.returns-in-Straight
 returns-in-Straight c =
-    owner_straight (plan c.args.swept.now.drawing.now) c.args.swept.now.level
+    owner_straight (plan c.args.swept.now.drawing.now) (level_by c.args.swept.now.levels.now)
     c.args.swept.now.edges.now c.args.swept.now.owners.now c.args.swept.now.facings.now
     c.args.swept.now.run.now.events c.requires.swept
     c.args.at c.in-OnEdge.edge

@@ -7,7 +7,7 @@ use Rattle.area_search.proofs.settled.spots.spots_at.Goals as goal
 pub spot_of-requires-clause-place : goal.spot_of-requires-clause-place
 spot_of-requires-clause-place c =
     let s = c.args.swept.now in
-    place_is (plan s.drawing.now) s.level s.edges.now s.owners.now s.facings.now s.run.now.events
+    place_is (plan s.drawing.now) (level_by s.levels.now) s.edges.now s.owners.now s.facings.now s.run.now.events
     c.requires.swept c.args.points.now s.edges.now c.in_ok-places.places.items
     refl c.in_ok-places.ensures c.loop-number.number c.index.result.now
     c.loop-number-test.true c.index.ensures
@@ -20,7 +20,7 @@ loop-number-preserved c =
     record {
       size = one_more_size c.loop-number.spots.items c.push.new.self.items c.spot_of.result
           c.loop-number.number i.size p;
-      each = spots_grown (plan s.drawing.now) s.level s.edges.now s.owners.now s.facings.now
+      each = spots_grown (plan s.drawing.now) (level_by s.levels.now) s.edges.now s.owners.now s.facings.now
           s.run.now.events c.requires.swept c.args.points.now c.loop-number.number
           c.spot_of.result c.loop-number.spots.items c.push.new.self.items
           i.size p i.each c.spot_of.ensures;
