@@ -17,7 +17,7 @@ use line_sweep::{BadEdges, SweepRefusal, Swept, clashing, sweep};
 use plane::Drawing;
 use ports::Memory;
 use std::alloc::Global;
-use tubes::{EdgeList, Owner, edge_list, facings};
+use tubes::{EdgeList, Levels, Owner, edge_list, facings};
 
 /// What the last level shows of a drawing.
 #[derive(Drop)]
@@ -114,9 +114,10 @@ fn settle_run(
         return near_cells(alloc, drawing, &list, swept, firm);
     };
     let EdgeList { edges, owners } = list;
+    let levels = Levels::One(5);
     let settled = SettledDrawing {
         drawing,
-        level: 5,
+        levels: &levels,
         owners: &owners,
         facings: &facings,
     };
