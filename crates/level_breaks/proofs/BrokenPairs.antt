@@ -196,11 +196,11 @@ module _ (d : Plan) (level : ℕ → ℕ)
 
   -- of the lists of a drawing
   module _ (tubes : List (Option Tube)) (boxes : List Reach) (marks : List Bool)
-      (ht : AreTubesAt d level tubes) (hb : AreBoxesTo d.curves tubes (length d.curves) boxes)
-      (hm : AreBreaksMarked d level marks) where
-    pub broken_near : (i j : ℕ) → i < j → j < length d.curves → Breaks d level i j
-        → AreNear boxes marks i j
-    broken_near i j l m h =
+      (ht : AreTubesAt d level tubes)
+      (hb : AreBoxesTo d.curves tubes (length d.curves) boxes) where
+    pub marked_near : (i j : ℕ) → i < j → j < length d.curves → IsOneMarked marks i j
+        → Breaks d level i j → AreNear boxes marks i j
+    marked_near i j l m o h =
         let k : i < length d.curves = omega (arith, l, m) in
         let g = groups_of d level i j (λ e. omega (arith, l, e)) h in
         let ti = tubed_of (level i) (curve d i) (tube_of tubes i) (ht.each i k)
@@ -208,11 +208,15 @@ module _ (d : Plan) (level : ℕ → ℕ)
         let tj = tubed_of (level j) (curve d j) (tube_of tubes j) (ht.each j m)
         (group_has_edges d level j (tube_of tubes j) (ht.each j m) g.1) in
         record {
-          mark = hm i j l m h;
+          mark = o;
           place = broken_shares i j (tube_of tubes i) (tube_of tubes j)
               (λ e. omega (arith, l, e)) ti tj (box_of (reach_of boxes i))
               (box_of (reach_of boxes j)) (hb.holds i k) (hb.holds j m) h;
         }
+
+    pub broken_near : AreBreaksMarked d level marks → (i j : ℕ) → i < j → j < length d.curves
+        → Breaks d level i j → AreNear boxes marks i j
+    broken_near hm i j l m h = marked_near i j l m (hm i j l m h) h
 
 -- ---- of a drawing in which no two straights are bad the half arcs are marked
 pub half_arcs_marked : ((s t : Edge) (c d : Curve) → IsEdgeOf s c → IsEdgeOf t d

@@ -16,3 +16,6 @@ pub mod PairBreaks
 pub mod FirstBreaks
 pub mod SameCurves
 pub mod AloneMarks
+pub mod RisingNumbers
+pub mod BreakCounts
+pub mod ChosenLevels

@@ -3,3 +3,5 @@ pub mod GroupBreaks
 pub mod LevelLists
 pub mod Stretches
 pub mod Parts
+pub mod OwnLevels
+pub mod LevelChoices

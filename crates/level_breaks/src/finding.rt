@@ -23,12 +23,12 @@ use tubes::Tube;
 
 // A drawing with its tubes at a level and the boxes of its curves, of which pairs are tested.
 #[derive(Drop)]
-struct BreakTest<'a> {
-    drawing: &'a Drawing,
-    level: u8,
-    tubes: &'a [Option<Tube>],
-    boxes: &'a [Reach],
-    alone: &'a [bool],
+pub(crate) struct BreakTest<'a> {
+    pub drawing: &'a Drawing,
+    pub level: u8,
+    pub tubes: &'a [Option<Tube>],
+    pub boxes: &'a [Reach],
+    pub alone: &'a [bool],
 }
 
 impl<'a> BreakTest<'a> {
@@ -80,8 +80,8 @@ impl<'a> PairTest for BreakTest<'a> {
 }
 
 // Whether one of the two numbers is marked.
-fn one_is_marked(marks: &[bool], first: u32, second: u32) -> bool
-    ensures { IsTrue result → IsOneMarked marks.now first second }
+pub(crate) fn one_is_marked(marks: &[bool], first: u32, second: u32) -> bool
+    ensures { IsTrue result ↔ IsOneMarked marks.now first second }
 {
     is_marked(marks, first) || is_marked(marks, second)
 }

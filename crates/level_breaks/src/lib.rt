@@ -39,19 +39,23 @@
 #![tactic(auto)]
 
 mod boxes;
+mod choosing;
 mod chords;
+mod counting;
 mod entering;
 mod finding;
 mod groups;
 mod halves;
 pub mod laws;
 mod listing;
+mod marked_breaks;
 mod meeting;
 mod one_pair;
 mod pairs;
 mod parts;
 mod triangles;
 
+pub use choosing::own_levels;
 pub use finding::{first_break, first_break_among};
 pub use one_pair::breaks_level;
 pub use pairs::LevelBreak;

@@ -10,7 +10,7 @@ returns-then-one_is_marked c =
     let s = c.args.self.now in
     let r = c.requires in
     alone_is_sought (plan s.drawing.now) (λ n. s.level) c.args.first c.args.second s.alone.now r.0 r.1 r.5
-    (c.one_is_marked.ensures c.if-one_is_marked.true)
+    (c.one_is_marked.ensures.0 c.if-one_is_marked.true)
 
 pub are_breaking-requires : goal.are_breaking-requires
 are_breaking-requires c = λ eg eh.
