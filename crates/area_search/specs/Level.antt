@@ -2,3 +2,4 @@
 pub mod LevelAnswers
 pub mod CellSides
 pub mod OwnCorners
+pub mod OwnFaces

@@ -4,6 +4,7 @@ pub mod Answers
 pub mod Faced
 pub mod Grounds
 pub mod Regions
+pub mod SettlingLevels
 pub mod Level
 pub mod Settled
 pub mod Unsettled

@@ -47,7 +47,9 @@
 //         first_break_among       level_breaks
 //
 // `settled_faces` (`numbered_faces`) tries the same levels by `all_levels`, and reads the faces of
-// the drawing off the run of the level that settles it (`settled::drawing_faces`).
+// the drawing off the run of the level that settles it (`settled::drawing_faces`). `own_faces`
+// (`own_faces`) does so where no level settles the drawing, but a level for each half arc does
+// (`level_breaks::own_levels`).
 //
 // `faces_of_straights` (`straights`) goes the same way with level 0 alone, which settles each
 // drawing of straights of which no two are bad: `edge_list`, `sweep`, `settled_facings`, and of the
@@ -61,6 +63,7 @@ mod finding;
 mod missing_tubes;
 mod numbered_faces;
 mod own_corners;
+mod own_faces;
 mod settled_levels;
 mod settled_runs;
 mod straights;
@@ -70,5 +73,6 @@ pub(crate) use cell_sides::mark_unpaired;
 pub(crate) use finding::settled_answer;
 pub use finding::{find_area, find_objects};
 pub use numbered_faces::{SettledFaces, settled_faces};
+pub use own_faces::{OwnFaces, own_faces};
 pub(crate) use settled_runs::settled_facings;
 pub use straights::faces_of_straights;

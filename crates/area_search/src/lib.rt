@@ -34,7 +34,8 @@
 //! - **Faces.** `faces_of_straights` gives the mesh of a drawing of straights that is a partition,
 //!   with its faces and the face of each object's point, for whoever asks what bounds a region.
 //!   `settled_faces` gives the faces of any drawing that a level settles by numbers, of its points
-//!   and beside its curves, and the sides that follow one another round them, whatever is at fault.
+//!   and beside its curves, and the sides that follow one another round them, whatever is at fault;
+//!   `own_faces` so where no level does, but a level for each half arc (`level_breaks`).
 //! - **For `area_faults`:** `points_on_marked`, `numbers_with` and `mesh_of_run`.
 //! - **Degenerate cases.** No line, no point, several rings, holes, lines that end inside a region,
 //!   rings that touch in a vertex, equal points and points at vertices are all taken.
@@ -61,7 +62,8 @@ mod settled;
 mod unsettled;
 
 pub use kinds::{AreaAnswer, AreaFinding, FacedDrawing, FoundObjects, Region};
-pub use level::{SettledFaces, faces_of_straights, find_area, find_objects, settled_faces};
+pub use level::{OwnFaces, SettledFaces, faces_of_straights, find_area, find_objects, own_faces};
+pub use level::settled_faces;
 pub use numbers::numbers_with;
 pub use points::OnCurve;
 pub use settled::mesh_of_run;

@@ -3,7 +3,8 @@
 //! - **What it answers.** `tube` gives the tube of a half arc at a level from 0 to 5: corners by
 //!   whole numbers, whose triangles cover the half arc. `holds` says whether a point is in one of
 //!   a tube's closed triangles. `edge_list` gives the edges that stand for the curves of a
-//!   drawing at a level, in their order, each with its curve: for a straight its edge, from the end
+//!   drawing at a level, and `edge_list_by` those with a level for each half arc, in their order,
+//!   each with its curve: for a straight its edge, from the end
 //!   that comes first by x, then y, to the other one; for a half arc the inner chain of its tube,
 //!   then the outer one. Of a list at a level, `facings` says which side of each edge faces its
 //!   tube, and `foreign_corner` the first event at which a corner of a tube, other than the ends of
@@ -69,5 +70,5 @@ pub use corners::foreign_corner;
 pub use facing::facings;
 pub use holding::{holds, is_in_triangle};
 pub use kinds::{EdgeList, Facing, Levels, Owner, Part, Tube};
-pub use listing::edge_list;
+pub use listing::{edge_list, edge_list_by};
 pub use making::tube;

@@ -1,12 +1,13 @@
 // The edge list of a drawing whose half arcs have tubes.
-ghost use Rattle.std.specs.Prelude.{◌≡◌, ◌++◌, ◌∷◌, [], ◌≤◌, IfOk, OnOk, map};
+ghost use Rattle.std.specs.Prelude.{◌≡◌, ◌++◌, ◌∷◌, [], ◌≤◌, ℕ, IfOk, OnOk, map};
 ghost use Rattle.plane.specs.Rule.Plans.{plan};
 ghost use Rattle.plane.specs.declared.kinds.CurveKind.TheVariants as kind;
 ghost use Rattle.tubes.specs.DrawnEdges.{edge_from};
+ghost use Rattle.tubes.specs.Levels.{level_by};
 ghost use Rattle.tubes.specs.TubedEdges.{AreDistinct, IsAdded, IsFit, IsListAt, IsTubeAdded};
 ghost use Rattle.tubes.specs.TubedEdges.{IsUsable, chain_edges, each_owner};
 
-use super::kinds::{EdgeList, Owner, Part, Tube};
+use super::kinds::{EdgeList, Levels, Owner, Part, Tube};
 use super::making::tube;
 use plane::{Curve, CurveKind, Drawing, Edge, Point};
 use ports::Memory;
@@ -21,10 +22,24 @@ pub fn edge_list(alloc: Global, drawing: &Drawing, level: u8) -> Result<Option<E
     ensures list { IfOk result (IsListAt (plan drawing.now) (λ i. level)) }
     ensures usable { IfOk result (IsUsable (plan drawing.now)) }
 {
+    edge_list_by(alloc, drawing, &Levels::One(level))
+}
+
+/// The same with a level from 0 to 5 for each half arc.
+pub fn edge_list_by(
+    alloc: Global,
+    drawing: &Drawing,
+    levels: &Levels,
+) -> Result<Option<EdgeList>, Memory>
+    requires { (i : ℕ) → level_by levels.now i ≤ 5 }
+    ensures list { IfOk result (IsListAt (plan drawing.now) (level_by levels.now)) }
+    ensures usable { IfOk result (IsUsable (plan drawing.now)) }
+{
     let mut edges = Vec::with_capacity(alloc, drawing.curves.len())?;
     let mut owners = Vec::with_capacity(alloc, drawing.curves.len())?;
     for (i, curve) in drawing.curves.iter().enumerate() {
         let number = i as u32;
+        let level = levels.of(number);
         if !add_curve(alloc, &mut edges, &mut owners, number, curve, level)? {
             return Ok(None);
         }

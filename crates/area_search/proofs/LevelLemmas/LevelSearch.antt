@@ -60,10 +60,10 @@ none_of_all d f g = none_of_both d both g
 pub six_unsettled : (d : Plan) (k : ℕ) → 6 ≤ k → SettlesNoneBelow d k → IsUnsettled d
 six_unsettled d k m none l low s = none l (omega (arith, low, m)) s
 
--- ---- the edges at a level that settles
-module _ (d : Plan) (level : ℕ) (list : EdgeList)
-    (edges_are : list.edges.items ≡ edges_at d (λ n. level)) where
-  pub never_bad : IsSettledAt d (λ n. level) → ((a b : Edge) → Bad a b → Disjoint a b → ⊥)
+-- ---- the edges at levels that settle
+module _ (d : Plan) (levels : ℕ → ℕ) (list : EdgeList)
+    (edges_are : list.edges.items ≡ edges_at d levels) where
+  pub never_bad : IsSettledAt d levels → ((a b : Edge) → Bad a b → Disjoint a b → ⊥)
       → ((a b : Edge) → Bad a b → Touch a b → ⊥) → (edges : List Edge) → edges ≡ list.edges.items
       → (e f : ℕ) → AreBad edges e f → ⊥
   never_bad s apart touch edges same e f h = by (subst (λ es. AreBad es e f) (same ∙ edges_are) h)
@@ -72,8 +72,8 @@ module _ (d : Plan) (level : ℕ) (list : EdgeList)
       no a b k (inl x) = apart a b k x
       no a b k (inr x) = touch a b k x
 
-      by : AreBad (edges_at d (λ n. level)) e f → ⊥
-      by k = no (edge_at d (λ n. level) e) (edge_at d (λ n. level) f) k.bad (s.meet e f k.first k.second k.differ)
+      by : AreBad (edges_at d levels) e f → ⊥
+      by k = no (edge_at d levels e) (edge_at d levels f) k.bad (s.meet e f k.first k.second k.differ)
 
 -- ---- the curves of edges
 -- the owners at a level are curves of the drawing

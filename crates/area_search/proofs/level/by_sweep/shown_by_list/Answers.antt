@@ -43,6 +43,6 @@ returns-in-Err-Bad c =
     let d = plan c.args.drawing.now in
     let e = c.tubed_lists.ensures.edges d (λ n. c.args.level) c.args.list c.requires.list in
     c.shown_by_edges.ensures c.args.level
-    (λ s. never_bad d c.args.level c.args.list e s c.meetings_are_decided.ensures.apart
+    (λ s. never_bad d (λ n. c.args.level) c.args.list e s c.meetings_are_decided.ensures.apart
     c.meetings_are_decided.ensures.touch c.deref.result.now c.deref.ensures.value _ _
     (subst (IsRefused c.deref.result.now) c.in-Err-Bad.field-0-is c.in-Err-Bad.ensures.refused))

@@ -7,7 +7,7 @@ use Rattle.area_search.proofs.level.straights.faces_of_list.Goals as goal
 pub unreachable-requires : goal.unreachable-requires
 unreachable-requires c =
     let d = plan c.args.drawing.now in
-    never_bad d 0 c.args.list (c.tubed_lists.ensures.edges d (λ n. 0) c.args.list c.requires.list)
+    never_bad d (λ n. 0) c.args.list (c.tubed_lists.ensures.edges d (λ n. 0) c.args.list c.requires.list)
     c.requires.settled c.meetings_are_decided.ensures.apart c.meetings_are_decided.ensures.touch
     c.deref.result.now c.deref.ensures.value _ _
     (subst (IsRefused c.deref.result.now) c.in-Err-Bad.field-0-is c.in-Err-Bad.ensures.refused)
