@@ -19,11 +19,11 @@ use Rattle.fault_lists.specs.declared.kinds.Faults.{Faults}
 use Rattle.fault_lists.specs.declared.kinds.MeetingAt.{MeetingAt}
 use Rattle.fault_lists.specs.declared.kinds.OnAt.{OnAt}
 use Rattle.fault_lists.specs.FaultLists.{IsMet}
-use Rattle.area_faults.specs.Answers.{AreAllFaults, AreBentFaults}
+use Rattle.area_faults.specs.Answers.{AreAllFaults, AreBentFaults, AreDrawnFaults}
 use Rattle.area_faults.specs.Firsts as first
 use Rattle.area_faults.specs.Firsts.{IsFirstBy, IsProved, TellsNoFault}
 use Rattle.area_faults.proofs.Firsts.{none_in}
-use Rattle.area_faults.proofs.FirstFaults.{first_on, is_first}
+use Rattle.area_faults.proofs.FirstFaults.{first_on, is_first, no_meetings as no_entries}
 use Rattle.area_faults.proofs.NoFaults.{ProvedAreRight, no_first, proved_has_none}
 use Rattle.area_faults.proofs.ToldFaults.{no_bad_pair, no_meetings}
 
@@ -43,15 +43,24 @@ pub record OneBent : Type 0 where
 pub one_bent : OneDrawing → OneOrigin → OneBent
 one_bent drawing origin = record { drawing = drawing; origin = origin }
 
+-- what becomes of a drawing that is told on itself, where no level settles it, is itself
+pub same_ground : OneDrawing → (t : ℤ) (d : Plan) (f : Faults) → AreDrawnFaults t d f → (g : Plan)
+    (os : List ℕ) → AreClear d → IsUnsettled d → IsBentOf t d g os → g ≡ d
+same_ground one t d f all g os clear u b =
+    let (ps, k) = all.ground (no_entries d f all.all clear.pairs) u in one t d g d os ps b k
+
+-- so no level settles that
+pub never_settled : OneDrawing → (t : ℤ) (d : Plan) (f : Faults) → AreDrawnFaults t d f → (g : Plan)
+    (os : List ℕ) → AreClear d → IsUnsettled d → IsBentOf t d g os → IsSettled g → ⊥
+never_settled one t d f all g os clear u b s =
+    not_settled d u (subst IsSettled (same_ground one t d f all g os clear u b) s)
+
 not_met : {P : Type 0} (ms : List MeetingAt) (i : ℕ) → ms ≡ [] → IsMet ms i → P
 not_met ms i e (m, c, h) = absurd (none_in ms m e c)
 
 module _ (t : ℤ) (d g : Plan) (os : List ℕ) (f : Faults) (all : AreBentFaults t d g os f) where
   unsettled : IsUnsettled d
   unsettled = all.right.bent refl
-
-  settled : IsSettled g
-  settled = all.all.settled all.clear
 
   is_bent : IsBentOf t d g os
   is_bent = of all.right.is_ground
@@ -115,12 +124,15 @@ module _ (t : ℤ) (d g : Plan) (os : List ℕ) (f : Faults) (all : AreBentFault
   own_first _ (answer.empty i left alone s least) = absurd (not_settled d unsettled s)
   own_first _ (answer.cut i filled s least) = absurd (not_settled d unsettled s)
 
-  bent_first : (x : AreaFinding) (b : AreaAnswer) → AreClear d → AreClear g → IsAnswer g b
-      → Fault x ≡ named os b → IsFirstBy os f x
-  bent_first x (Proved c) clear cg h e = absurd cc
-  bent_first x (Undecided i j) clear cg h e = absurd cc
-  bent_first x (Fault y) clear cg h e =
-      (y, is_first g f (of_ground clear cg) t y (by.own h tt), cc)
+  bent_first : (x : AreaFinding) (b : AreaAnswer) → AreClear d → AreClear g → IsSettled g
+      → IsAnswer g b → Fault x ≡ named os b → IsFirstBy os f x
+  bent_first x (Proved c) clear cg s h e = absurd cc
+  bent_first x (Undecided i j) clear cg s h e = absurd cc
+  bent_first x (Fault y) clear cg s h e = (
+    y,
+    is_first g f (of_ground clear cg) t (λ p ps k u b q. not_settled g u s) y (by.own h tt),
+    cc,
+  )
 
   module _ (one : OneBent) where
     same : (h : Plan) (ps : List ℕ) → IsBentOf t d h ps → h ≡ g
@@ -129,18 +141,19 @@ module _ (t : ℤ) (d g : Plan) (os : List ℕ) (f : Faults) (all : AreBentFault
     pub is_first_by : (x : AreaFinding) → IsAnswerBy t d (Fault x) → IsFirstBy os f x
     is_first_by x (by.own h n) = own_first x h
     is_first_by x (by.bent h ps b clear u bo ch s ha e) =
-        bent_first x b clear (subst AreClear (same h ps bo) ch)
+        bent_first x b clear (subst AreClear (same h ps bo) ch) (subst IsSettled (same h ps bo) s)
         (subst (λ (p : Plan). IsAnswer p b) (same h ps bo) ha)
         (subst (λ (qs : List ℕ). Fault x ≡ named qs b) (one.origin t d h g ps os bo is_bent) e)
     is_first_by x (by.undecided h ps i j clear u bo ug br e) = absurd cc
 
     -- ---- certificates
     bent_proved : ProvedAreRight → (c : Certificate) (b : AreaAnswer) → AreClear d → AreClear g
-        → IsAnswer g b → Proved c ≡ named os b → TellsNoFault f
-    bent_proved law c (Proved k) clear cg h e =
-        proved_has_none g f (of_ground clear cg) law t (Proved k) (by.own h tt) tt
-    bent_proved law c (Fault y) clear cg h e = absurd cc
-    bent_proved law c (Undecided i j) clear cg h e = absurd cc
+        → IsSettled g → IsAnswer g b → Proved c ≡ named os b → TellsNoFault f
+    bent_proved law c (Proved k) clear cg s h e =
+        proved_has_none g f (of_ground clear cg) law t
+        (λ p ps q u b. absurd (not_settled g u s)) (Proved k) (by.own h tt) tt
+    bent_proved law c (Fault y) clear cg s h e = absurd cc
+    bent_proved law c (Undecided i j) clear cg s h e = absurd cc
 
     own_proved : (c : Certificate) → IsAnswer d (Proved c) → TellsNoFault f
     own_proved _ (answer.proved c p l n k) = absurd (not_settled d unsettled (c.level, l))
@@ -149,7 +162,7 @@ module _ (t : ℤ) (d g : Plan) (os : List ℕ) (f : Faults) (all : AreBentFault
     proved law c (by.own h n) = own_proved c h
     proved law c (by.bent h ps b clear u bo ch s ha e) =
         bent_proved law c b clear (subst AreClear (same h ps bo) ch)
-        (subst (λ (p : Plan). IsAnswer p b) (same h ps bo) ha)
+        (subst IsSettled (same h ps bo) s) (subst (λ (p : Plan). IsAnswer p b) (same h ps bo) ha)
         (subst (λ (qs : List ℕ). Proved c ≡ named qs b) (one.origin t d h g ps os bo is_bent) e)
     proved law c (by.undecided h ps i j clear u bo ug br e) = absurd cc
 
@@ -159,22 +172,24 @@ module _ (t : ℤ) (d g : Plan) (os : List ℕ) (f : Faults) (all : AreBentFault
     proved_by_has_none law (Fault x) h i = absurd i
     proved_by_has_none law (Undecided j k) h i = absurd i
 
-    decided : (b : AreaAnswer) (i j : ℕ) → IsAnswer g b → Undecided i j ≡ named os b → ⊥
-    decided (Proved c) i j h e = cc
-    decided (Fault y) i j h e = cc
-    decided (Undecided k l) i j (answer.undecided _ _ c u b) e = not_settled g u settled
+    -- where one level settles the bent drawing
+    decided : IsSettled g → (b : AreaAnswer) (i j : ℕ) → IsAnswer g b → Undecided i j ≡ named os b → ⊥
+    decided s (Proved c) i j h e = cc
+    decided s (Fault y) i j h e = cc
+    decided s (Undecided k l) i j (answer.undecided _ _ c u b) e = not_settled g u s
 
-    not_undecided : (i j : ℕ) → IsAnswerBy t d (Undecided i j) → ⊥
-    not_undecided i j (by.own h n) = n
-    not_undecided i j (by.bent h ps b clear u bo ch s ha e) =
-        decided b i j (subst (λ (p : Plan). IsAnswer p b) (same h ps bo) ha)
+    not_undecided : IsSettled g → (i j : ℕ) → IsAnswerBy t d (Undecided i j) → ⊥
+    not_undecided q i j (by.own h n) = n
+    not_undecided q i j (by.bent h ps b clear u bo ch s ha e) =
+        decided q b i j (subst (λ (p : Plan). IsAnswer p b) (same h ps bo) ha)
         (subst (λ (qs : List ℕ). Undecided i j ≡ named qs b)
         (one.origin t d h g ps os bo is_bent) e)
-    not_undecided i j (by.undecided h ps k l clear u bo ug br e) =
-        not_settled g (subst IsUnsettled (same h ps bo) ug) settled
+    not_undecided q i j (by.undecided h ps k l clear u bo ug br e) =
+        not_settled g (subst IsUnsettled (same h ps bo) ug) q
 
-    pub none_are_proved_by : (a : AreaAnswer) → IsAnswerBy t d a → TellsNoFault f → IsProved a
-    none_are_proved_by (Proved c) h n = tt
-    none_are_proved_by (Fault x) h n =
+    pub none_are_proved_by : IsSettled g → (a : AreaAnswer) → IsAnswerBy t d a → TellsNoFault f
+        → IsProved a
+    none_are_proved_by s (Proved c) h n = tt
+    none_are_proved_by s (Fault x) h n =
         let (y, i, e) = is_first_by x h in absurd (no_first f y i n)
-    none_are_proved_by (Undecided i j) h n = absurd (not_undecided i j h)
+    none_are_proved_by s (Undecided i j) h n = absurd (not_undecided s i j h)

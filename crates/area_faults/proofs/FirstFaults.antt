@@ -10,6 +10,7 @@ use Rattle.plane.specs.Rule.Places.{Place, Vector, point}
 use Rattle.plane.specs.Rule.Plans.{Plan, curve, object}
 use Rattle.plane.proofs.FewerCurves.ClosedFaces.{stays_outer}
 use Rattle.plane.proofs.Linear.EdgePlaces.{place_point}
+use Rattle.forks.specs.Bent.{IsBentOf}
 use Rattle.area_search.specs.Answers as answer
 use Rattle.area_search.specs.Answers.{AreAlone, AreClear, AreFilled, AreInside, HasNoBadPair}
 use Rattle.area_search.specs.Answers.{IsAnswer, IsLeastCut, IsLeastEmpty, IsLeastOn}
@@ -102,11 +103,10 @@ module _ (d : Plan) (f : Faults) (all : AreAllFaults d d (λ i. i) f) where
   no_meetings clear =
       no_entry f.meetings.items (λ m c. clear m.first m.second (all.told.meetings.bad m c))
 
-  pub settled : HasNoBadPair d → IsSettled d
-  settled clear = all.settled (no_meetings clear)
-
-  pub not_unsettled : HasNoBadPair d → IsUnsettled d → ⊥
-  not_unsettled clear u = let (level, least) = settled clear in u level least.low least.settled
+  -- where one level settles the drawing
+  pub not_unsettled : (f.meetings.items ≡ [] → IsSettled d) → HasNoBadPair d → IsUnsettled d → ⊥
+  not_unsettled one clear u =
+      let (level, least) = one (no_meetings clear) in u level least.low least.settled
 
   pub clear_of : f.meetings.items ≡ [] → HasNoBadPair d
   clear_of none i j bad =
@@ -319,7 +319,10 @@ module _ (d : Plan) (f : Faults) (all : AreAllFaults d d (λ i. i) f) where
   own_first _ (answer.cut i filled s least) =
       first.cut i (tells_filled filled) (first_cut filled.alone.inside.clear.pairs i least)
 
-  pub is_first : (t : ℤ) (x : AreaFinding) → IsAnswerBy t d (Fault x) → IsFirstOf f x
-  is_first t x (by.own h n) = own_first x h
-  is_first t x (by.bent g os b clear u bo cg s h e) = absurd (not_unsettled clear.pairs u)
-  is_first t x (by.undecided g os i j clear u bo ug br e) = absurd (not_unsettled clear.pairs u)
+  -- no level settles what becomes of the drawing, where none settles itself
+  pub is_first : (t : ℤ)
+      → ((g : Plan) (os : List ℕ) → AreClear d → IsUnsettled d → IsBentOf t d g os → IsSettled g → ⊥)
+      → (x : AreaFinding) → IsAnswerBy t d (Fault x) → IsFirstOf f x
+  is_first t never x (by.own h n) = own_first x h
+  is_first t never x (by.bent g os b clear u bo cg s h e) = absurd (never g os clear u bo s)
+  is_first t never x (by.undecided g os i j clear u bo ug br e) = absurd cc

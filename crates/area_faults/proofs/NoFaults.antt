@@ -1,5 +1,5 @@
 -- A drawing without a fault is one that the search proves.
-use Rattle.std.proofs.Common.{◌≡◌, inl, inr, ℕ, ◌≤◌, ℤ, pos, ◌<ℤ◌, Bool, length}
+use Rattle.std.proofs.Common.{◌≡◌, inl, inr, ℕ, ◌≤◌, ℤ, pos, ◌<ℤ◌, Bool, List, length}
 use Rattle.std.proofs.Common.{[], ◌∷◌, refl, sym, subst, ap, ◌∙◌, arith}
 use Rattle.std.specs.List.{Contains}
 use Rattle.std.proofs.lemmas.Bool.{cases_lt}
@@ -18,7 +18,8 @@ use Rattle.certificate.specs.declared.notes.Certificate.{Certificate}
 use Rattle.certificate_checker.specs.Subjects.{claims}
 use Rattle.forks.specs.Grounds as grounds
 use Rattle.forks.specs.Grounds.{IsGround}
-use Rattle.area_search.specs.Answers.{AreAlone, AreClear, AreFilled, AreInside}
+use Rattle.forks.specs.Bent.{IsBentOf}
+use Rattle.area_search.specs.Answers.{AreAlone, AreClear, AreFilled, AreInside, IsSettled, IsUnsettled}
 use Rattle.area_search.specs.Faults.{IsEmptySide}
 use Rattle.area_search.specs.Grounds as by
 use Rattle.area_search.specs.Grounds.{IsAnswerBy, ProvesGround}
@@ -111,29 +112,39 @@ module _ (d : Plan) (f : Faults) (all : AreAllFaults d d (λ i. i) f) where
       cuts = no_entry f.faces.cuts.items no_cut;
     }
 
-  own_area : (t : ℤ) (is_bent : Bool) (c : Certificate) → ProvesGround t d is_bent (claims c)
-      → IsArea d
-  own_area t is_bent c p = by_ground p.right.is_ground
+  -- where what becomes of the drawing is itself, or one level settles it
+  abbrev IsOwnGround : ℤ → Type 0
+  IsOwnGround t = (g : Plan) (os : List ℕ) → AreClear d → IsUnsettled d → IsBentOf t d g os → g ≡ d
+
+  own_area : (t : ℤ) → IsOwnGround t → (is_bent : Bool) (c : Certificate)
+      → ProvesGround t d is_bent (claims c) → IsArea d
+  own_area t ground is_bent c p = by_ground p.right.is_ground
     where
       by_ground : IsGround t d is_bent p.g p.origin → IsArea d
       by_ground (grounds.own e q o) = subst IsArea q p.area
-      by_ground (grounds.bent e b) = absurd (not_unsettled d f all p.clear.pairs (p.right.bent e))
+      by_ground (grounds.bent e b) =
+          subst IsArea (ground p.g p.origin p.clear (p.right.bent e) b) p.area
 
-  pub proved_has_none : ProvedAreRight → (t : ℤ) (a : AreaAnswer) → IsAnswerBy t d a → IsProved a
-      → TellsNoFault f
-  proved_has_none law t (Proved c) h i =
-      let p = law t d c h in area_has_none (own_area t c.bent c p) p.clear
-  proved_has_none law t (Fault x) h i = absurd i
-  proved_has_none law t (Undecided j k) h i = absurd i
+  pub proved_has_none : ProvedAreRight → (t : ℤ) → IsOwnGround t → (a : AreaAnswer)
+      → IsAnswerBy t d a → IsProved a → TellsNoFault f
+  proved_has_none law t ground (Proved c) h i =
+      let p = law t d c h in area_has_none (own_area t ground c.bent c p) p.clear
+  proved_has_none law t ground (Fault x) h i = absurd i
+  proved_has_none law t ground (Undecided j k) h i = absurd i
 
   -- ---- where there is no fault the answer is a certificate
-  not_undecided : (t : ℤ) (i j : ℕ) → IsAnswerBy t d (Undecided i j) → ⊥
-  not_undecided t i j (by.own h n) = absurd n
-  not_undecided t i j (by.bent g os b clear u bo cg s h e) = not_unsettled d f all clear.pairs u
-  not_undecided t i j (by.undecided g os k l clear u bo ug br e) =
-      not_unsettled d f all clear.pairs u
+  module _ (one : f.meetings.items ≡ [] → IsSettled d) where
+    not_undecided : (t : ℤ) (i j : ℕ) → IsAnswerBy t d (Undecided i j) → ⊥
+    not_undecided t i j (by.own h n) = absurd n
+    not_undecided t i j (by.bent g os b clear u bo cg s h e) =
+        not_unsettled d f all one clear.pairs u
+    not_undecided t i j (by.undecided g os k l clear u bo ug br e) =
+        not_unsettled d f all one clear.pairs u
 
-  pub none_are_proved : (t : ℤ) (a : AreaAnswer) → IsAnswerBy t d a → TellsNoFault f → IsProved a
-  none_are_proved t (Proved c) h n = tt
-  none_are_proved t (Fault x) h n = absurd (no_first f x (is_first d f all t x h) n)
-  none_are_proved t (Undecided i j) h n = absurd (not_undecided t i j h)
+    pub none_are_proved : (t : ℤ) (a : AreaAnswer) → IsAnswerBy t d a → TellsNoFault f
+        → IsProved a
+    none_are_proved t (Proved c) h n = tt
+    none_are_proved t (Fault x) h n =
+        absurd (no_first f x (is_first d f all t
+        (λ g os clear u bo s. not_unsettled d f all one clear.pairs u) x h) n)
+    none_are_proved t (Undecided i j) h n = absurd (not_undecided t i j h)

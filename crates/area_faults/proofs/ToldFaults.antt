@@ -10,6 +10,8 @@ use Rattle.near_pairs.specs.Boxes.{mark_of}
 use Rattle.tubes.specs.DrawnEdges.{AreStraights}
 use Rattle.tubes.specs.Settled.{IsSettledAt}
 use Rattle.area_search.specs.Answers.{HasNoBadPair, IsSettled, IsUnsettled}
+use Rattle.area_search.specs.SettlingLevels.{IsSettledByLevels, one}
+use Rattle.area_search.proofs.Grounds.{not_settled}
 use Rattle.forks.specs.Bent.{IsBentOf}
 use Rattle.forks.specs.Grounds as grounds
 use Rattle.area_search.specs.Unsettled.MarkedPoints.{ArePairsOn}
@@ -17,8 +19,8 @@ use Rattle.fault_lists.specs.FaultLists.{AreMeetings}
 use Rattle.fault_lists.specs.declared.kinds.Faults.{Faults}
 use Rattle.fault_lists.specs.declared.kinds.MeetingAt.{MeetingAt}
 use Rattle.fault_lists.specs.declared.kinds.OnAt.{OnAt}
-use Rattle.area_faults.specs.Answers.{AreAllFaults, AreBelow, AreBentFaults, AreLeftOut, HaveRings}
-use Rattle.area_faults.specs.Answers.{IsToldWith, root}
+use Rattle.area_faults.specs.Answers.{AreAllFaults, AreBelow, AreBentFaults, AreDrawnFaults}
+use Rattle.area_faults.specs.Answers.{AreLeftOut, HaveRings, IsToldWith, root}
 use Rattle.area_faults.specs.Meetings.{AreSomeMeetings}
 use Rattle.area_faults.specs.PointLists.{ArePairsFor, HasPointBelow}
 
@@ -140,7 +142,7 @@ no_meetings d ms e clear = subst (AreMeetings d) (sym e) (record {
     none m (k, h, q) = omega (arith, h)
 
 pub all_faults : (d g : Plan) (origin : ℕ → ℕ) (f : Faults) → IsToldWith d g origin false f
-    → (f.meetings.items ≡ [] → IsSettled g) → HaveRings f.empty.items → HaveRings f.open.items
+    → (f.meetings.items ≡ [] → IsSettledByLevels g) → HaveRings f.empty.items → HaveRings f.open.items
     → AreAllFaults d g origin f
 all_faults d g origin f h s r o = record {
   told = h.told;
@@ -195,9 +197,9 @@ none_of ms lent e h = none_left ms (subst (λ (xs : List MeetingAt). length xs �
 pub some_of : (ms lent : List MeetingAt) → lent ≡ ms → 0 < length lent → ms ≡ [] → ⊥
 some_of ms lent e h n = let k = ap length (e ∙ n) in omega (arith, h, k)
 
--- on a bent drawing that some level settles
+-- on a bent drawing that levels settle
 pub bent_faults : (t : ℤ) (d g : Plan) (os : List ℕ) (f : Faults) → IsUnsettled d
-    → IsBentOf t d g os → IsSettled g → f.meetings.items ≡ [] → IsToldWith d g (root os) false f
+    → IsBentOf t d g os → IsSettledByLevels g → f.meetings.items ≡ [] → IsToldWith d g (root os) false f
     → HaveRings f.empty.items → HaveRings f.open.items → AreBentFaults t d g os f
 bent_faults t d g os f u b s e h r o = record {
   right = record {
@@ -207,4 +209,26 @@ bent_faults t d g os f u b s e h r o = record {
   };
   clear = e;
   all = all_faults d g (root os) f h (λ q. s) r o;
+}
+
+-- ---- levels that settle
+pub by_one : (d : Plan) → IsSettled d → IsSettledByLevels d
+by_one d (l, h) = record { levels = λ i. l; are = one l h (λ i. refl); settled = h.settled }
+
+-- on the drawing itself, which one level settles where no two curves meet badly
+pub drawn_faults : (t : ℤ) (d : Plan) (f : Faults) → IsToldWith d d (λ i. i) false f
+    → (f.meetings.items ≡ [] → IsSettled d) → HaveRings f.empty.items → HaveRings f.open.items
+    → AreDrawnFaults t d f
+drawn_faults t d f h s r o = record {
+  all = all_faults d d (λ i. i) f h (λ e. by_one d (s e)) r o;
+  ground = λ e u. absurd (not_settled d u (s e));
+}
+
+-- which own levels settle, and of which nothing is bent
+pub own_faults : (t : ℤ) (d : Plan) (os : List ℕ) (f : Faults) → IsBentOf t d d os
+    → IsSettledByLevels d → IsToldWith d d (λ i. i) false f → HaveRings f.empty.items
+    → HaveRings f.open.items → AreDrawnFaults t d f
+own_faults t d os f b s h r o = record {
+  all = all_faults d d (λ i. i) f h (λ e. s) r o;
+  ground = λ e u. (os, b);
 }

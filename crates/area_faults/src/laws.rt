@@ -1,6 +1,7 @@
 // All faults of a drawing and the one that is searched for.
 ghost use Rattle.std.specs.Prelude.{◌≡◌, ◌↔◌, ℤ, []};
-ghost use Rattle.plane.specs.Rule.Plans.{Plan};
+ghost use Rattle.plane.specs.Rule.Plans.{Plan, plan};
+ghost use Rattle.area_search.specs.Answers.{IsSettled};
 ghost use Rattle.area_search.specs.Grounds.{IsAnswerBy};
 ghost use Rattle.area_search.specs.declared.kinds.AreaAnswer.{AreaAnswer};
 ghost use Rattle.area_search.specs.declared.kinds.AreaAnswer.TheVariants.{Fault};
@@ -29,13 +30,19 @@ pub fn first_is_find_area()
     forks::laws::one_bent();
 }
 
-/// Where all faults are told, the search answers a certificate exactly where no list of faults has
-/// an entry.
+/// Where all faults are told, the search answers a certificate only where no list of faults has an
+/// entry; and exactly there, where one level settles what is judged.
 pub fn none_is_proved()
+    ensures proved { (t : ℤ) (d : Plan) (f : Faults) (a : AreaAnswer) → IsToldOf t d (Told f)
+        → IsAnswerBy t d a → IsProved a → TellsNoFault f }
+    ensures proved_bent { (t : ℤ) (d : Plan) (f : Faults) (b : Copy) (a : AreaAnswer)
+        → IsToldOf t d (Bent f b) → IsAnswerBy t d a → IsProved a → TellsNoFault f }
     ensures drawn { (t : ℤ) (d : Plan) (f : Faults) (a : AreaAnswer) → IsToldOf t d (Told f)
-        → IsAnswerBy t d a → IsProved a ↔ TellsNoFault f }
+        → (f.meetings.items ≡ [] → IsSettled d) → IsAnswerBy t d a
+        → IsProved a ↔ TellsNoFault f }
     ensures bent { (t : ℤ) (d : Plan) (f : Faults) (b : Copy) (a : AreaAnswer)
-        → IsToldOf t d (Bent f b) → IsAnswerBy t d a → IsProved a ↔ TellsNoFault f }
+        → IsToldOf t d (Bent f b) → IsSettled (plan b.drawing) → IsAnswerBy t d a
+        → IsProved a ↔ TellsNoFault f }
 {
     area_search::laws::answers_are_right();
     forks::laws::one_bent();

@@ -5,8 +5,9 @@
 //!   curves that meet badly are left out, and the faces of the others are judged; those that a
 //!   curve enters that is left out are told to be open. A drawing with half arcs is judged so where
 //!   some level settles it, with nothing left out. Where none does, and no two curves meet badly,
-//!   its forks are bent (`forks`); where some level settles the bent drawing, the faces of that are
-//!   judged, by its curves, and points on curves are those of the drawing. Else all curves are left
+//!   its forks are bent (`forks`); where some level settles the bent drawing, or the own levels of
+//!   its half arcs do (`level_breaks`), the faces of that are judged, by its curves, and points on
+//!   curves are those of the drawing. Else all curves are left
 //!   out, so that no face is judged, and the answer of `area_search` is told beside.
 //! - **The rule that it serves.** Each fault of the drawing, on what is judged of it, is told, or
 //!   lies in a face that is told to be open (`fault_lists::laws::each_fault_is_told`). The fault

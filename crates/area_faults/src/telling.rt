@@ -1,16 +1,18 @@
 // All faults of a drawing.
-ghost use Rattle.std.specs.Prelude.{◌≡◌, ◌≢◌, ◌<◌, ◌≤◌, ℕ, Bool, IfOk, false, length, true, []};
+ghost use Rattle.std.specs.Prelude.{◌≡◌, ◌≢◌, ◌<◌, ◌≤◌, ℕ, Bool, List, IfOk, false, length, true, []};
 ghost use Rattle.std.specs.List.{All};
 ghost use Rattle.plane.specs.Rule.Plans.{Plan, plan};
 ghost use Rattle.plane.specs.declared.kinds.CurveKind.TheVariants as kind;
 ghost use Rattle.tubes.specs.DrawnEdges.{AreAllStraight, AreStraights};
+ghost use Rattle.tubes.specs.FewEdges.{HasFewEdges};
 ghost use Rattle.area_search.specs.Answers.{HasNoBadPair, IsUnsettled};
 ghost use Rattle.area_search.specs.Level.LevelAnswers.{AreFacesOf};
+ghost use Rattle.forks.specs.Bent.{IsBentOf};
 ghost use Rattle.fault_lists.specs.DrawingFaces.{HasFaces, IsNumbered};
 ghost use Rattle.fault_lists.specs.FaultLists.{AreMeetings, ArePointsOn};
 ghost use Rattle.fault_lists.specs.Rings.{GoRound};
-ghost use Rattle.area_faults.specs.Answers.{AreBentIfAny, AreLeftOut, HaveRings, IsToldOf};
-ghost use Rattle.area_faults.specs.Answers.{IsToldWith};
+ghost use Rattle.area_faults.specs.Answers.{AreGroundFaces, AreLeftOut, HaveRings, IsToldIfAny};
+ghost use Rattle.area_faults.specs.Answers.{IsToldOf, IsToldWith};
 ghost use Rattle.area_faults.specs.PointLists.{ArePairsFor, HasPointBelow};
 
 use crate::kinds::AreaFaults;
@@ -19,7 +21,7 @@ use crate::meeting_lists::{MeetingList, all_meetings};
 use crate::one_face::one_open_face;
 use crate::point_list::all_on;
 use crate::rest::rest_faces;
-use area_search::{SettledFaces, find_area, points_on_marked, settled_faces};
+use area_search::{OwnFaces, SettledFaces, find_area, own_faces, points_on_marked, settled_faces};
 use fault_lists::laws::{numbers_tell_faults, numbers_tell_rings};
 use fault_lists::{DrawingFaces, Faults, MeetingAt, OnAt, face_faults, regions};
 use forks::{Bent, bent};
@@ -213,8 +215,8 @@ fn faults_by_ground(alloc: Global, drawing: &Drawing, faults: Faults) -> Result<
         let answer = find_area(alloc, drawing)?;
         return Ok(AreaFaults::Unsettled(faults, answer));
     }
-    match bent_faults(alloc, drawing, &faults.on)? {
-        Some((faults, copy)) => Ok(AreaFaults::Bent(faults, copy)),
+    match ground_faults(alloc, drawing, &faults.on)? {
+        Some(told) => Ok(told),
         None => {
             let answer = find_area(alloc, drawing)?;
             Ok(AreaFaults::Unsettled(faults, answer))
@@ -230,32 +232,103 @@ fn has_meeting(meetings: &[MeetingAt]) -> bool
 }
 
 // The faults of a drawing no two curves of which meet badly, by what becomes of it when its forks
-// are bent, with that; none where no level settles it. These are the points on curves.
-fn bent_faults(
+// are bent; none where no levels settle that. These are the points on curves.
+fn ground_faults(
     alloc: Global,
     drawing: &Drawing,
     on: &[OnAt],
-) -> Result<Option<(Faults, Bent)>, Memory>
+) -> Result<Option<AreaFaults>, Memory>
     requires curves { length (plan drawing.now).curves ≤ 16000000 }
     requires unsettled { IsUnsettled (plan drawing.now) }
     requires clear { HasNoBadPair (plan drawing.now) }
     requires on { ArePointsOn (plan drawing.now) on.now }
-    ensures { IfOk result (AreBentIfAny drawing.now.tolerance (plan drawing.now)) }
+    ensures { IfOk result (IsToldIfAny drawing.now.tolerance (plan drawing.now)) }
 {
     forks::laws::nothing_bent();
-    certificate_checker::laws::bent_has_few_edges();
     let copy = bent(alloc, drawing)?;
     if copy.drawing.curves.len() == drawing.curves.len() {
-        return Ok(None);
+        drawn_faults(alloc, drawing, on)
+    } else {
+        bent_faults(alloc, drawing, on, copy)
     }
-    match settled_faces(alloc, &copy.drawing)? {
-        SettledFaces::Unsettled(_) => Ok(None),
-        SettledFaces::Settled(faces) => {
+}
+
+// The same where nothing of the drawing is bent.
+fn drawn_faults(
+    alloc: Global,
+    drawing: &Drawing,
+    on: &[OnAt],
+) -> Result<Option<AreaFaults>, Memory>
+    requires curves { length (plan drawing.now).curves ≤ 16000000 }
+    requires unsettled { IsUnsettled (plan drawing.now) }
+    requires clear { HasNoBadPair (plan drawing.now) }
+    requires on { ArePointsOn (plan drawing.now) on.now }
+    requires ground { (os : List ℕ)
+        × IsBentOf drawing.now.tolerance (plan drawing.now) (plan drawing.now) os }
+    ensures { IfOk result (IsToldIfAny drawing.now.tolerance (plan drawing.now)) }
+{
+    tubes::laws::few_curves_have_few_edges();
+    match faces_by_own(alloc, drawing)? {
+        Some(faces) => {
+            let on = Vec::from_slice(alloc, on)?;
+            let meetings = Vec::new(alloc);
+            let faults = told_on(alloc, drawing, meetings, on, &faces, false)?;
+            Ok(Some(AreaFaults::Told(faults)))
+        }
+        None => Ok(None),
+    }
+}
+
+// The same by what becomes of the drawing.
+fn bent_faults(
+    alloc: Global,
+    drawing: &Drawing,
+    on: &[OnAt],
+    copy: Bent,
+) -> Result<Option<AreaFaults>, Memory>
+    requires curves { length (plan drawing.now).curves ≤ 16000000 }
+    requires unsettled { IsUnsettled (plan drawing.now) }
+    requires clear { HasNoBadPair (plan drawing.now) }
+    requires on { ArePointsOn (plan drawing.now) on.now }
+    requires bent { IsBentOf drawing.now.tolerance (plan drawing.now) (plan copy.drawing)
+        copy.origin.items }
+    ensures { IfOk result (IsToldIfAny drawing.now.tolerance (plan drawing.now)) }
+{
+    certificate_checker::laws::bent_has_few_edges();
+    let _ = drawing;
+    match ground_faces(alloc, &copy.drawing)? {
+        Some(faces) => {
             let on = Vec::from_slice(alloc, on)?;
             let meetings = Vec::new(alloc);
             let faults = told_on(alloc, &copy.drawing, meetings, on, &faces, false)?;
-            Ok(Some((faults, copy)))
+            Ok(Some(AreaFaults::Bent(faults, copy)))
         }
+        None => Ok(None),
+    }
+}
+
+// The faces of a ground: by one level for all, where one settles it, else by own levels; none where
+// these do not.
+fn ground_faces(alloc: Global, ground: &Drawing) -> Result<Option<DrawingFaces>, Memory>
+    requires few { HasFewEdges (plan ground.now) }
+    ensures { IfOk result (AreGroundFaces (plan ground.now)) }
+{
+    match settled_faces(alloc, ground)? {
+        SettledFaces::Settled(faces) => Ok(Some(faces)),
+        SettledFaces::Unsettled(_) => faces_by_own(alloc, ground),
+    }
+}
+
+// The faces of a ground that no level settles, by own levels.
+fn faces_by_own(alloc: Global, ground: &Drawing) -> Result<Option<DrawingFaces>, Memory>
+    requires few { HasFewEdges (plan ground.now) }
+    requires unsettled { IsUnsettled (plan ground.now) }
+    ensures { IfOk result (AreGroundFaces (plan ground.now)) }
+{
+    match own_faces(alloc, ground)? {
+        OwnFaces::Settled(faces) => Ok(Some(faces)),
+        OwnFaces::Unsettled => Ok(None),
+        OwnFaces::Many => Ok(None),
     }
 }
 

@@ -2,7 +2,7 @@ use Rattle.std.proofs.Common.{subst}
 use Rattle.plane.specs.Rule.Plans.{plan}
 use Rattle.area_faults.proofs.ToldFaults.{no_bad_pair, none_of, some_of}
 use Rattle.area_faults.proofs.telling.faults_by_ground.Goals as goal
-use Rattle.area_faults.specs.Answers.{AreBentIfAny}
+use Rattle.area_faults.specs.Answers.{IsToldIfAny}
 
 pub returns-then-has_meeting : goal.returns-then-has_meeting
 returns-then-has_meeting c = record {
@@ -15,8 +15,8 @@ returns-then-has_meeting c = record {
   answer = c.in_ok-answer.ensures;
 }
 
-pub bent_faults-requires-clause-clear : goal.bent_faults-requires-clause-clear
-bent_faults-requires-clause-clear c =
+pub ground_faults-requires-clause-clear : goal.ground_faults-requires-clause-clear
+ground_faults-requires-clause-clear c =
     no_bad_pair (plan c.args.drawing.now) c.args.faults.meetings.items c.requires.told.told.meetings
     (none_of c.args.faults.meetings.items c.deref.result.now c.deref.ensures.value
     (c.has_meeting.ensures.no c.if-has_meeting.false))
@@ -28,8 +28,8 @@ returns-in_ok-answer-in-None c = record {
   none = c.requires.told.out;
   unsettled = λ e. (
     c.requires.unsettled,
-    subst (AreBentIfAny c.args.drawing.now.tolerance (plan c.args.drawing.now)) c.in-None.is
-        c.in_ok-faults.ensures,
+    subst (IsToldIfAny c.args.drawing.now.tolerance (plan c.args.drawing.now)) c.in-None.is
+        c.in_ok-ground_faults.ensures,
   );
   answer = c.in_ok-answer-in-None.ensures;
 }

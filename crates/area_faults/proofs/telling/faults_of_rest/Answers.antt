@@ -2,8 +2,8 @@ use Rattle.std.proofs.Common.{Bool, List, inr, subst, ◌∙◌}
 use Rattle.plane.specs.Rule.Plans.{plan}
 use Rattle.fault_lists.specs.DrawingFaces.{HasFaces}
 use Rattle.near_pairs.specs.Boxes.{mark_of}
-use Rattle.area_faults.proofs.ToldFaults.{all_faults, both_out, met_below, out_of_curves, pairs_for}
-use Rattle.area_faults.proofs.ToldFaults.{points_below, settled_straights, some_of_all}
+use Rattle.area_faults.proofs.ToldFaults.{both_out, drawn_faults, met_below, out_of_curves}
+use Rattle.area_faults.proofs.ToldFaults.{pairs_for, points_below, settled_straights, some_of_all}
 use Rattle.area_faults.proofs.telling.faults_of_rest.Goals as goal
 
 pub left_out_marks-requires : goal.left_out_marks-requires
@@ -39,7 +39,7 @@ returns c =
     c.deref-in-Some-2.result.now c.deref-2.ensures.value c.deref-in-Some-2.ensures.value h)) in
     let s = settled_straights c.straights_are_settled.ensures d
     c.in_ok-faults-in-Some.faults.meetings.items c.requires.straights t.told.meetings in
-    all_faults d d (λ i. i) c.in_ok-faults-in-Some.faults t s
+    drawn_faults c.args.drawing.now.tolerance d c.in_ok-faults-in-Some.faults t s
     (c.in_ok-faults-in-Some.ensures.rings c.in_ok-faces-in-Some.ensures.rings)
     (c.in_ok-faults-in-Some.ensures.open_rings c.in_ok-faces-in-Some.ensures.rings)
 
