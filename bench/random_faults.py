@@ -80,7 +80,8 @@ class ArcFaults(plain_faults.Faults):
         self.meetings = sorted(plain_arcs.bad_pairs(drawn))
         self.on = [hit for hit in map(self.first_on, range(len(points))) if hit]
         self.answer = plain_arcs.decide(drawn, points)
-        self.is_settled = not self.meetings and plain_arcs.settled(drawn) is not None
+        self.is_settled = not self.meetings and (plain_arcs.settled(drawn) is not None
+                                                 or plain_arcs.is_settled_by_own(drawn))
         if self.is_settled:
             self.cells, self.open_faces = plain_arcs.Cells(drawn), set()
             self.outer = self.cells.union.root(self.cells.outer)

@@ -270,9 +270,7 @@ fn drawn_faults(
     tubes::laws::few_curves_have_few_edges();
     match faces_by_own(alloc, drawing)? {
         Some(faces) => {
-            let on = Vec::from_slice(alloc, on)?;
-            let meetings = Vec::new(alloc);
-            let faults = told_on(alloc, drawing, meetings, on, &faces, false)?;
+            let faults = told_clear(alloc, drawing, on, &faces)?;
             Ok(Some(AreaFaults::Told(faults)))
         }
         None => Ok(None),
@@ -298,13 +296,37 @@ fn bent_faults(
     let _ = drawing;
     match ground_faces(alloc, &copy.drawing)? {
         Some(faces) => {
-            let on = Vec::from_slice(alloc, on)?;
-            let meetings = Vec::new(alloc);
-            let faults = told_on(alloc, &copy.drawing, meetings, on, &faces, false)?;
+            let faults = told_clear(alloc, &copy.drawing, on, &faces)?;
             Ok(Some(AreaFaults::Bent(faults, copy)))
         }
         None => Ok(None),
     }
+}
+
+// The faults of a drawing no two curves of which meet badly, by these points on curves and by what
+// the faces of its ground tell, with nothing left out.
+fn told_clear(
+    alloc: Global,
+    ground: &Drawing,
+    on: &[OnAt],
+    faces: &DrawingFaces,
+) -> Result<Faults, Memory>
+    requires numbered { IsNumbered faces.now }
+    requires points { length faces.now.points.items ≡ length (plan ground.now).points }
+    requires curves { length faces.now.curves.items ≡ length (plan ground.now).curves }
+    ensures none { IfOk result (λ f. f.meetings.items ≡ []) }
+    ensures faults { (d : Plan) (origin : ℕ → ℕ)
+        → HasNoBadPair d → ArePointsOn d on.now → HasFaces (plan ground.now) (λ i. false) faces.now
+        → IfOk result (IsToldWith d (plan ground.now) origin false) }
+    ensures rings { IfOk result (λ f. GoRound (plan ground.now) faces.now
+        → HaveRings f.empty.items) }
+    ensures open_rings { IfOk result (λ f. GoRound (plan ground.now) faces.now
+        → HaveRings f.open.items) }
+{
+    let on = Vec::from_slice(alloc, on)?;
+    let meetings = Vec::new(alloc);
+    let faults = told_on(alloc, ground, meetings, on, faces, false)?;
+    Ok(faults)
 }
 
 // The faces of a ground: by one level for all, where one settles it, else by own levels; none where

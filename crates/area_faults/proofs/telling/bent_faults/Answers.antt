@@ -1,8 +1,7 @@
-use Rattle.std.proofs.Common.{false, subst, sym}
+use Rattle.std.proofs.Common.{subst}
 use Rattle.plane.specs.Rule.Plans.{plan}
-use Rattle.fault_lists.specs.FaultLists.{ArePointsOn}
 use Rattle.area_faults.specs.Answers.{AreGroundFaces, root}
-use Rattle.area_faults.proofs.ToldFaults.{bent_faults, no_meetings, none_out}
+use Rattle.area_faults.proofs.ToldFaults.{bent_faults}
 use Rattle.area_faults.proofs.telling.bent_faults.Goals as goal
 
 pub ground_faces-requires : goal.ground_faces-requires
@@ -10,21 +9,30 @@ ground_faces-requires c =
     c.bent_has_few_edges.ensures c.args.drawing.now.tolerance (plan c.args.drawing.now)
     (plan c.args.copy.drawing) _ c.requires.bent c.requires.curves
 
+pub told_clear-requires-clause-numbered : goal.told_clear-requires-clause-numbered
+told_clear-requires-clause-numbered c =
+    (subst (AreGroundFaces (plan c.args.copy.drawing)) c.in-Some.is
+    c.in_ok-ground_faces.ensures).numbered
+
+pub told_clear-requires-clause-points : goal.told_clear-requires-clause-points
+told_clear-requires-clause-points c =
+    (subst (AreGroundFaces (plan c.args.copy.drawing)) c.in-Some.is
+    c.in_ok-ground_faces.ensures).faces.2.point_count
+
+pub told_clear-requires-clause-curves : goal.told_clear-requires-clause-curves
+told_clear-requires-clause-curves c =
+    (subst (AreGroundFaces (plan c.args.copy.drawing)) c.in-Some.is
+    c.in_ok-ground_faces.ensures).faces.2.curve_count
+
 pub returns-in_ok-faults-in-Some : goal.returns-in_ok-faults-in-Some
 returns-in_ok-faults-in-Some c =
     let d = plan c.args.drawing.now in
     let g = plan c.args.copy.drawing in
     let os = c.args.copy.origin.items in
-    let f = c.in_ok-faults-in-Some.faults in
     let h = subst (AreGroundFaces g) c.in-Some.is c.in_ok-ground_faces.ensures in
-    let none = c.new-meetings.ensures.items in
-    bent_faults c.args.drawing.now.tolerance d g os f
-    c.requires.unsettled c.requires.bent h.settled
-    (rw c.in_ok-faults-in-Some.ensures.meetings none)
-    (c.in_ok-faults-in-Some.ensures.faults d (root os) (λ i. false)
-    (no_meetings d c.new-meetings.result.items none c.requires.clear)
-    (subst (ArePointsOn d) (sym c.in_ok-on-in-Some.ensures.items) c.requires.on)
-    (none_out g (root os) c.new-meetings.result.items none) h.faces)
+    bent_faults c.args.drawing.now.tolerance d g os c.in_ok-faults-in-Some.faults
+    c.requires.unsettled c.requires.bent h.settled c.in_ok-faults-in-Some.ensures.none
+    (c.in_ok-faults-in-Some.ensures.faults d (root os) c.requires.clear c.requires.on h.faces)
     (c.in_ok-faults-in-Some.ensures.rings h.rings)
     (c.in_ok-faults-in-Some.ensures.open_rings h.rings)
 
