@@ -11,15 +11,14 @@ use Rattle.std.proofs.lemmas.List.Elements.{All-contains}
 use Rattle.plane.specs.Lists.{Has}
 use Rattle.plane.specs.Rule.Plans.{IsHalfArc, Plan}
 use Rattle.near_pairs.specs.Boxes.{IsOneMarked, mark_of}
-use Rattle.near_pairs.specs.LeastPairs.{IsPair}
-use Rattle.near_pairs.specs.PairLists.{AreCodes, IsCode, IsPairList, code}
+use Rattle.near_pairs.specs.PairLists.{IsCode, IsPairList, code}
 use Rattle.near_pairs.specs.declared.listing.PairList.{PairList}
 use Rattle.straight_predicates.proofs.Orders.{by_lt}
 use Rattle.tubes.specs.Settled.{Breaks}
 use Rattle.level_breaks.specs.LevelChoices.{AreBreakCounts, AreCounts, BreakMarked, IsBreakCount}
 use Rattle.level_breaks.specs.LevelChoices.{IsCodeBelow, IsCounted, first_of, partner, partners}
 use Rattle.level_breaks.specs.LevelChoices.{second_of}
-use Rattle.level_breaks.specs.OwnLevels.{AreBreakers, BreakAt, HasManyBreaks}
+use Rattle.level_breaks.specs.OwnLevels.{AreBreakers, BreakAt, HasManyBreaks, IsBreakCode}
 use Rattle.level_breaks.proofs.RisingNumbers.{IsBelowAll, Rises, all_below, below_has, contained}
 use Rattle.level_breaks.proofs.RisingNumbers.{contains, increasing_from, rises_from}
 use Rattle.level_breaks.proofs.ShortForm.{groups_of}
@@ -254,16 +253,14 @@ module _ (d : Plan) (level : ℕ) (marked : List Bool) (n : ℕ) (size : n ≡ l
       (subst (λ (j : ℕ). Breaks d (λ k. level) h.pair.first j) (sym s) h.sought.sought.1)
 
   -- where the list is not whole
-  plain_code : (c : ℕ) → IsCode (BreakMarked d level marked) n c
-      → IsCode (Breaks d (λ k. level)) (length d.curves) c
-  plain_code c h = record {
-    pair = h.pair;
+  break_code : (c : ℕ) → IsCode (BreakMarked d level marked) n c → IsBreakCode d level c
+  break_code c h = record {
+    first = h.pair.first;
+    second = h.pair.second;
     is = h.is;
-    sought = record {
-      order = h.sought.order;
-      there = (let t = h.sought.there in omega (arith, t, size));
-      sought = h.sought.sought.1;
-    };
+    order = h.sought.order;
+    there = (let t = h.sought.there in omega (arith, t, size));
+    breaks = h.sought.sought.1;
   }
 
   pub too_many : (most : ℕ) → most < length l.codes.items → level ≤ 5 → HasManyBreaks d most
@@ -271,7 +268,7 @@ module _ (d : Plan) (level : ℕ) (marked : List Bool) (n : ℕ) (size : n ≡ l
     level = level;
     low = low;
     codes = l.codes.items;
-    are = λ k e lt. plain_code (get_or l.codes.items k e) (is.pairs k e lt);
+    are = λ k e lt. break_code (get_or l.codes.items k e) (is.pairs k e lt);
     rise = is.rising;
     more = more;
   }

@@ -1,9 +1,8 @@
 -- A level of its own for each half arc: of the levels at which it has a tube, that at which it
 -- breaks with the fewest other curves.
-use Rattle.std.specs.Prelude.{◌≡◌, ◌⊎◌, ◌↔◌, ℕ, ◌<◌, ◌≤◌, List, length}
-use Rattle.std.specs.List.{Contains}
+use Rattle.std.specs.Prelude.{◌≡◌, ◌⊎◌, ◌↔◌, ℕ, ◌+◌, ◌*◌, ◌^◌, ◌<◌, ◌≤◌, List, length}
+use Rattle.std.specs.List.{All, Contains}
 use Rattle.std.specs.List.Sorted.{IsStrictlyIncreasing}
-use Rattle.near_pairs.specs.PairLists.{AreCodes}
 use Rattle.plane.specs.Rule.Curves.{arc}
 use Rattle.plane.specs.Rule.Plans.{IsHalfArc, Plan, curve}
 use Rattle.tubes.specs.HalfArcTubes.{HasNoTube}
@@ -41,11 +40,20 @@ abbrev pub AreOwnLevels : Plan → (ℕ → ℕ) → Type 0
 AreOwnLevels g levels =
     (i : ℕ) → IsHalfArc g i → (HasNoTubes g i × (levels i ≡ 0)) ⊎ IsOwnLevel g i (levels i)
 
+-- The number is the code of two curves that break the level.
+pub record IsBreakCode (g : Plan) (level c : ℕ) : Type 0 where
+  pub first : ℕ
+  pub second : ℕ
+  pub is : c ≡ first * 2 ^ 32 + second
+  pub order : first < second
+  pub there : second < length g.curves
+  pub breaks : Breaks g (λ k. level) first second
+
 -- More than so many pairs of curves break one level.
 pub record HasManyBreaks (g : Plan) (most : ℕ) : Type 0 where
   pub level : ℕ
   pub low : level ≤ 5
   pub codes : List ℕ
-  pub are : AreCodes (Breaks g (λ k. level)) (length g.curves) codes
+  pub are : All (IsBreakCode g level) codes
   pub rise : IsStrictlyIncreasing codes
   pub more : most < length codes
