@@ -3,6 +3,7 @@
 
 usage: random_faults.py ITFFAULTS COUNT [SEED]
        random_faults.py ITFFAULTS COUNT SEED arcs     drawings of random_arcs.py
+       random_faults.py ITFFAULTS COUNT SEED own      a small arc, and a wide one beside a line
        random_faults.py ITFFAULTS small [PART OF]     all sets of up to three straights over three
                                                       times three places, or one part of so many
 
@@ -192,6 +193,37 @@ def compare_arcs(program, folder, chance, tally):
     compare_file(program, folder, text, whole_text(faults, drawn, placed, curves, objects), tally)
 
 
+def small_lens(chance):
+    """An arc of some hundred units over its chord, and a point between them."""
+    wide, left, low = chance.choice([60, 100, 150, 200, 300, 400]), *chance.sample(range(2000, 2500), 2)
+    first, last = (left, low), (left + wide, low + chance.randint(-20, 20))
+    top = (left + wide // 2, low + int(wide * chance.uniform(0.15, 0.4)))
+    return [[(first, top, last)], [(last, first)]], [(top[0], (top[1] + low) // 2)]
+
+
+def kerb(chance):
+    """A wide arc over its chord, and close outside of it a line, with points in some regions."""
+    wide, left, low = chance.choice([8000, 12000, 20000]), 20000 + chance.randrange(500), 10000
+    middle, top = left + wide // 2, low + int(wide * chance.uniform(0.08, 0.3))
+    high, quarter = top + chance.choice([20, 40, 80, 150, 300, 500]), wide // 4
+    first, last = (middle - quarter, high), (middle + quarter, high)
+    strokes = [[((left, low), (middle, top), (left + wide, low))],
+               [((left + wide, low), (left, low))], [(first, last)]]
+    if chance.random() < 0.6:
+        upper = [(x, y + 900) for x, y in (last, first)]
+        strokes.append([(last, upper[0]), (upper[0], upper[1]), (upper[1], first)])
+    placed = [(middle, (top + low) // 2), (middle + 50, (top + low) // 2), (middle, high + 300)]
+    return strokes, [place for place in placed if chance.random() < 0.6]
+
+
+def compare_own(program, folder, chance, tally):
+    parts = [small_lens(chance), kerb(chance)]
+    strokes, placed = ([it for part in parts for it in part[which]] for which in (0, 1))
+    text, drawn, curves, objects = random_arcs.transfer(strokes, placed)
+    faults = ArcFaults(drawn, placed)
+    compare_file(program, folder, text, whole_text(faults, drawn, placed, curves, objects), tally)
+
+
 def compare_file(program, folder, text, wanted, tally):
     """Of one transfer."""
     want, status = wanted
@@ -237,8 +269,8 @@ def main():
     if sys.argv[2] == "small":
         small(sys.argv[1], int(sys.argv[3]) if len(sys.argv) > 3 else 0,
               int(sys.argv[4]) if len(sys.argv) > 4 else 1)
-    elif sys.argv[4:] == ["arcs"]:
-        compare_many(compare_arcs, random_arcs.ARCS_TOO)
+    elif sys.argv[4:] in (["arcs"], ["own"]):
+        compare_many(compare_own if sys.argv[4] == "own" else compare_arcs, random_arcs.ARCS_TOO)
     else:
         compare_many(compare, random_drawings.MODEL)
 

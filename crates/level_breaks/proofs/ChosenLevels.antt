@@ -17,7 +17,7 @@ use Rattle.tubes.specs.TubedEdges.{HasTube}
 use Rattle.tubes.specs.declared.kinds.Tube.{Tube}
 use Rattle.level_breaks.specs.LevelChoices.{AreBestTo, AreBreakCounts, AreTaken, AreUnsure}
 use Rattle.level_breaks.specs.LevelChoices.{IsBest, IsBestChoice, IsBestLevel, IsBreakCount}
-use Rattle.level_breaks.specs.LevelChoices.{better, choice_at, lesser, no_choice, taken}
+use Rattle.level_breaks.specs.LevelChoices.{better, choice_at, choice_of, no_choice, taken}
 use Rattle.level_breaks.specs.LevelLists.{tube_of}
 use Rattle.level_breaks.specs.OwnLevels.{AreBreakers, AreOwnLevels, HasNoTubes, IsOwnLevel}
 use Rattle.level_breaks.specs.declared.choosing.LevelChoice.{LevelChoice}
@@ -121,8 +121,7 @@ module _ (g : Plan) (i end count : ℕ) (low : end ≤ 5) (tube : HasTube (arc (
     where
       by_test : (n : ℕ) (b : Bool) → nat_lt count n ≡ b → IsBestLevel g i end c.level n
           → c.breaks ≡ Some n
-          → IsBestChoice g i (end + 1)
-          (if b then (record { level = end; breaks = Some count }) else c)
+          → IsBestChoice g i (end + 1) (if b then choice_of end count else c)
       by_test n true e h q =
           let l = ltb-true count n e in
           here (λ m others k t a. let f = h.fewest m others k t a in omega (arith, l, f))
@@ -190,8 +189,7 @@ module _ (g : Plan) (level : ℕ) (low : level ≤ 5) (curves : List Curve)
   better_low count None c l = low
   better_low count (Some n) c l = by (nat_lt count n)
     where
-      by : (b : Bool)
-          → (if b then (record { level = level; breaks = Some count }) else c).level ≤ 5
+      by : (b : Bool) → (if b then choice_of level count else c).level ≤ 5
       by true = low
       by false = l
 

@@ -106,14 +106,16 @@ pub record AreBreakCounts (g : Plan) (level : ℕ) (marked : List Bool) (counts 
       → IsBreakCount g level i (slice_index_or counts i 0)
 
 -- ---- one level more
+abbrev pub choice_of : ℕ → ℕ → LevelChoice
+choice_of level count = record { level = level; breaks = Some count }
+
 -- the choice of the lesser count
 abbrev pub lesser : ℕ → ℕ → LevelChoice → LevelChoice → LevelChoice
 lesser count least here choice = if nat_lt count least then here else choice
 
 abbrev pub better : ℕ → ℕ → Option ℕ → LevelChoice → LevelChoice
-better level count None choice = record { level = level; breaks = Some count }
-better level count (Some least) choice =
-    lesser count least (record { level = level; breaks = Some count }) choice
+better level count None choice = choice_of level count
+better level count (Some least) choice = lesser count least (choice_of level count) choice
 
 -- that of a marked curve with a tube; any other keeps its choice
 abbrev pub taken : Bool → Option Tube → ℕ → ℕ → LevelChoice → LevelChoice
