@@ -1,9 +1,10 @@
-// Drawings with half arcs at a level, and the two curves that are named as those that break it.
+// Drawings with half arcs at a level, and the two curves that are named as those that break it; and
+// the level of each curve with which it breaks the fewest others.
 ghost use Rattle.std.specs.Prelude.{◌≤◌};
 
 use super::drawn::Line::{Arc, Straight};
 use super::drawn::{Line, WINDOWS, drawn};
-use level_breaks::{LevelBreak, first_break};
+use level_breaks::{LevelBreak, first_break, own_levels};
 use meetings::bad_meeting;
 use plane::{Drawing, Window2};
 use ports::Memory;
@@ -115,6 +116,32 @@ const CASES: [Case; 17] = [
     ),
 ];
 
+// Straight along the tangent of the circle where its right half arc begins: it breaks with that at
+// each level.
+const TANGENT: Line = Straight([510_000, 500_000, 510_000, 520_000]);
+
+// What is drawn, and the level of each curve's own.
+const OWN: [(&'static str, &'static [Line], &'static [u8]); 6] = [
+    ("nothing", &[], &[]),
+    ("half a circle", &[ABOVE], &[0, 0]),
+    ("a square in a tube", &SQUARE, &[1, 0, 0, 0, 0, 0]),
+    (
+        "a straight before the half arc with a corner on it",
+        &[INTO_TUBE, ABOVE],
+        &[0, 1, 0],
+    ),
+    (
+        "a straight that breaks each level alike",
+        &[ABOVE, TANGENT],
+        &[0, 0, 0],
+    ),
+    (
+        "a straight to a corner, and half arcs of a few units without a tube",
+        &[ABOVE, TO_CORNER, SMALL],
+        &[1, 0, 0, 0, 0],
+    ),
+];
+
 fn named(pair: Option<[u32; 2]>) -> Option<LevelBreak> {
     let [first, second] = pair?;
     Some(LevelBreak { first, second })
@@ -151,6 +178,27 @@ fn least_pair_that_breaks_a_level_is_named(rt: HostRuntime) -> Result<(), Fail> 
         for (name, lines, level, want) in &CASES {
             let pair = broken(rt.alloc(), *window, lines, (*level).min(5))?;
             assert!(rt; pair == Some(named(*want)), "{name}");
+        }
+    }
+    Ok(())
+}
+
+// The levels of the lines' own, none where they are not drawn.
+fn own(alloc: Global, window: Window2, lines: &[Line]) -> Result<Option<Vec<u8>>, Memory> {
+    match drawn(alloc, window, lines)? {
+        Some(drawing) => own_levels(alloc, &drawing),
+        None => Ok(None),
+    }
+}
+
+#[test]
+fn each_half_arc_has_the_level_with_the_fewest_breaks(rt: HostRuntime) -> Result<(), Fail> {
+    for window in &WINDOWS {
+        for (name, lines, want) in &OWN {
+            match own(rt.alloc(), *window, lines)? {
+                Some(levels) => assert_eq!(rt; levels.as_slice(), *want, "{name}"),
+                None => assert!(rt; false, "{name}"),
+            }
         }
     }
     Ok(())
