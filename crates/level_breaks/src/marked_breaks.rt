@@ -47,12 +47,12 @@ impl<'a> PairTest for MarkedTest<'a> {
 
 /// The pairs that break the level and of which one curve is marked; where there are more than
 /// `MOST`, more than so many of them. The only error is out of memory.
-pub fn marked_breaks(
+pub fn marked_breaks<'a>(
     alloc: Global,
-    drawing: &Drawing,
+    drawing: &'a Drawing,
     level: u8,
-    tubes: &[Option<Tube>],
-    marked: &[bool],
+    tubes: &'a [Option<Tube>],
+    marked: &'a [bool],
 ) -> Result<PairList, Memory>
     requires level { level ≤ 5 }
     requires tubes { AreTubesAt (plan drawing.now) (λ k. level) tubes.now }
