@@ -103,8 +103,8 @@ fn is_unsure(curve: &Curve, choice: &LevelChoice) -> bool
 fn any_marked(marks: &[bool]) -> bool
     ensures { result ≡ false → (i : ℕ) → mark_of marks.now i ≡ false }
 {
-    for mark in marks {
-        if *mark {
+    for number in 0..marks.len() {
+        if marks[number] {
             return true;
         }
     }
@@ -181,8 +181,8 @@ fn chosen_levels(alloc: Global, choices: &[LevelChoice]) -> Result<Vec<u8>, Memo
     ensures { IfOk result (λ ls. ls.items ≡ map (λ (c : Choice). c.level) choices.now) }
 {
     let mut levels = Vec::with_capacity(alloc, choices.len())?;
-    for choice in choices {
-        levels.push(choice.level)?;
+    for number in 0..choices.len() {
+        levels.push(choices[number].level)?;
     }
     Ok(levels)
 }
