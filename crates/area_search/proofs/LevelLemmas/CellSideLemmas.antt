@@ -1,4 +1,4 @@
--- The two sides of each cell, and the run of a level's edges whose cells pair.
+-- The two sides of each cell, and the run of a drawing's edges at some levels, whose cells pair.
 use Rattle.std.proofs.Common.{◌≡◌, ◌↔◌, ◌⊎◌, inl, inr, Bool, true, false, IsTrue, ℕ, zero, suc, ◌*◌}
 use Rattle.std.proofs.Common.{◌^◌, ◌<◌, ◌≤◌, Option, None, Some, List, [], ◌∷◌, length, map, get_or}
 use Rattle.std.proofs.Common.{refl, sym, ap, subst, ◌∙◌, arith, pos}
@@ -45,27 +45,27 @@ module _ (facings : List Facing) (owners : List Owner) where
   all_cells (c ∷ cells) h g (inl e) = subst (IsPaired facings owners) (sym e) (h 0 c (omega arith))
   all_cells (c ∷ cells) h g (inr m) = all_cells cells (λ k x l. h (suc k) x (omega (arith, l))) g m
 
--- ---- the run of a level's edges
-module _ (d : Plan) (level : ℕ) (facings : List Facing) (told : AreFacings d (λ n. level) facings)
+-- ---- the run of a drawing's edges at some levels
+module _ (d : Plan) (levels : ℕ → ℕ) (facings : List Facing) (told : AreFacings d levels facings)
     (owners : List Owner) (are : owners
-    ≡ map owner_as (runs.edge_list (drawn_bays d (λ n. level)) 0 d.curves))
+    ≡ map owner_as (runs.edge_list (drawn_bays d levels) 0 d.curves))
     (vs : List Move) (fit : Fit [] vs)
-    (run : Run (length (edges_at d (λ n. level))) (edge_at d (λ n. level)) (steps_from [] vs)) where
+    (run : Run (length (edges_at d levels)) (edge_at d levels) (steps_from [] vs)) where
   abbrev m : ℕ
-  m = length (edges_at d (λ n. level))
+  m = length (edges_at d levels)
 
   abbrev E : ℕ → Edge
-  E = edge_at d (λ n. level)
+  E = edge_at d levels
 
   abbrev face : Half → ℕ
-  face h = faced d (drawn_bays d (λ n. level)) E h
+  face h = faced d (drawn_bays d levels) E h
 
   within : (g : Gap) (e : ℕ) → Has g (closed_gaps vs) → ((g.lower ≡ Some e) ⊎ (g.upper ≡ Some e))
       → e < m
   within g e h side = let w = closed_edges vs g e fit h side in run_known m E vs w.0 e run w.1 w.2
 
   tagged : (h : Half) → half_edge h < m → tag_at facings owners h ≡ face h
-  tagged = tag_is d (λ n. level) facings told owners are
+  tagged = tag_is d levels facings told owners are
 
   -- where both sides of each cell face one tube or none
   module _ (paired : ArePaired facings owners (closed_gaps vs)) where
@@ -85,7 +85,7 @@ module _ (d : Plan) (level : ℕ) (facings : List Facing) (told : AreFacings d (
         sym (tagged (over e) (within c e has (inl low))) ∙ sym (ap (tag_over facings owners) low)
         ∙ paired c has ∙ ap (tag_under facings owners) up
 
-    pub cells_paired : AreCellsPaired d (drawn_bays d (λ n. level)) (replay (pos 0) m E (steps_from [] vs))
+    pub cells_paired : AreCellsPaired d (drawn_bays d levels) (replay (pos 0) m E (steps_from [] vs))
     cells_paired = record {
       across = λ g h x. by_gap g h
           (across_gap vs fit (run_leaves_none m E vs run) (pos 0) m E g h x);
@@ -99,7 +99,7 @@ module _ (d : Plan) (level : ℕ) (facings : List Facing) (told : AreFacings d (
         by_gap g h (inr (inr b)) = sym (between h g b)
 
   -- and they do, where the cells of the replay pair
-  module _ (pairs : AreCellsPaired d (drawn_bays d (λ n. level))
+  module _ (pairs : AreCellsPaired d (drawn_bays d levels)
       (replay (pos 0) m E (steps_from [] vs))) where
     no_tube : (h : Half) → AtBorder vs h → face h ≡ 0
     no_tube h c =
@@ -123,36 +123,36 @@ module _ (d : Plan) (level : ℕ) (facings : List Facing) (told : AreFacings d (
     pub gaps_paired : ArePaired facings owners (closed_gaps vs)
     gaps_paired g has = by_sides g g.lower g.upper has refl refl
 
--- ---- one level
--- The tubes are wide, the run is one with tubes, and a settled run settles the level: as the law of
--- settled levels says.
-module _ (d : Plan) (level : ℕ) (list : EdgeList) (t : IsTubedList d (λ n. level) list)
-    (facings : List Facing) (told : AreFacings d (λ n. level) facings) (vs : List Move) (fit : Fit [] vs)
-    (wide : AreWide d (drawn_bays d (λ n. level)))
-    (tubed : runs.IsTubedRun d (drawn_bays d (λ n. level)) (length list.edges.items)
+-- ---- levels that settle the drawing
+-- The tubes are wide, the run is one with tubes, and where the run is settled the levels settle the
+-- drawing: as the law of settled levels says.
+module _ (d : Plan) (levels : ℕ → ℕ) (list : EdgeList) (t : IsTubedList d levels list)
+    (facings : List Facing) (told : AreFacings d levels facings) (vs : List Move) (fit : Fit [] vs)
+    (wide : AreWide d (drawn_bays d levels))
+    (tubed : runs.IsTubedRun d (drawn_bays d levels) (length list.edges.items)
     (edge_of list.edges.items) (steps_from [] vs))
-    (level_settled : IsSettledDrawing d (drawn_bays d (λ n. level)) (length (edges_at d (λ n. level)))
-    (edge_at d (λ n. level)) (steps_from [] vs) → IsSettledAt d (λ n. level))
-    (paired : ArePaired facings list.owners.items (closed_gaps vs)) (low : level ≤ 5) where
-  own_tubes : runs.IsTubedRun d (drawn_bays d (λ n. level)) (length (edges_at d (λ n. level))) (edge_at d (λ n. level))
+    (level_settled : IsSettledDrawing d (drawn_bays d levels) (length (edges_at d levels))
+    (edge_at d levels) (steps_from [] vs) → IsSettledAt d levels)
+    (paired : ArePaired facings list.owners.items (closed_gaps vs)) (low : (i : ℕ) → levels i ≤ 5) where
+  own_tubes : runs.IsTubedRun d (drawn_bays d levels) (length (edges_at d levels)) (edge_at d levels)
       (steps_from [] vs)
   own_tubes = subst
-      (λ (es : List Edge). runs.IsTubedRun d (drawn_bays d (λ n. level)) (length es) (edge_of es)
+      (λ (es : List Edge). runs.IsTubedRun d (drawn_bays d levels) (length es) (edge_of es)
       (steps_from [] vs)) t.edges tubed
 
-  settled : IsSettledDrawing d (drawn_bays d (λ n. level)) (length (edges_at d (λ n. level))) (edge_at d (λ n. level))
+  settled : IsSettledDrawing d (drawn_bays d levels) (length (edges_at d levels)) (edge_at d levels)
       (steps_from [] vs)
   settled = record {
     run = own_tubes;
     wide = wide;
-    settled = paired_settle d (drawn_bays d (λ n. level)) (length (edges_at d (λ n. level))) (edge_at d (λ n. level))
+    settled = paired_settle d (drawn_bays d levels) (length (edges_at d levels)) (edge_at d levels)
         (steps_from [] vs) own_tubes wide (pos 0)
-        (cells_paired d level facings told list.owners.items t.owners vs fit own_tubes.run paired);
+        (cells_paired d levels facings told list.owners.items t.owners vs fit own_tubes.run paired);
   }
 
-  pub is_case : IsCase d (λ n. level) list.edges.items list.owners.items facings vs
+  pub is_case : IsCase d levels list.edges.items list.owners.items facings vs
   is_case = record {
-    low = λ i. low;
+    low = low;
     tubes = t.tubes;
     edges_are = t.edges;
     owners_are = t.owners;
@@ -161,43 +161,43 @@ module _ (d : Plan) (level : ℕ) (list : EdgeList) (t : IsTubedList d (λ n. le
     fit = fit;
   }
 
-  pub is_settled : IsSettledAt d (λ n. level)
+  pub is_settled : IsSettledAt d levels
   is_settled = level_settled settled
 
--- A level that settles the drawing pairs the cells of its run.
-pub settled_pairs : (d : Plan) (level : ℕ) (list : EdgeList) → IsTubedList d (λ n. level) list
-    → (facings : List Facing) → AreFacings d (λ n. level) facings → (vs : List Move) → Fit [] vs
-    → IsSettledDrawing d (drawn_bays d (λ n. level)) (length list.edges.items) (edge_of list.edges.items)
+-- Levels that settle the drawing pair the cells of its run.
+pub settled_pairs : (d : Plan) (levels : ℕ → ℕ) (list : EdgeList) → IsTubedList d levels list
+    → (facings : List Facing) → AreFacings d levels facings → (vs : List Move) → Fit [] vs
+    → IsSettledDrawing d (drawn_bays d levels) (length list.edges.items) (edge_of list.edges.items)
     (steps_from [] vs)
-    → ((m : ℕ) (E : ℕ → Edge) → IsSettledDrawing d (drawn_bays d (λ n. level)) m E (steps_from [] vs)
-    → AreCellsPaired d (drawn_bays d (λ n. level)) (replay (pos 0) m E (steps_from [] vs)))
+    → ((m : ℕ) (E : ℕ → Edge) → IsSettledDrawing d (drawn_bays d levels) m E (steps_from [] vs)
+    → AreCellsPaired d (drawn_bays d levels) (replay (pos 0) m E (steps_from [] vs)))
     → ArePaired facings list.owners.items (closed_gaps vs)
-settled_pairs d level list t facings told vs fit settled law =
-    let s : IsSettledDrawing d (drawn_bays d (λ n. level)) (length (edges_at d (λ n. level))) (edge_at d (λ n. level))
+settled_pairs d levels list t facings told vs fit settled law =
+    let s : IsSettledDrawing d (drawn_bays d levels) (length (edges_at d levels)) (edge_at d levels)
     (steps_from [] vs) =
-    subst (λ (es : List Edge). IsSettledDrawing d (drawn_bays d (λ n. level)) (length es) (edge_of es)
+    subst (λ (es : List Edge). IsSettledDrawing d (drawn_bays d levels) (length es) (edge_of es)
     (steps_from [] vs)) t.edges settled in
-    gaps_paired d level facings told list.owners.items t.owners vs fit s.run.run
-    (law (length (edges_at d (λ n. level))) (edge_at d (λ n. level)) s)
+    gaps_paired d levels facings told list.owners.items t.owners vs fit s.run.run
+    (law (length (edges_at d levels)) (edge_at d levels) s)
 
 -- ---- the owners of edges have curves of the drawing
-pub curves_below : (d : Plan) (level : ℕ) (list : EdgeList) (facings : List Facing)
-    → AreFacings d (λ n. level) facings → IsTubedList d (λ n. level) list → length d.curves < 2 ^ 30
-    → ((e : ℕ) → e < length (edges_at d (λ n. level)) → (owned_at d (λ n. level) e).curve < length d.curves)
+pub curves_below : (d : Plan) (levels : ℕ → ℕ) (list : EdgeList) (facings : List Facing)
+    → AreFacings d levels facings → IsTubedList d levels list → length d.curves < 2 ^ 30
+    → ((e : ℕ) → e < length (edges_at d levels) → (owned_at d levels e).curve < length d.curves)
     → (e : ℕ) → e < length list.owners.items → (owner_at list.owners.items e).curve < 2 ^ 30
-curves_below d level list facings told t few within e l =
-    let k : e < length (edges_at d (λ n. level)) =
-    (let q = owner_count d level facings told list.owners.items t.owners in
+curves_below d levels list facings told t few within e l =
+    let k : e < length (edges_at d levels) =
+    (let q = owner_count d levels facings told list.owners.items t.owners in
     omega (arith, l, q)) in
     let o = ap (λ (x : Owner). x.curve)
-    (owner_is d level facings told list.owners.items t.owners e k) in
+    (owner_is d levels facings told list.owners.items t.owners e k) in
     let c = within e k in
     omega (arith, o, c, few)
 
-pub few_of : (d : Plan) (level : ℕ) (list : EdgeList) → IsTubedList d (λ n. level) list
-    → length (edges_at d (λ n. level)) ≤ (129 * length d.curves) → length d.curves ≤ 16000000
+pub few_of : (d : Plan) (levels : ℕ → ℕ) (list : EdgeList) → IsTubedList d levels list
+    → length (edges_at d levels) ≤ (129 * length d.curves) → length d.curves ≤ 16000000
     → length list.edges.items < 2147483648
-few_of d level list t f few = let q = ap length t.edges in omega (arith, f, q, few)
+few_of d levels list t f few = let q = ap length t.edges in omega (arith, f, q, few)
 
 -- ---- answers of tests
 pub refused : {P : Type 0} → (P → ⊥) → IsTrue false ↔ P

@@ -108,17 +108,17 @@ tube_part runs.whole h = absurd h
 tube_part runs.inner h = tt
 tube_part runs.outer h = tt
 
--- ---- the list of a level, with the owner of each edge
-module _ (d : Plan) (level : ℕ) (list : EdgeList) (t : IsTubedList d (λ n. level) list) (own : (e : ℕ)
+-- ---- the list of the edges at some levels, with the owner of each
+module _ (d : Plan) (levels : ℕ → ℕ) (list : EdgeList) (t : IsTubedList d levels list) (own : (e : ℕ)
     → e < length list.edges.items → owner_at list.owners.items e
-    ≡ owner_as (owned_at d (λ n. level) e)) where
+    ≡ owner_as (owned_at d levels e)) where
   abbrev m : ℕ
   m = length list.edges.items
 
   abbrev E : ℕ → Edge
   E = edge_of list.edges.items
 
-  curve_is : (e : ℕ) → e < m → (owner_at list.owners.items e).curve ≡ (owned_at d (λ n. level) e).curve
+  curve_is : (e : ℕ) → e < m → (owner_at list.owners.items e).curve ≡ (owned_at d levels e).curve
   curve_is e l = ap (λ (o : Owner). o.curve) (own e l)
 
   pub end_of_curve : (vs : List Move) (e : ℕ) (o : Owner) (c : Curve) (p : Point)
@@ -133,14 +133,14 @@ module _ (d : Plan) (level : ℕ) (list : EdgeList) (t : IsTubedList d (λ n. le
 
   -- ---- an end of another edge of the curve
   module _ (half : (e : ℕ) → e < m
-      → (runs.IsOfTube (owned_at d (λ n. level) e).part → IsHalfArc d (owned_at d (λ n. level) e).curve)
-      × (IsHalfArc d (owned_at d (λ n. level) e).curve → runs.IsOfTube (owned_at d (λ n. level) e).part)) where
+      → (runs.IsOfTube (owned_at d levels e).part → IsHalfArc d (owned_at d levels e).curve)
+      × (IsHalfArc d (owned_at d levels e).curve → runs.IsOfTube (owned_at d levels e).part)) where
     same_tube : (e o : ℕ) → e < m → o < m
         → (owner_at list.owners.items o).curve ≡ (owner_at list.owners.items e).curve
         → IsOfTube (owner_at list.owners.items e).part
         → IsOfTube (owner_at list.owners.items o).part
     same_tube e o l k q h =
-        let of : runs.IsOfTube (owned_at d (λ n. level) e).part = tube_part _
+        let of : runs.IsOfTube (owned_at d levels e).part = tube_part _
         (subst (λ (w : Owner). IsOfTube w.part) (own e l) h) in
         let arc = subst (IsHalfArc d) (sym (curve_is e l) ∙ sym q ∙ curve_is o k)
         ((half e l).0 of) in
@@ -178,11 +178,11 @@ module _ (d : Plan) (level : ℕ) (list : EdgeList) (t : IsTubedList d (λ n. le
         (edge_at_event m E u f fact k (subst (IsEnd (E f)) at c)) n
 
     abbrev Own : ℕ → ℕ → Point → Type 0
-    Own e f p = (p ≡ (curve d (owned_at d (λ n. level) e).curve).from)
-        ⊎ ((p ≡ (curve d (owned_at d (λ n. level) e).curve).to)
-        ⊎ ((owned_at d (λ n. level) f).curve ≡ (owned_at d (λ n. level) e).curve))
+    Own e f p = (p ≡ (curve d (owned_at d levels e).curve).from)
+        ⊎ ((p ≡ (curve d (owned_at d levels e).curve).to)
+        ⊎ ((owned_at d levels f).curve ≡ (owned_at d levels e).curve))
 
-    pub all_own : AreOwn d list vs m → (p : Point) → IsOwnCorner d (λ n. level) p
+    pub all_own : AreOwn d list vs m → (p : Point) → IsOwnCorner d levels p
     all_own all p e f l k h a b = by_own (by_end there_e)
       where
         le : e < m
@@ -204,14 +204,14 @@ module _ (d : Plan) (level : ℕ) (list : EdgeList) (t : IsTubedList d (λ n. le
         by_end (inl q) = subst (IsOwnEnd d list vs e) q (all e le of_e).0
         by_end (inr q) = subst (IsOwnEnd d list vs e) q (all e le of_e).1
 
-        at_end : IsEndOf (curve d (owned_at d (λ n. level) e).curve) p → Own e f p
+        at_end : IsEndOf (curve d (owned_at d levels e).curve) p → Own e f p
         at_end (inl q) = inl (sym q)
         at_end (inr q) = inr (inl (sym q))
 
         one_of : (o : ℕ) → IsOtherAt list e o p → (f ≡ e) ⊎ (f ≡ o) → Own e f p
-        one_of o n (inl q) = inr (inr (ap (λ (i : ℕ). (owned_at d (λ n. level) i).curve) q))
+        one_of o n (inl q) = inr (inr (ap (λ (i : ℕ). (owned_at d levels i).curve) q))
         one_of o n (inr q) =
-            inr (inr (ap (λ (i : ℕ). (owned_at d (λ n. level) i).curve) q ∙ sym (curve_is o n.there)
+            inr (inr (ap (λ (i : ℕ). (owned_at d levels i).curve) q ∙ sym (curve_is o n.there)
             ∙ n.same ∙ curve_is e le))
 
         by_own : IsOwnEnd d list vs e p → Own e f p
@@ -221,45 +221,45 @@ module _ (d : Plan) (level : ℕ) (list : EdgeList) (t : IsTubedList d (λ n. le
 
 -- ---- the events of all ends
 -- what the search of these says, by the lists as they are lent
-pub found_is : (d : Plan) (level : ℕ) (list : EdgeList) (table : List Timed) (es fs : List Edge)
+pub found_is : (d : Plan) (levels : ℕ → ℕ) (list : EdgeList) (table : List Timed) (es fs : List Edge)
     (low high lows highs : List ℕ) (events : ℕ) (found : Option ℕ)
-    → IsTubedList d (λ n. level) list
-    → ((level : ℕ → ℕ) (table : List Timed) → IsTubedList d level list
+    → IsTubedList d levels list
+    → ((levels : ℕ → ℕ) (table : List Timed) → IsTubedList d levels list
     → IsTimetable (length list.edges.items) (edge_of list.edges.items) table
     → AreEventsOf list.edges.items table lows highs → length table ≡ events
-    → IsFirstForeign d level table found)
+    → IsFirstForeign d levels table found)
     → es ≡ list.edges.items → IsTimetable (length es) (edge_of es) table → fs ≡ list.edges.items
     → AreEventsOf fs table low high → lows ≡ low → highs ≡ high → events ≡ length table
-    → IsFirstForeign d (λ n. level) table found
-found_is d level list table es fs low high lows highs events found l f e t g a p q n =
-    f (λ n. level) table l (subst (λ es. IsTimetable (length es) (edge_of es) table) e t)
+    → IsFirstForeign d levels table found
+found_is d levels list table es fs low high lows highs events found l f e t g a p q n =
+    f levels table l (subst (λ es. IsTimetable (length es) (edge_of es) table) e t)
     (subst (λ ls. AreEventsOf list.edges.items table ls highs) (sym p)
     (subst (λ hs. AreEventsOf list.edges.items table low hs) (sym q)
     (subst (λ es. AreEventsOf es table low high) g a))) (sym n)
 
-pub table_at : (d : Plan) (level : ℕ) (list : EdgeList) (table : List Timed) (es : List Edge)
-    → IsTubedList d (λ n. level) list → es ≡ list.edges.items → IsTimetable (length es) (edge_of es) table
-    → IsTimetable (length (edges_at d (λ n. level))) (edge_at d (λ n. level)) table
-table_at d level list table es l e t =
+pub table_at : (d : Plan) (levels : ℕ → ℕ) (list : EdgeList) (table : List Timed) (es : List Edge)
+    → IsTubedList d levels list → es ≡ list.edges.items → IsTimetable (length es) (edge_of es) table
+    → IsTimetable (length (edges_at d levels)) (edge_at d levels) table
+table_at d levels list table es l e t =
     subst (λ es. IsTimetable (length es) (edge_of es) table) (e ∙ l.edges) t
 
 -- no corner is found, or one is
-pub none_found : {P : Type 0} (d : Plan) (level : ℕ) (table : List Timed) (found : Option ℕ)
+pub none_found : {P : Type 0} (d : Plan) (levels : ℕ → ℕ) (table : List Timed) (found : Option ℕ)
     (b : Bool)
-    → IsFirstForeign d (λ n. level) table found → b ≡ is_some found → b ≡ false
-    → (IsFirstForeign d (λ n. level) table None → P) → P
-none_found d level table None b h q e f = f h
-none_found d level table (Some k) b h q e f = clash (sym q ∙ e)
+    → IsFirstForeign d levels table found → b ≡ is_some found → b ≡ false
+    → (IsFirstForeign d levels table None → P) → P
+none_found d levels table None b h q e f = f h
+none_found d levels table (Some k) b h q e f = clash (sym q ∙ e)
   where
     clash : {P : Type 0} → true ≡ false → P
     clash e = cc
 
-pub one_found : {P : Type 0} (d : Plan) (level : ℕ) (table : List Timed) (found : Option ℕ)
+pub one_found : {P : Type 0} (d : Plan) (levels : ℕ → ℕ) (table : List Timed) (found : Option ℕ)
     (b : Bool)
-    → IsFirstForeign d (λ n. level) table found → b ≡ is_some found → IsTrue b
-    → ((k : ℕ) → IsFirstForeign d (λ n. level) table (Some k) → P) → P
-one_found d level table None b h q t f = clash (subst IsTrue q t)
+    → IsFirstForeign d levels table found → b ≡ is_some found → IsTrue b
+    → ((k : ℕ) → IsFirstForeign d levels table (Some k) → P) → P
+one_found d levels table None b h q t f = clash (subst IsTrue q t)
   where
     clash : {P : Type 0} → IsTrue false → P
     clash e = cc
-one_found d level table (Some k) b h q t f = f k h
+one_found d levels table (Some k) b h q t f = f k h

@@ -20,7 +20,7 @@ use line_sweep::{SweepRefusal, Swept, sweep};
 use plane::Drawing;
 use ports::Memory;
 use std::alloc::Global;
-use tubes::{EdgeList, edge_list};
+use tubes::{EdgeList, Levels, edge_list};
 
 /// What a sweep of a level's edges shows of the drawing.
 #[derive(Drop)]
@@ -99,7 +99,7 @@ fn shown_by_run(
         ≡ closed_gaps swept.events }
     ensures { IfOk result (IsShown (plan drawing.now) level) }
 {
-    match settled_facings(alloc, drawing, level, &list, &swept)? {
+    match settled_facings(alloc, drawing, &Levels::One(level), &list, &swept)? {
         Some(facings) => {
             let EdgeList { edges, owners } = list;
             Ok(Shown::Settled(SettledLevel {

@@ -17,13 +17,13 @@ use tubes::{EdgeList, Part};
 
 /// Whether each corner of a tube, other than the ends of its half arc, is an end of two edges of
 /// that tube, which stand one after the other in the list, and of no other edge; of the list of the
-/// drawing's edges at some level. The events are those of the edges. It takes a search among the
+/// drawing's edges at some levels. The events are those of the edges. It takes a search among the
 /// events for each corner, and no memory.
 pub(crate) fn are_corners_own(drawing: &Drawing, list: &EdgeList, events: &Events) -> bool
-    requires list { (level : ℕ) × IsTubedList (plan drawing.now) (λ n. level) list.now }
+    requires list { (levels : ℕ → ℕ) × IsTubedList (plan drawing.now) levels list.now }
     requires timed { HasTimetable list.now.edges.items events.now }
-    ensures { IsTrue result → (level : ℕ) → IsTubedList (plan drawing.now) (λ n. level) list.now
-        → (p : AnyPoint) → IsOwnCorner (plan drawing.now) (λ n. level) p }
+    ensures { IsTrue result → (levels : ℕ → ℕ) → IsTubedList (plan drawing.now) levels list.now
+        → (p : AnyPoint) → IsOwnCorner (plan drawing.now) levels p }
 {
     tubes::laws::tubed_lists();
     for number in 0..list.edges.len() {
@@ -36,7 +36,7 @@ pub(crate) fn are_corners_own(drawing: &Drawing, list: &EdgeList, events: &Event
 
 // The same of the corners at one edge, where those at all edges before it are so.
 fn has_own_corners(drawing: &Drawing, list: &EdgeList, events: &Events, number: usize) -> bool
-    requires list { (level : ℕ) × IsTubedList (plan drawing.now) (λ n. level) list.now }
+    requires list { (levels : ℕ → ℕ) × IsTubedList (plan drawing.now) levels list.now }
     requires there { number < length list.now.edges.items }
     requires before { AreOwn (plan drawing.now) list.now events.now number }
     ensures { IsTrue result
@@ -54,7 +54,7 @@ fn has_own_corners(drawing: &Drawing, list: &EdgeList, events: &Events, number: 
 
 // Whether this end of an edge is an end of its curve, or such a corner.
 fn is_own_end(drawing: &Drawing, list: &EdgeList, events: &Events, number: usize, at: Point) -> bool
-    requires list { (level : ℕ) × IsTubedList (plan drawing.now) (λ n. level) list.now }
+    requires list { (levels : ℕ → ℕ) × IsTubedList (plan drawing.now) levels list.now }
     requires there { number < length list.now.edges.items }
     requires before { AreOwn (plan drawing.now) list.now events.now number }
     requires tube { IsOfTube (owner_at list.now.owners.items number).part }

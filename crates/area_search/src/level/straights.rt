@@ -81,10 +81,10 @@ fn faces_of_swept(
     ensures { IfOk result (IsFacedDrawing (plan drawing.now)) }
 {
     tubes::laws::edges_of_tubed_drawing();
-    match settled_facings(alloc, drawing, 0, &list, &swept)? {
+    let levels = Levels::One(0);
+    match settled_facings(alloc, drawing, &levels, &list, &swept)? {
         Some(facings) => {
             let EdgeList { edges, owners } = list;
-            let levels = Levels::One(0);
             let settled = SettledDrawing {
                 drawing,
                 levels: &levels,

@@ -110,11 +110,11 @@ fn settle_run(
     ensures { IfOk result (IsSettling (plan drawing.now)) }
 {
     level_breaks::laws::settled_is_unbroken();
-    let Some(facings) = settled_facings(alloc, drawing, 5, &list, swept)? else {
+    let levels = Levels::One(5);
+    let Some(facings) = settled_facings(alloc, drawing, &levels, &list, swept)? else {
         return near_cells(alloc, drawing, &list, swept, firm);
     };
     let EdgeList { edges, owners } = list;
-    let levels = Levels::One(5);
     let settled = SettledDrawing {
         drawing,
         levels: &levels,

@@ -16,7 +16,7 @@ returns c =
     let n : vec_len c.args.list.now.edges ≡ length c.args.list.now.edges.items = search rules in
     let e = c.len-number-end.ensures in
     let f = c.loop-number-test.false in
-    λ h level t. all_own d level c.args.list.now t
-    (λ e l. c.tubed_lists.ensures.owners d (λ n. level) c.args.list.now no_owner e t l)
+    λ h levels t. all_own d levels c.args.list.now t
+    (λ e l. c.tubed_lists.ensures.owners d levels c.args.list.now no_owner e t l)
     c.args.events.now c.requires.timed
     (λ k l. c.loop-number.invariant k (omega (arith, l, n, e, f)))

@@ -13,9 +13,9 @@ pub index-curve-requires : goal.index-curve-requires
 index-curve-requires c =
     let d = plan c.args.drawing.now in
     let q = ap (λ (o : Owner). o.curve) (c.index.ensures
-    ∙ c.tubed_lists.ensures.owners d (λ n. c.requires.list.0) c.args.list.now c.index.result.now
+    ∙ c.tubed_lists.ensures.owners d c.requires.list.0 c.args.list.now c.index.result.now
     c.args.number c.requires.list.1 c.requires.there) in
-    let w = c.chains_have_edges.ensures.owner d (λ n. c.requires.list.0) c.args.number
+    let w = c.chains_have_edges.ensures.owner d c.requires.list.0 c.args.number
     (subst (λ (es : List Edge). c.args.number < length es) c.requires.list.1.edges
     c.requires.there) in
     let n : vec_len c.args.drawing.now.curves
@@ -27,17 +27,17 @@ returns-then-eq c =
     let d = plan c.args.drawing.now in
     let list = c.args.list.now in
     let t = c.requires.list.1 in
-    let n = c.tubed_lists.ensures.sizes d (λ n. c.requires.list.0) list t in
+    let n = c.tubed_lists.ensures.sizes d c.requires.list.0 list t in
     let o = c.index.result.now in
     let q = ap (λ (o : Owner). o.curve) (c.index.ensures
-    ∙ c.tubed_lists.ensures.owners d (λ n. c.requires.list.0) list o c.args.number t
+    ∙ c.tubed_lists.ensures.owners d c.requires.list.0 list o c.args.number t
     c.requires.there) in
-    let w = c.chains_have_edges.ensures.owner d (λ n. c.requires.list.0) c.args.number
+    let w = c.chains_have_edges.ensures.owner d c.requires.list.0 c.args.number
     (subst (λ (es : List Edge). c.args.number < length es) t.edges c.requires.there) in
     let k : o.curve < length c.args.drawing.now.curves.items = omega (arith, q, w) in
     let x = c.index-curve.result.now in
     λ h. end_of_curve d c.requires.list.0 list t
-    (λ e l. c.tubed_lists.ensures.owners d (λ n. c.requires.list.0) list no_owner e t l)
+    (λ e l. c.tubed_lists.ensures.owners d c.requires.list.0 list no_owner e t l)
     c.args.events.now c.args.number o x c.args.at n c.requires.there c.index.ensures k
     c.index-curve.ensures
     (elim c.then-eq.branch [
@@ -54,8 +54,8 @@ returns-then-number-gt0 c =
     let t = c.requires.list.1 in
     let s = c.if-number-gt0.true in
     λ h. earlier_end d c.requires.list.0 list t
-    (λ e l. c.tubed_lists.ensures.owners d (λ n. c.requires.list.0) list no_owner e t l)
-    (λ e l. c.chains_have_edges.ensures.half_arc d (λ n. c.requires.list.0) e
+    (λ e l. c.tubed_lists.ensures.owners d c.requires.list.0 list no_owner e t l)
+    (λ e l. c.chains_have_edges.ensures.half_arc d c.requires.list.0 e
     (subst (λ (es : List Edge). e < length es) t.edges l))
     c.args.events.now c.args.number _ c.args.at c.requires.there c.requires.tube
     (c.is_other_at-then-number-gt0.ensures h) (c.requires.before _ (omega (arith, s)))

@@ -9,7 +9,7 @@ pub faces_of_list-requires-clause-few : goal.faces_of_list-requires-clause-few
 faces_of_list-requires-clause-few c =
     let d = plan c.args.drawing.now in
     let t = subst (IsListAt d (λ n. 0)) c.in-Some.is c.in_ok-list.ensures.list in
-    few_of d 0 c.in-Some.list t (c.few_edges.ensures d (λ n. 0) (omega arith) t.tubes) c.requires.curves
+    few_of d (λ n. 0) c.in-Some.list t (c.few_edges.ensures d (λ n. 0) (omega arith) t.tubes) c.requires.curves
 
 pub faces_of_list-requires-clause-settled : goal.faces_of_list-requires-clause-settled
 faces_of_list-requires-clause-settled c =

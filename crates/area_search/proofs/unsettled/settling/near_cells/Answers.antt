@@ -10,6 +10,6 @@ mark_unpaired-requires-clause-curves c =
     let few = c.args.drawing.now.few_curves in
     subst (λ (os : List Owner). (e : ℕ) → e < length os → (owner_at os e).curve < 1073741824)
     (sym c.deref-3.ensures.value)
-    (curves_below (plan c.args.drawing.now) 5 c.args.list.now c.in_ok-facings.facings.items
+    (curves_below (plan c.args.drawing.now) (λ n. 5) c.args.list.now c.in_ok-facings.facings.items
     (c.in_ok-facings.ensures (λ n. 5) c.requires.list) c.requires.list (omega (arith, few))
     (c.chains_have_edges.ensures.owner (plan c.args.drawing.now) (λ n. 5)))
