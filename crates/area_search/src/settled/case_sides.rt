@@ -57,7 +57,8 @@ pub(crate) fn faces_beside(
     for number in 0..settled.drawing.curves.len() {
         let curve = &settled.drawing.curves[number];
         besides.push(faces_of_curve(settled, mesh, curve, number as u32, first))?;
-        first += edge_count(curve.kind, settled.levels.of(number as u32));
+        let level = settled.levels.of(number as u32);
+        first += edge_count(curve.kind, level);
     }
     Ok(besides)
 }
@@ -102,7 +103,8 @@ fn faces_of_curve(
     match curve.kind {
         CurveKind::Straight => faces_of_straight(mesh, curve, first),
         CurveKind::HalfArc => {
-            let second = first + bay_count(settled.levels.of(number));
+            let level = settled.levels.of(number);
+            let second = first + bay_count(level);
             Beside {
                 first: face_outside(settled, mesh, first),
                 second: face_outside(settled, mesh, second),

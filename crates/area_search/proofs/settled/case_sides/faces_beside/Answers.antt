@@ -1,7 +1,7 @@
-use Rattle.std.proofs.Common.{rules, ◌<◌, arith, length, sym}
+use Rattle.std.proofs.Common.{rules, ◌<◌, ◌≤◌, ℕ, arith, ap, length, subst, sym, ◌∙◌}
 use Rattle.plane.specs.Rule.Plans.{plan}
 use Rattle.tubes.specs.TubedEdges.{drawn_bays}
-use Rattle.area_search.specs.Settled.CaseSides.{IsBeside, no_beside}
+use Rattle.area_search.specs.Settled.CaseSides.{IsBeside, edges_of_kind, no_beside}
 use Rattle.area_search.proofs.SettledLemmas.CaseCurves.{next_fits, next_is, no_first}
 use Rattle.area_search.proofs.SettledLemmas.CaseEdges.{nth_curve_is}
 use Rattle.area_search.proofs.Small.{one_more, one_more_size}
@@ -15,6 +15,11 @@ loop-number-init c = record {
   besides = record { size = search rules; each = λ i l. absurd (omega (arith, l)) };
 }
 
+pub edge_count-first-requires : goal.edge_count-first-requires
+edge_count-first-requires c =
+    subst (λ (n : ℕ). n ≤ 5) (sym c.of-level.ensures)
+    (c.requires.settled.1.low c.loop-number.number)
+
 pub overflow_add-first : goal.overflow_add-first
 overflow_add-first c =
     let l : c.loop-number.number < length
@@ -27,7 +32,8 @@ overflow_add-first c =
     c.index-curve.result.now c.loop-number.number c.loop-number.first l
     (nth_curve_is (plan c.args.settled.now.drawing.now) c.loop-number.number
     c.index-curve.result.now l c.index-curve.ensures) c.loop-number.invariant.first
-    c.edge_count-first.result c.edge_count-first.ensures in
+    c.edge_count-first.result (c.edge_count-first.ensures
+    ∙ ap (edges_of_kind c.index-curve.result.now.kind) c.of-level.ensures) in
     let f = c.requires.few in
     omega (arith, t, f)
 
@@ -45,7 +51,8 @@ loop-number-preserved c =
           c.index-curve.result.now c.loop-number.number c.loop-number.first l
           (nth_curve_is (plan c.args.settled.now.drawing.now) c.loop-number.number
           c.index-curve.result.now l c.index-curve.ensures) i.first
-          c.edge_count-first.result c.edge_count-first.ensures;
+          c.edge_count-first.result (c.edge_count-first.ensures
+          ∙ ap (edges_of_kind c.index-curve.result.now.kind) c.of-level.ensures);
       besides = record {
         size = one_more_size c.loop-number.besides.items c.push.new.self.items
             c.faces_of_curve.result c.loop-number.number i.besides.size c.in_ok-push.ensures.items;

@@ -1,4 +1,4 @@
-use Rattle.std.proofs.Common.{arith}
+use Rattle.std.proofs.Common.{ℕ, ◌+◌, ◌^◌, ◌≤◌, arith, ap, subst, sym, ◌∙◌}
 use Rattle.plane.specs.Rule.Plans.{plan}
 use Rattle.area_search.proofs.SettledLemmas.CaseCurves.{arc_beside, arc_first, inner_is}
 use Rattle.area_search.proofs.SettledLemmas.CaseCurves.{inner_there, outer_is, outer_there}
@@ -35,6 +35,10 @@ returns-in-Straight c =
     c.args.mesh.now.face _ c.in-Straight.is c.faces_of_straight.ensures.first
     c.faces_of_straight.ensures.second
 
+pub bay_count-requires : goal.bay_count-requires
+bay_count-requires c =
+    subst (λ (n : ℕ). n ≤ 5) (sym c.of-level.ensures) (c.requires.settled.1.low c.args.number)
+
 pub overflow_add-second : goal.overflow_add-second
 overflow_add-second c =
     let t = outer_there (plan c.args.settled.now.drawing.now) (levels_in c.args.settled.now)
@@ -47,7 +51,7 @@ overflow_add-second c =
     c.requires.settled.1.tubes h)
     (c.chains_have_edges.ensures.outer
     (plan c.args.settled.now.drawing.now) (levels_in c.args.settled.now) c.args.number h))
-    c.bay_count.result c.bay_count.ensures c.in-HalfArc.is in
+    c.bay_count.result (c.bay_count.ensures ∙ ap (λ (l : ℕ). 2 ^ (l + 1)) c.of-level.ensures) c.in-HalfArc.is in
     let f = c.requires.few in
     omega (arith, t, f)
 
@@ -91,7 +95,7 @@ face_outside-requires-in-HalfArc-clause-there c =
     c.requires.settled.1.tubes h)
     (c.chains_have_edges.ensures.outer
     (plan c.args.settled.now.drawing.now) (levels_in c.args.settled.now) c.args.number h))
-    c.bay_count.result c.bay_count.ensures c.in-HalfArc.is
+    c.bay_count.result (c.bay_count.ensures ∙ ap (λ (l : ℕ). 2 ^ (l + 1)) c.of-level.ensures) c.in-HalfArc.is
 
 pub face_outside-requires-in-HalfArc-clause-tube : goal.face_outside-requires-in-HalfArc-clause-tube
 face_outside-requires-in-HalfArc-clause-tube c =
@@ -105,7 +109,7 @@ face_outside-requires-in-HalfArc-clause-tube c =
     c.requires.settled.1.tubes h)
     (c.chains_have_edges.ensures.outer
     (plan c.args.settled.now.drawing.now) (levels_in c.args.settled.now) c.args.number h))
-    c.bay_count.result c.bay_count.ensures c.in-HalfArc.is
+    c.bay_count.result (c.bay_count.ensures ∙ ap (λ (l : ℕ). 2 ^ (l + 1)) c.of-level.ensures) c.in-HalfArc.is
 
 pub returns-in-HalfArc : goal.returns-in-HalfArc
 returns-in-HalfArc c =
@@ -113,5 +117,5 @@ returns-in-HalfArc c =
     (edges_of c.args.settled.now) c.args.settled.now.owners.now c.args.settled.now.facings.now
     c.requires.settled.0 c.requires.settled.1
     c.args.curve.now c.args.number c.args.first c.requires.there c.requires.curve c.requires.first
-    c.args.mesh.now.face _ c.bay_count.result c.bay_count.ensures c.in-HalfArc.is
+    c.args.mesh.now.face _ c.bay_count.result (c.bay_count.ensures ∙ ap (λ (l : ℕ). 2 ^ (l + 1)) c.of-level.ensures) c.in-HalfArc.is
     c.face_outside.ensures c.face_outside-in-HalfArc.ensures
