@@ -23,17 +23,17 @@ roots_of_case-requires-clause-owners c =
     subst (λ (n : ℕ). (e : ℕ) → e < length c.args.run.settled.now.owners.now
     → (owner_at c.args.run.settled.now.owners.now e).curve < n)
     (sym (c.len.ensures ∙ c.args.run.settled.now.drawing.now.curves.ok.0))
-    (owners_known (plan c.args.run.settled.now.drawing.now) (λ n. c.arg(λ n. c.args.level))
-    (edges_at (plan c.args.run.settled.now.drawing.now) (λ n. c.arg(λ n. c.args.level))) c.args.run.settled.now.owners.now
+    (owners_known (plan c.args.run.settled.now.drawing.now) (λ n. c.args.level)
+    (edges_at (plan c.args.run.settled.now.drawing.now) (λ n. c.args.level)) c.args.run.settled.now.owners.now
     c.args.run.settled.now.facings.now c.requires.run.vs c.requires.run.settled)
 
 pub roots_of_case-requires-clause-small : goal.roots_of_case-requires-clause-small
 roots_of_case-requires-clause-small c =
-    small_spots (plan c.args.run.settled.now.drawing.now) (λ n. c.arg(λ n. c.args.level))
-    (edges_at (plan c.args.run.settled.now.drawing.now) (λ n. c.arg(λ n. c.args.level))) c.args.run.settled.now.owners.now
+    small_spots (plan c.args.run.settled.now.drawing.now) (λ n. c.args.level)
+    (edges_at (plan c.args.run.settled.now.drawing.now) (λ n. c.args.level)) c.args.run.settled.now.owners.now
     c.args.run.settled.now.facings.now c.requires.run.vs c.requires.run.settled
-    (few_edges (plan c.args.run.settled.now.drawing.now) (λ n. c.arg(λ n. c.args.level))
-    (edges_at (plan c.args.run.settled.now.drawing.now) (λ n. c.arg(λ n. c.args.level))) c.args.run.settled.now.owners.now
+    (few_edges (plan c.args.run.settled.now.drawing.now) (λ n. c.args.level)
+    (edges_at (plan c.args.run.settled.now.drawing.now) (λ n. c.args.level)) c.args.run.settled.now.owners.now
     c.args.run.settled.now.facings.now c.requires.run.vs c.requires.run.settled
     c.args.run.labelled.now.mesh c.requires.run.outline) c.args.run.spots.now
     c.requires.run.placed
@@ -43,11 +43,11 @@ roots_of_case-requires-clause-tubes c =
     subst (λ (n : ℕ). (k : ℕ) (p : Spot) → k < length c.args.run.spots.now
     → IsSpotIn n (slice_index_or c.args.run.spots.now k p))
     (sym (c.len.ensures ∙ c.args.run.settled.now.drawing.now.curves.ok.0))
-    (spots_in (plan c.args.run.settled.now.drawing.now) (λ n. c.arg(λ n. c.args.level))
-    (edges_at (plan c.args.run.settled.now.drawing.now) (λ n. c.arg(λ n. c.args.level))) c.args.run.settled.now.owners.now
+    (spots_in (plan c.args.run.settled.now.drawing.now) (λ n. c.args.level)
+    (edges_at (plan c.args.run.settled.now.drawing.now) (λ n. c.args.level)) c.args.run.settled.now.owners.now
     c.args.run.settled.now.facings.now c.requires.run.vs c.requires.run.settled
-    (few_edges (plan c.args.run.settled.now.drawing.now) (λ n. c.arg(λ n. c.args.level))
-    (edges_at (plan c.args.run.settled.now.drawing.now) (λ n. c.arg(λ n. c.args.level))) c.args.run.settled.now.owners.now
+    (few_edges (plan c.args.run.settled.now.drawing.now) (λ n. c.args.level)
+    (edges_at (plan c.args.run.settled.now.drawing.now) (λ n. c.args.level)) c.args.run.settled.now.owners.now
     c.args.run.settled.now.facings.now c.requires.run.vs c.requires.run.settled
     c.args.run.labelled.now.mesh c.requires.run.outline) c.args.run.spots.now
     c.requires.run.placed)
@@ -65,8 +65,8 @@ links_by_joins-requires-clause-within c =
     (c.in_ok-roots.ensures (closed_gaps c.requires.run.vs)
     (subst (IsBorder (closed_gaps c.requires.run.vs))
     (sym c.border.ensures) c.requires.run.joins.border)) in
-    list_within (plan c.args.run.settled.now.drawing.now) (λ n. c.arg(λ n. c.args.level))
-    (edges_at (plan c.args.run.settled.now.drawing.now) (λ n. c.arg(λ n. c.args.level))) c.args.run.settled.now.owners.now
+    list_within (plan c.args.run.settled.now.drawing.now) (λ n. c.args.level)
+    (edges_at (plan c.args.run.settled.now.drawing.now) (λ n. c.args.level)) c.args.run.settled.now.owners.now
     c.args.run.settled.now.facings.now c.requires.run.vs c.requires.run.settled
     c.args.run.labelled.now.mesh c.requires.run.outline c.args.run.spots.now c.requires.run.placed
     c.args.run.labelled.now.count c.requires.run.faces c.args.owners.now c.requires.owned
@@ -87,8 +87,8 @@ links_by_joins-requires-clause-joins c =
     (sym c.border.ensures) c.requires.run.joins.border)) in (
       closed_gaps c.requires.run.vs,
       c.requires.run.joins,
-      list_rooted (plan c.args.run.settled.now.drawing.now) (λ n. c.arg(λ n. c.args.level))
-          (edges_at (plan c.args.run.settled.now.drawing.now) (λ n. c.arg(λ n. c.args.level))) c.args.run.settled.now.owners.now
+      list_rooted (plan c.args.run.settled.now.drawing.now) (λ n. c.args.level)
+          (edges_at (plan c.args.run.settled.now.drawing.now) (λ n. c.args.level)) c.args.run.settled.now.owners.now
           c.args.run.settled.now.facings.now c.requires.run.vs c.requires.run.settled
           c.args.run.labelled.now.mesh c.requires.run.outline c.args.run.spots.now
           c.requires.run.placed c.args.run.labelled.now.count c.requires.run.faces
@@ -101,7 +101,7 @@ named_notes-notes-requires-clause-size c =
     let s = r.settled.now in
     let h = c.requires.run in
     notes_size (plan s.drawing.now) (λ n. c.args.level)
-    (edges_at (plan s.drawing.now) (λ n. c.arg(λ n. c.args.level))) s.owners.now s.facings.now h.vs h.settled r.labelled.now.mesh h.outline
+    (edges_at (plan s.drawing.now) (λ n. c.args.level)) s.owners.now s.facings.now h.vs h.settled r.labelled.now.mesh h.outline
     r.spots.now r.labelled.now.count h.faces c.args.owners.now c.requires.owned
     c.deref.result.now c.in_ok-found.found.items (c.in_ok-found.ensures (closed_gaps h.vs) h.joins)
 
@@ -111,7 +111,7 @@ named_notes-notes-requires-clause-known c =
     let s = r.settled.now in
     let h = c.requires.run in
     faces_known (plan s.drawing.now) (λ n. c.args.level)
-    (edges_at (plan s.drawing.now) (λ n. c.arg(λ n. c.args.level))) s.owners.now s.facings.now h.vs h.settled r.labelled.now.mesh h.outline
+    (edges_at (plan s.drawing.now) (λ n. c.args.level)) s.owners.now s.facings.now h.vs h.settled r.labelled.now.mesh h.outline
     r.spots.now r.labelled.now.count h.faces c.args.owners.now c.requires.owned
     c.deref.result.now c.in_ok-found.found.items (c.in_ok-found.ensures (closed_gaps h.vs) h.joins)
 
@@ -119,8 +119,8 @@ pub named_notes-notes-requires-clause-curves : goal.named_notes-notes-requires-c
 named_notes-notes-requires-clause-curves c =
     let few = c.args.run.settled.now.drawing.now.few_curves in
     λ e l. let k =
-    owners_known (plan c.args.run.settled.now.drawing.now) (λ n. c.arg(λ n. c.args.level))
-    (edges_at (plan c.args.run.settled.now.drawing.now) (λ n. c.arg(λ n. c.args.level))) c.args.run.settled.now.owners.now
+    owners_known (plan c.args.run.settled.now.drawing.now) (λ n. c.args.level)
+    (edges_at (plan c.args.run.settled.now.drawing.now) (λ n. c.args.level)) c.args.run.settled.now.owners.now
     c.args.run.settled.now.facings.now c.requires.run.vs c.requires.run.settled e l in
     omega (arith, k, few)
 
@@ -152,8 +152,8 @@ returns-clause-proves c =
     c.args.run.settled.now.facings.now c.args.run.settled.now.owners.now c.args.owners.now found
     notes) (c.len-2.ensures ∙ c.args.run.settled.now.drawing.now.points.ok.0)
     c.named_notes-notes.ensures in
-    let sure = certifies (plan c.args.run.settled.now.drawing.now) c.arg(λ n. c.args.level)
-    (edges_at (plan c.args.run.settled.now.drawing.now) (λ n. c.arg(λ n. c.args.level))) c.args.run.settled.now.owners.now
+    let sure = certifies (plan c.args.run.settled.now.drawing.now) c.args.level
+    (edges_at (plan c.args.run.settled.now.drawing.now) (λ n. c.args.level)) c.args.run.settled.now.owners.now
     c.args.run.settled.now.facings.now c.requires.run.vs c.requires.run.settled
     c.args.run.spots.now c.requires.run.placed c.args.run.labelled.now.mesh
     c.args.run.labelled.now.count c.requires.run.faces c.args.owners.now c.requires.owned
@@ -165,7 +165,7 @@ returns-clause-proves c =
     let told : Certifies d (claims c.in_ok-certificate.certificate) = subst (Certifies d)
     (sym held.parts)
     (subst (λ (ps : List ℕ). Certifies d (record {
-      level = c.arg(λ n. c.args.level);
+      level = c.args.level;
       positions = ps;
       notes = notes;
       places = places;
@@ -205,19 +205,19 @@ returns-clause-chosen c =
     let at : c.args.run.positions.items ≡ positions_of vs = c.requires.run.positions_are in
     let same : claims c.in_ok-certificate.certificate
     ≡ record {
-      level = c.arg(λ n. c.args.level);
+      level = c.args.level;
       positions = positions_of vs;
       notes = notes;
       places = places;
     } =
     held.parts ∙ ap (λ (ps : List ℕ). record {
-      level = c.arg(λ n. c.args.level);
+      level = c.args.level;
       positions = ps;
       notes = notes;
       places = places;
     }) at in
-    let sure = certifies (plan c.args.run.settled.now.drawing.now) c.arg(λ n. c.args.level)
-    (edges_at (plan c.args.run.settled.now.drawing.now) (λ n. c.arg(λ n. c.args.level))) c.args.run.settled.now.owners.now
+    let sure = certifies (plan c.args.run.settled.now.drawing.now) c.args.level
+    (edges_at (plan c.args.run.settled.now.drawing.now) (λ n. c.args.level)) c.args.run.settled.now.owners.now
     c.args.run.settled.now.facings.now c.requires.run.vs c.requires.run.settled
     c.args.run.spots.now c.requires.run.placed c.args.run.labelled.now.mesh
     c.args.run.labelled.now.count c.requires.run.faces c.args.owners.now c.requires.owned
@@ -225,8 +225,8 @@ returns-clause-chosen c =
     c.deref.result.now listed places c.in_ok-places.ensures found listed_notes notes named
     c.requires.uncut c.requires.run.timed in
     subst (IsChosen d0) (sym same)
-    (chosen_claims (plan c.args.run.settled.now.drawing.now) c.arg(λ n. c.args.level)
-    (edges_at (plan c.args.run.settled.now.drawing.now) (λ n. c.arg(λ n. c.args.level))) c.args.run.settled.now.owners.now
+    (chosen_claims (plan c.args.run.settled.now.drawing.now) c.args.level
+    (edges_at (plan c.args.run.settled.now.drawing.now) (λ n. c.args.level)) c.args.run.settled.now.owners.now
     c.args.run.settled.now.facings.now c.requires.run.vs c.requires.run.settled
     c.args.run.spots.now c.requires.run.placed c.args.run.labelled.now.mesh
     c.args.run.labelled.now.count c.requires.run.faces c.args.owners.now c.requires.owned

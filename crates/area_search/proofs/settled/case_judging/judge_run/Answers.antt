@@ -18,6 +18,7 @@ use Rattle.area_search.proofs.SettledLemmas.CaseCuts.{cut_answer, no_cut}
 use Rattle.area_search.proofs.SettledLemmas.CaseFaults.{all_owned, besides_known, empty_answer}
 use Rattle.area_search.proofs.SettledLemmas.CaseFaults.{filled, point_known}
 use Rattle.area_search.proofs.SettledLemmas.CaseSpots.{spots_have}
+use Rattle.area_search.specs.Settled.Cases.{levels_in}
 use Rattle.area_search.proofs.settled.case_judging.judge_run.Goals as goal
 
 pub faces_beside-requires-clause-settled : goal.faces_beside-requires-clause-settled

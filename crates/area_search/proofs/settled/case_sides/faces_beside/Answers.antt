@@ -6,6 +6,7 @@ use Rattle.area_search.proofs.SettledLemmas.CaseCurves.{next_fits, next_is, no_f
 use Rattle.area_search.proofs.SettledLemmas.CaseEdges.{nth_curve_is}
 use Rattle.area_search.proofs.Small.{one_more, one_more_size}
 use Rattle.area_search.specs.Settled.Cases.{edges_of}
+use Rattle.area_search.specs.Settled.Cases.{levels_in}
 use Rattle.area_search.proofs.settled.case_sides.faces_beside.Goals as goal
 
 pub loop-number-init : goal.loop-number-init

@@ -4,6 +4,7 @@ use Rattle.area_search.proofs.SettledLemmas.CaseCurves.{arc_beside, arc_first, i
 use Rattle.area_search.proofs.SettledLemmas.CaseCurves.{inner_there, outer_is, outer_there}
 use Rattle.area_search.proofs.SettledLemmas.CaseCurves.{straight_beside, straight_there}
 use Rattle.area_search.specs.Settled.Cases.{edges_of}
+use Rattle.area_search.specs.Settled.Cases.{levels_in}
 use Rattle.area_search.proofs.settled.case_sides.faces_of_curve.Goals as goal
 
 pub faces_of_straight-requires-clause-few : goal.faces_of_straight-requires-clause-few

@@ -15,6 +15,7 @@ use Rattle.area_search.proofs.SettledLemmas.FacesBeside.{besides_known, spot_kno
 use Rattle.area_search.proofs.SettledLemmas.NumberedFaces.{drawing_faces, faces_numbered, none_open}
 use Rattle.area_search.proofs.SettledLemmas.NumberedFaces.{replicate_length}
 use Rattle.area_search.proofs.SettledLemmas.RoundFaces.{faces_round}
+use Rattle.area_search.specs.Settled.Cases.{levels_in}
 use Rattle.area_search.proofs.settled.drawing_faces.faces_of_drawing.Goals as goal
 
 pub faces_beside-requires-clause-settled : goal.faces_beside-requires-clause-settled

@@ -1,6 +1,7 @@
 use Rattle.std.proofs.Common.{◌≡◌, map, take}
 use Rattle.plane.specs.Rule.Plans.{plan}
 use Rattle.area_search.specs.Settled.FaceNumbers.{point_place}
+use Rattle.area_search.specs.Settled.Cases.{levels_in}
 use Rattle.area_search.proofs.settled.drawing_faces.places_of.Given as goal
 
 abbrev pub invariant-loop-point : goal.invariant-loop-point

@@ -9,6 +9,7 @@ use Rattle.area_search.specs.Settled.Cases.{edges_of, spot_at}
 use Rattle.area_search.proofs.SettledLemmas.FacedRuns.{cell_spots, faces_with, inner_face}
 use Rattle.area_search.proofs.SettledLemmas.FacedRuns.{known_face, one_point, point_face}
 use Rattle.area_search.proofs.SettledLemmas.FacedRuns.{point_faces, points_from, run_of, turned_of}
+use Rattle.area_search.specs.Settled.Cases.{levels_in}
 use Rattle.area_search.proofs.settled.faced.faces_of_run.Goals as goal
 
 pub cell_faces-requires : goal.cell_faces-requires

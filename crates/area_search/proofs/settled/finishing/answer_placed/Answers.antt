@@ -10,6 +10,7 @@ use Rattle.plane.specs.Rule.Plans.{plan}
 use Rattle.area_search.specs.Settled.Cases.{HasRunFaces, IsRunMesh, edges_of}
 use Rattle.area_search.proofs.SettledLemmas.CaseMesh.{has_run_faces, known_cells, owner_edges}
 use Rattle.area_search.proofs.SettledLemmas.CaseMesh.{owner_few, owner_mesh, run_mesh}
+use Rattle.area_search.specs.Settled.Cases.{levels_in}
 use Rattle.area_search.proofs.settled.finishing.answer_placed.Goals as goal
 
 pub label_with_joins-requires : goal.label_with_joins-requires

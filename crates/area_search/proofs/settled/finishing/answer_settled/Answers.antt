@@ -7,6 +7,7 @@ use Rattle.area_search.specs.Settled.Cases.{edges_of}
 use Rattle.area_search.proofs.Regions.{own_fault_found}
 use Rattle.area_search.proofs.SettledLemmas.CaseSpots.{on_answer}
 use Rattle.area_search.proofs.SettledLemmas.PlaceSpots.{objects_front, places_back}
+use Rattle.area_search.specs.Settled.Cases.{levels_in}
 use Rattle.area_search.proofs.settled.finishing.answer_settled.Goals as goal
 
 pub returns-in-Some : goal.returns-in-Some

@@ -2,6 +2,7 @@ use Rattle.std.proofs.Common.{arith}
 use Rattle.plane.specs.Rule.Plans.{plan}
 use Rattle.area_search.specs.Settled.Cases.{edges_of}
 use Rattle.area_search.proofs.SettledLemmas.PlaceSpots.{objects_alone}
+use Rattle.area_search.specs.Settled.Cases.{levels_in}
 use Rattle.area_search.proofs.settled.finishing.object_spots.Goals as goal
 
 pub spots_with-requires-clause-near : goal.spots_with-requires-clause-near

@@ -3,6 +3,7 @@ use Rattle.plane.specs.Rule.Plans.{plan}
 use Rattle.plane.specs.declared.kinds.Edge.{Edge}
 use Rattle.straight_predicates.specs.EdgeLists.{IsCloseToAll, no_point}
 use Rattle.area_search.specs.Settled.Cases.{IsCase}
+use Rattle.area_search.specs.Settled.Cases.{levels_in}
 use Rattle.area_search.proofs.settled.finishing.spots_of_run.Goals as goal
 
 pub spots_at-requires-clause-swept : goal.spots_at-requires-clause-swept

@@ -4,6 +4,7 @@ use Rattle.plane.specs.declared.kinds.Placed.{Placed}
 use Rattle.plane.specs.declared.kinds.Point.{Point}
 use Rattle.area_search.specs.Settled.Cases.{AreSpotsOf, edges_of, with_places}
 use Rattle.area_search.proofs.SettledLemmas.PlaceSpots.{all_close}
+use Rattle.area_search.specs.Settled.Cases.{levels_in}
 use Rattle.area_search.proofs.settled.finishing.spots_with.Goals as goal
 
 pub spots_of_run-requires-clause-close : goal.spots_of_run-requires-clause-close

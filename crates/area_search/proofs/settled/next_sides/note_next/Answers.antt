@@ -5,6 +5,7 @@ use Rattle.area_search.specs.Settled.Cases.{edges_of}
 use Rattle.area_search.specs.Settled.NextSides.{IsHalfOfSide, IsHalfWithin}
 use Rattle.area_search.proofs.SettledLemmas.SettledSides.{both_noted, first_faces, next_faces}
 use Rattle.area_search.proofs.SettledLemmas.SettledSides.{number_there}
+use Rattle.area_search.specs.Settled.Cases.{levels_in}
 use Rattle.area_search.proofs.settled.next_sides.note_next.Goals as goal
 
 pub note-requires-clause-there : goal.note-requires-clause-there

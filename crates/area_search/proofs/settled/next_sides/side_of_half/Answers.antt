@@ -12,6 +12,7 @@ use Rattle.area_search.proofs.SettledLemmas.CaseEdges.{curves_turn, nth_curve_is
 use Rattle.area_search.proofs.SettledLemmas.SettledSides.{curve_there, edge_there, facing_is}
 use Rattle.area_search.proofs.SettledLemmas.SettledSides.{is_tube, straight_on, tube_on}
 use Rattle.area_search.proofs.SettledLemmas.SettledSides.{within_edge}
+use Rattle.area_search.specs.Settled.Cases.{levels_in}
 use Rattle.area_search.proofs.settled.next_sides.side_of_half.Goals as goal
 
 pub index-curve-requires : goal.index-curve-requires

@@ -5,6 +5,7 @@ use Rattle.area_search.specs.Settled.Cases.{edges_of}
 use Rattle.area_search.proofs.SettledLemmas.CaseCalls.{few_edges}
 use Rattle.area_search.proofs.SettledLemmas.CaseCurves.{arc_first}
 use Rattle.area_search.proofs.SettledLemmas.RegionFaces.{places_have, places_known, regions_are}
+use Rattle.area_search.specs.Settled.Cases.{levels_in}
 use Rattle.area_search.proofs.settled.place_regions.regions_of.Goals as goal
 
 pub regions_of_spots-requires-clause-few : goal.regions_of_spots-requires-clause-few

@@ -1,6 +1,7 @@
 use Rattle.std.proofs.Common.{◌≡◌, take}
 use Rattle.plane.specs.Rule.Plans.{plan}
 use Rattle.area_search.specs.Settled.SpotRegions.{spot_regions}
+use Rattle.area_search.specs.Settled.Cases.{levels_in}
 use Rattle.area_search.proofs.settled.place_regions.regions_of_spots.Given as goal
 
 abbrev pub invariant-loop-place : goal.invariant-loop-place

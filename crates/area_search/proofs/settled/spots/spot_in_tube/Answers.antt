@@ -6,6 +6,7 @@ use Rattle.plane.specs.Rule.Plans.{plan}
 use Rattle.plane.specs.declared.kinds.Curve.{Curve}
 use Rattle.area_search.proofs.SettledLemmas.CaseEdges.{nth_curve_is}
 use Rattle.area_search.proofs.SettledLemmas.CaseSpots.{tube_side}
+use Rattle.tubes.specs.Levels.{level_by}
 use Rattle.area_search.proofs.settled.spots.spot_in_tube.Goals as goal
 
 pub side_in_tube-requires : goal.side_in_tube-requires

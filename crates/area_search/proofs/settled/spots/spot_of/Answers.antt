@@ -4,6 +4,7 @@ use Rattle.point_location.specs.Places.{IsPlaceOf}
 use Rattle.area_search.specs.Settled.CaseRoots.{owner_at}
 use Rattle.area_search.proofs.SettledLemmas.CaseSpots.{cell_over, cell_tube, owner_straight}
 use Rattle.area_search.proofs.SettledLemmas.CaseSpots.{owner_tube}
+use Rattle.tubes.specs.Levels.{level_by}
 use Rattle.area_search.proofs.settled.spots.spot_of.Goals as goal
 
 pub spot_in_tube-requires : goal.spot_in_tube-requires

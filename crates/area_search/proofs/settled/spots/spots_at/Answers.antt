@@ -2,6 +2,7 @@ use Rattle.std.proofs.Common.{refl}
 use Rattle.plane.specs.Rule.Plans.{plan}
 use Rattle.area_search.proofs.SettledLemmas.CaseSpots.{place_is, spots_grown}
 use Rattle.area_search.proofs.Small.{one_more_size}
+use Rattle.tubes.specs.Levels.{level_by}
 use Rattle.area_search.proofs.settled.spots.spots_at.Goals as goal
 
 pub spot_of-requires-clause-place : goal.spot_of-requires-clause-place
