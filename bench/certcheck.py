@@ -24,8 +24,9 @@ TOP = pathlib.Path(__file__).resolve().parent.parent
 sys.path[:0] = [str(TOP / "bench"), str(TOP / "tools")]
 
 import second_checker  # noqa: E402
-from areas import Form, Model, logical_lines  # noqa: E402
-from curves import parts  # noqa: E402
+from itftools.commands.curves import parts  # noqa: E402
+from itftools.reading.model import Model  # noqa: E402
+from itftools.reading.transfer import Form, logical_lines  # noqa: E402
 
 FILES = {"M": "model", "T": "transfer", "C": "certificate"}
 

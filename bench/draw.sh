@@ -1,5 +1,5 @@
 #!/usr/bin/env bash
-# Tests tools/draw.py on small drawings, with reports of the built program: that SVG and GeoJSON are
+# Tests `itf draw` on small drawings, with reports of the built program: that SVG and GeoJSON are
 # well-formed, that they mark the curves, points and sides that the reports name, that arcs are the
 # right part of the right circle, and that nothing is drawn where a report tells no area. It
 # measures nothing, and stops at the first picture that is wrong.
@@ -9,7 +9,7 @@
 itfcheck=$(built_program "$@")
 cd "$work"
 
-python3 - "$itfcheck" "$top/tools/draw.py" "$top/crates/itffaults/data" <<'PY'
+python3 - "$itfcheck" "$top/tools/itf" "$top/crates/itffaults/data" <<'PY'
 import json
 import math
 import os
@@ -76,7 +76,7 @@ def pictures(name, model, text, answer, changed=None, words=()):
     report = run(sys.argv[1], "check", "M", "T", "C").stdout
     hold(f"AREA Cover Parcel Form {answer}\n" in report, name, report)
     put("R", report.replace(answer, changed or answer))
-    done = run("python3", sys.argv[2], *words, "M", "T", "R", "out")
+    done = run(sys.argv[2], "draw", *words, "M", "T", "R", "out")
     hold(done.returncode == 0, name, done.stderr)
     with open("out/Cover.Parcel.Form.svg") as file:
         source = file.read()
@@ -270,7 +270,7 @@ def findings():
     put("T", text)
     report = run(sys.argv[1], "check", "M", "T", "C").stdout
     put("R", report)
-    done = run("python3", sys.argv[2], "M", "T", "R", "out")
+    done = run(sys.argv[2], "draw", "M", "T", "R", "out")
     hold(done.returncode == 0 and "1 findings have no place" in done.stdout, done)
     with open("out/areas.geojson") as file:
         features = json.load(file)["features"]
@@ -284,7 +284,7 @@ def findings():
     with open("out/Cover.Parcel.Form.svg") as file:
         svg = tree.fromstring(file.read())
     hold(titles(svg, "ring") == ["line 16", "line 23"], titles(svg, "ring"))
-    done = run("python3", sys.argv[2], "--whole", "M", "T", "R", "out")
+    done = run(sys.argv[2], "draw", "--whole", "M", "T", "R", "out")
     with open("out/Cover.Parcel.Form.svg") as file:
         svg = tree.fromstring(file.read())
     hold(titles(svg, "ring") == ["line 16", "line 23", "line 25"], titles(svg, "ring"))
@@ -356,27 +356,39 @@ ON 58 17 35.00 10.00
 OUTSIDE 63 5.00 5.00
 TWO 59 60 52.00 15.00 57.50 15.25
 EMPTY 17 LEFT 30.00 10.00 40.00 10.00
+RING 4
+30.00 10.00
+40.00 10.00
+40.00 20.00
+30.00 20.00
 CUT 45 72.00 12.00 75.00 12.00
 OPEN 38 LEFT 90.00 10.00 110.00 10.00
+RING 4
+90.00 10.00
+110.00 10.00
+110.00 20.00
+90.00 20.00
 UNJUDGED 62 92.00 15.00
 COUNTS 1 1 1 1 1 1 1 1
 SURFACE Cover Building Form PROVED 1 0
 END
 """
 
+KINDS = ("MEETING", "ON", "OUTSIDE", "TWO", "EMPTY", "CUT", "OPEN", "UNJUDGED")
+
 
 def all_faults():
     """Of a file with all faults each one is drawn, and there is no picture."""
     put("ALL", ALL)
     files = [os.path.join(sys.argv[3], name) for name in ("faults.ili", "faults.itf")]
-    done = run("python3", sys.argv[2], *files, "ALL", "all")
+    done = run(sys.argv[2], "draw", *files, "ALL", "all")
     hold(done.returncode == 0 and sorted(os.listdir("all")) == ["areas.geojson", "faults.dxf"], done)
     with open("all/areas.geojson") as file:
         features = json.load(file)["features"]
     told = {}
     for feature in features:
         told.setdefault(feature["properties"]["answer"], []).append(feature)
-    kinds = [line.split(" ")[0] for line in ALL.splitlines()[3:11]]
+    kinds = [line.split(" ")[0] for line in ALL.splitlines()[3:] if line.split(" ")[0] in KINDS]
     hold([answer.split(" ")[0] for answer in told] == kinds, told)
     sizes = {answer.split(" ")[0]: feature["properties"]["size"]
              for answer, found in told.items() for feature in found
@@ -384,7 +396,7 @@ def all_faults():
     hold(sizes == {"TWO": 100.0, "EMPTY": 100.0}, sizes)
     hold(told["MEETING 49 53"][-1]["geometry"]["coordinates"] == [100, 15], told["MEETING 49 53"])
     put("ALL", ALL.replace("END\n", ""))
-    done = run("python3", sys.argv[2], *files, "ALL", "none")
+    done = run(sys.argv[2], "draw", *files, "ALL", "none")
     hold(done.returncode == 1 and "not written to its end" in done.stderr, done)
     print("a file with all faults")
 
@@ -400,7 +412,7 @@ def refusals():
             (good, told.replace("PROVED 0 4 1", "OUTSIDE 9"), "no point in line 9"),
             (good, told.replace("PROVED 0 4 1", "ROUND 9"), "an answer that is none"),
             (good, told.replace("Parcel", "Street"), "no area for this"),
-            (good, "", "no VERDICT line"),
+            (good, "", "the report is empty"),
             (good.replace("EMOD\n", ""), told, "line 19: structure fault word"),
             (good.replace("LIPT 200 200", "LIPT 200 200 \\"), told, "structure fault continue"),
             (good.replace("ENDE\n", ""), told, "structure fault end"),
@@ -408,10 +420,10 @@ def refusals():
         put("M", MODEL)
         put("T", text)
         put("R", report)
-        done = run("python3", sys.argv[2], "M", "T", "R", "none")
+        done = run(sys.argv[2], "draw", "M", "T", "R", "none")
         hold(done.returncode == 1 and reason in done.stderr, reason, done)
         hold(not os.path.exists("none"), reason, "yet files are written")
-    hold(run("python3", sys.argv[2], "M", "T").returncode == 2, "usage")
+    hold(run(sys.argv[2], "draw", "M", "T").returncode == 4, "usage")
     print("nothing is drawn of 11 others")
 
 

@@ -4,14 +4,16 @@
 # certificates of docs/certificate-format.md judged by the program and by second_checker.py. It
 # measures nothing, and stops at the first difference.
 #
-# usage: bench/example.sh [ITFCHECK]      (crates/itfcheck/out/itfcheck where none is given)
+# usage: bench/example.sh [ITFCHECK [ITFFAULTS]]      (those of crates/*/out where none are given)
 . "$(dirname "${BASH_SOURCE[0]}")/begin.sh"
 itfcheck=$(built_program "$@")
+itffaults=$(built_faults "$@")
 cd "$work"
-mkdir -p checkout/crates/itfcheck/out
+mkdir -p checkout/crates/itfcheck/out checkout/crates/itffaults/out
 cp -r "$top/itfcheck" "$top/README.md" "$top/docs" "$top/tools" "$top/bench" checkout
 printf '#!/bin/sh\nexec "%s" "$@"\n' "$itfcheck" > checkout/crates/itfcheck/out/itfcheck
-chmod 755 checkout/crates/itfcheck/out/itfcheck
+printf '#!/bin/sh\nexec "%s" "$@"\n' "$itffaults" > checkout/crates/itffaults/out/itffaults
+chmod 755 checkout/crates/itfcheck/out/itfcheck checkout/crates/itffaults/out/itffaults
 cd checkout
 
 python3 - "$top/crates/itfcheck/data" <<'PY'
@@ -94,7 +96,7 @@ def certificates(data):
     for text, model, transfer in zip(texts, (f"{data}/parcels.ili", "M"), (f"{data}/parcels.itf", "T")):
         put("C", text)
         proved, _ = run(f"./itfcheck verify {model} {transfer} C\n", ".")
-        drawing, _ = run(f"python3 tools/curves.py {model} {transfer} > D; python3 bench/second_checker.py D C\n", ".")
+        drawing, _ = run(f"tools/itf curves {model} {transfer} > D; python3 bench/second_checker.py D C\n", ".")
         if "VERDICT ACCEPTED 2" not in proved or drawing != "PROVED\n":
             sys.exit(f"{text}{proved}{drawing}")
     if len(texts) != 2:

@@ -1,23 +1,28 @@
 #!/usr/bin/env python3
 """Holds the pages (README.md, docs/*.md, bench/README.md) against the tree: links and their anchors,
 the names of files, functions, clauses, definitions and edits that they cite, the counts that a script
-can tell, the order of the crates, and that docs/STATEMENT.md is what the sources say. It counts words,
-as `wc -w` does, and wants at most 40,000 in all and 1,000 in the README. It measures nothing.
+can tell, the order of the crates, that each edit can be made and has a head, and that docs/STATEMENT.md
+is what the sources say. It counts words, as `wc -w` does, and wants at most 43,100 in all and 1,000 in
+the README. It measures nothing.
 
 usage: pages.py            says what is wrong; the status is 1 where something is
        pages.py --words    prints the words of each page too
+       pages.py --marks    first marks in docs/PROOFS.md the edits that the gate does not try
 """
 import os
 import re
 import subprocess
 import sys
 
+from edits import BadEdit, Edit
+
 TOP = os.path.dirname(os.path.dirname(os.path.abspath(__file__)))
-MOST, MOST_OF_README, MOST_OF_BENCH = 40_000, 1_000, 3_000
+MOST, MOST_OF_README, MOST_OF_BENCH = 43_100, 1_000, 4_000
 KINDS = (".rt", ".antt", ".py", ".sh", ".hpp", ".cpp", ".toml", ".edit", ".ili", ".itf", ".txt", ".svg")
 FENCE = re.compile(r"^```.*?^```$", re.M | re.S)
 LINK = re.compile(r"\[[^\]]*\]\(([^()\s]+)\)")
 CODE = re.compile(r"`([^`\n]+)`")
+EDIT = re.compile(r"`(\w+)`°?")
 NAME = re.compile(r"[A-Za-z_][A-Za-z_0-9]*(?:(?:::|\.)[A-Za-z_][A-Za-z_0-9]*)*$")
 FOLDERS = ("crates/", "bench/", "tools/", "docs/", ".ci/", "specs/", "proofs/", "src/")
 # Names that a page gives as an example, or that a program makes.
@@ -66,7 +71,7 @@ def bad_links(path, text, texts):
         name = os.path.normpath(os.path.join(os.path.dirname(path), file)) if file else path
         if not os.path.exists(os.path.join(TOP, name)):
             yield f"{path}: no file {target}"
-        elif anchor and (name not in texts or anchor not in slugs(texts[name])):
+        elif anchor and anchor not in slugs(texts.get(name) or read(name)):
             yield f"{path}: no heading {target}"
 
 
@@ -98,11 +103,17 @@ class Tree:
 
     def edits(self, gate):
         """The edits of the gate by crate and name, or those outside of it."""
+        for path in self.edit_files(gate):
+            parts = path.split(os.sep)
+            yield parts[1 if gate else 2], parts[-1].removesuffix(".edit")
+
+    def edit_files(self, gate):
+        """The paths of these."""
         for path in self.paths:
             parts = path.split(os.sep)
             inside = parts[0] == "crates" and "must-fail" in parts
             if path.endswith(".edit") and inside == gate:
-                yield parts[1 if gate else 2], parts[-1].removesuffix(".edit")
+                yield path
 
     def has(self, path):
         """Whether a file or a folder ends so, where its parts are a path of the tree."""
@@ -159,6 +170,38 @@ def bad_proofs(text, here):
         if not name.endswith("_tests") and name not in ("itfcheck", "worked_rows"):
             if not re.search(rf"^### `{name}`", text, re.M):
                 yield f"docs/PROOFS.md: no section on {name}"
+
+
+def with_marks(text, here):
+    """The page of proofs with a mark behind each edit that the gate does not try."""
+    outside = {name for _, name in here.edits(False)}
+
+    def marked(found):
+        return f"`{found[1]}`" + ("°" if found[1] in outside else "")
+
+    lines = [line.partition("*Refused*") for line in text.split("\n")]
+    return "\n".join(claim + word + EDIT.sub(marked, edits) for claim, word, edits in lines)
+
+
+def bad_marks(text, here):
+    """Whether an edit of the gate has a mark, or another one has none."""
+    lines = zip(text.split("\n"), with_marks(text, here).split("\n"))
+    number = sum(line != marked for line, marked in lines)
+    if number:
+        yield f"docs/PROOFS.md: {number} lines lack marks of edits, or have too many: pages.py --marks"
+
+
+def bad_edits(here):
+    """Edits that cannot be made, or whose head does not name a clause."""
+    for gate in (True, False):
+        for path, (crate, _) in zip(here.edit_files(gate), here.edits(gate)):
+            edit = Edit(os.path.join(TOP, path))
+            try:
+                edit.changed(os.path.join(TOP, "crates", crate))
+            except (BadEdit, OSError) as why:
+                yield f"{path}: {why}"
+            if edit.breaks is None:
+                yield f"{path}: its head names no clause"
 
 
 def bad_order(text, here):
@@ -229,16 +272,22 @@ def bad_words(words):
 
 
 def main():
-    if sys.argv[1:] not in ([], ["--words"]):
+    if sys.argv[1:] not in ([], ["--words"], ["--marks"]):
         sys.exit(__doc__)
     texts, here = pages(), Tree()
+    if sys.argv[1:] == ["--marks"]:
+        texts["docs/PROOFS.md"] = with_marks(texts["docs/PROOFS.md"], here)
+        with open(os.path.join(TOP, "docs", "PROOFS.md"), "w", encoding="utf8") as page:
+            page.write(texts["docs/PROOFS.md"])
     words = {path: len(text.split()) for path, text in texts.items()}
-    if sys.argv[1:]:
+    if sys.argv[1:] == ["--words"]:
         for path, number in words.items():
             print(f"{number:7,} {path}")
     wrong = [one for path, text in texts.items() for one in bad_links(path, text, texts)]
     wrong += [one for path, text in texts.items() for one in bad_names(path, text, here)]
     wrong += bad_proofs(texts["docs/PROOFS.md"], here)
+    wrong += bad_marks(texts["docs/PROOFS.md"], here)
+    wrong += bad_edits(here)
     wrong += bad_order(texts["docs/ARCHITECTURE.md"], here)
     wrong += bad_scripts(texts["bench/README.md"], here)
     wrong += bad_counts(texts, here)

@@ -1,5 +1,5 @@
 #!/usr/bin/env bash
-# Tests tools/tell.py with reports of the built program: transfers and models with one fault each,
+# Tests `itf tell` with reports of the built program: transfers and models with one fault each,
 # of which the words have to name the table, the object, the attribute, the place and the line. It
 # measures nothing, and stops at the first text that is wrong.
 #
@@ -8,11 +8,11 @@
 itfcheck=$(built_program "$@")
 cd "$work"
 
-python3 - "$itfcheck" "$top/tools/tell.py" "$top/crates/itfcheck/data" <<'PY'
+python3 - "$itfcheck" "$top/tools/itf" "$top/crates/itfcheck/data" <<'PY'
 import subprocess
 import sys
 
-PROGRAM, TELL, DATA = sys.argv[1:]
+PROGRAM, ITF, DATA = sys.argv[1:]
 MODEL = open(f"{DATA}/parcels.ili", "rb").read()
 TRANSFER = open(f"{DATA}/parcels.itf", "rb").read()
 # Columns of each kind, lines of a table, of a SURFACE and of an AREA with a LINEATTR.
@@ -68,7 +68,7 @@ def put(name, text):
 
 def tell(model, transfer, report, *links):
     put("R", report)
-    return subprocess.run(["python3", TELL, model, transfer, "R", *links], capture_output=True, text=True)
+    return subprocess.run([ITF, "tell", model, transfer, "R", *links], capture_output=True, text=True)
 
 
 def told(what, model, transfer, first, *wanted):
@@ -92,7 +92,7 @@ def linked(what, transfer, links, line, *wanted):
     put("T", transfer)
     put("L", links)
     report = subprocess.run([PROGRAM, "points", "M", "T", "L"], capture_output=True).stdout
-    done = tell("M", "T", report, "L")
+    done = tell("M", "T", report, "--links", "L")
     lines = done.stdout.split("\n")
     if done.returncode or line not in lines or not all(f"    {one}" in lines for one in wanted):
         sys.exit(f"{what}: {report.decode()}{done.stdout}{done.stderr}wanted {line}, {wanted}")
@@ -265,15 +265,15 @@ for rule, words in ((b"LINK Cover Number Place Of", "5 words, the first LINK: si
            "this line of the links states no rule, which is LINK topic table point reference area")
 # Structures, and what the first line may be.
 small("a byte order mark", b"SCNT", b"\xef\xbb\xbfSCNT", "STRUCTURE 1 word",
-      "the file begins with a byte order mark of UTF-8: save it without")
+      "hint: the file begins with a byte order mark of UTF-8: save it without")
 told("UTF-16", MODEL, TRANSFER.decode().encode("utf-16"), "STRUCTURE 1 word",
-     "the file is in UTF-16: save it in a code of one byte a letter")
+     "hint: the file is in UTF-16: save it in a code of one byte a letter")
 told("CR alone", MODEL, TRANSFER.replace(b"\n", b"\r"), "STRUCTURE 1 word",
-     "the lines end with CR alone: save the file with LF or CR LF")
-small("small letters", b"SCNT", b"scnt", "STRUCTURE 1 word", "words are in capitals: SCNT")
+     "hint: the lines end with CR alone: save the file with LF or CR LF")
+small("small letters", b"SCNT", b"scnt", "STRUCTURE 1 word", "hint: words are in capitals: SCNT")
 told("an empty first line", MODEL, b"\n" + TRANSFER, "STRUCTURE 1 word",
-     "the first line is empty: SCNT has to stand in it")
-small("no end of the head", b"////\n", b"", "STRUCTURE 20 end", "no line is ////, which ends the head of a transfer")
+     "hint: the first line is empty: SCNT has to stand in it")
+small("no end of the head", b"////\n", b"", "STRUCTURE 20 end", "hint: no line is ////, which ends the head of a transfer")
 small("another model", b"MODL Land", b"MODL Stadt", "STRUCTURE 4 name", "line 4: MODL Stadt")
 small("a line that goes on", b"LIPT 100.000 100.000\n", b"LIPT 100.000 100.000 \\\n", "STRUCTURE 12 continue",
       "line 12: LIPT 100.000 100.000 \\")

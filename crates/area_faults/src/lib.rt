@@ -12,9 +12,11 @@
 //!   lies in a face that is told to be open (`fault_lists::laws::each_fault_is_told`). The fault
 //!   that `area_search` answers is the first in the first list that has any, and it answers a
 //!   certificate exactly where none has one (`laws`).
-//! - **Too many.** Where more than 1,000,000 pairs meet badly, or there are more than 2,000,000
-//!   pairs of a point and a curve that is left out on which it lies, some of the pairs that meet
-//!   badly are told and nothing else. No level settles such a drawing.
+//! - **Too many.** Only where more than 1,000,000 pairs meet badly, or there are more than 2,000,000
+//!   pairs of a point and a curve on which it lies, of the curves that are left out, it may be that
+//!   some of the pairs that meet badly are told and nothing else. Since each pair is found once or
+//!   twice, up to 2,000,001 and 4,000,001 may all be told. Left out are the curves that meet others
+//!   badly, or, of a drawing with half arcs, all. No level settles such a drawing.
 //! - **Degenerate cases.** No curve, no point, equal curves, curves that end within a face and
 //!   points at vertices are all taken.
 //! - **Not here:** lines of the transfer, coordinates in a model's decimals, and any text.

@@ -1,7 +1,7 @@
 //! Tests of the crates of the plane, by their public items alone: predicates, circles, drawings,
 //! forks, boxes, bad pairs of curves, pairs that break a level, meshes, the sweep, places of
-//! points, boundaries of surfaces, polygons of faces and the texts of certificates. Whole areas
-//! with their faces and links, and certificates that are changed in a line, are rows of
+//! points, links to roots, boundaries of surfaces, polygons of faces and the texts of certificates.
+//! Whole areas with their faces and links, and certificates that are changed in a line, are rows of
 //! `worked_rows`.
 //!
 //! They stand in a crate of their own since a library with tests is proved once more with them.
@@ -9,6 +9,8 @@
 
 #[cfg(test)]
 mod bad_pairs;
+#[cfg(test)]
+mod bar_links;
 #[cfg(test)]
 mod bent_drawings;
 #[cfg(test)]

@@ -3,6 +3,7 @@
 //! worked rows stand in `crates/worked_rows`.
 
 mod calls;
+mod drawings;
 mod endless;
 mod growths;
 mod links;
