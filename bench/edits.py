@@ -9,6 +9,9 @@ usage: edits.py SCRATCH [--gate | --all] [--logs FOLDER] [NAME..]
        --gate: the edits of crates/NAME/must-fail/; --all: these and those of bench/edits/; else the latter
        --logs: keeps what the prover printed, a file for each edit
        NAME: a crate, or CRATE/EDIT for one edit; where none is given all
+       edits.py --read LOG
+       tries nothing, and holds the heads against what `rt ci` or `rt must-fail` printed, which is one goal
+       of each edit; those that it does not settle are to be tried
 """
 import argparse
 import os
@@ -21,8 +24,10 @@ TOP = os.path.dirname(os.path.dirname(os.path.abspath(__file__)))
 PARTS = ("src", "specs", "proofs")
 HEAD = re.compile(r"# breaks: ([\w:+]+) ([\w+-]+)$")
 OPEN = re.compile(r"fn (\S+): no proof: .*? did not prove (.*)")
+NOTE = re.compile(r"note: (src/\S+\.rt):(\d+):\d+: .*\(`([^`]+)`\)")
 WRONG = re.compile(r"(?:\./)?proofs/(\S+)/(?:Answers|Proof|Invariants)\.antt:\d+:\d+: error: `([^`]+)`")
 UNREAD = re.compile(r"^(?:\./)?(?:src|specs)/\S+: error", re.M)
+TOLD = re.compile(r"must-fail (\w+)/([\w.-]+)\.edit: (.*)")
 # What a proof file says where it names what an edit took away: that tells nothing of a clause.
 GONE = re.compile(r"has no field|is not in scope|has no `|was not admitted")
 
@@ -83,10 +88,19 @@ class Edit:
                 made.write(text)
 
 
-class Refusal:
-    """The clauses that a check did not prove, each with its function, by what the check printed."""
+def function_at(path, line):
+    """The name of the function that has this line of a file, or ends before it."""
+    with open(path, encoding="utf8") as text:
+        lines = text.read().split("\n")[:int(line)]
+    names = [found[1] for found in map(re.compile(r"\s*(?:pub(?:\(.*?\))? )?fn (\w+)").match, lines) if found]
+    return names[-1] if names else ""
 
-    def __init__(self, crate, log):
+
+class Refusal:
+    """The clauses that a check did not prove, each with its function, or the last part of its path, by
+    what the check of the crate in that folder printed."""
+
+    def __init__(self, crate, log, folder):
         self.clauses = []
         for line in log.split("\n"):
             found = OPEN.match(line)
@@ -94,6 +108,9 @@ class Refusal:
                 function = found[1].removeprefix(crate + "::")
                 for goal in re.findall(r"`([^`]+)`", found[2]):
                     self.add(function, goal)
+            found = NOTE.match(line)
+            if found:
+                self.add(function_at(os.path.join(folder, found[1]), found[2]), found[3])
             found = WRONG.match(line)
             if found and not GONE.search(line):
                 self.add(found[1].replace("/", "::"), found[2])
@@ -101,8 +118,13 @@ class Refusal:
 
     def add(self, function, goal):
         clause = function, clause_of(goal)
-        if clause not in self.clauses:
+        if not self.has(clause):
             self.clauses.append(clause)
+
+    def has(self, clause):
+        """Whether the clause is not proved."""
+        names = clause[0], clause[0].rpartition("::")[2]
+        return any(one[0] in names and one[1] == clause[1] for one in self.clauses)
 
     def __str__(self):
         return ", ".join(" ".join(clause) for clause in self.clauses) or "no clause"
@@ -176,14 +198,14 @@ class Scratch:
         if logs:
             with open(os.path.join(logs, f"{crate}.{edit.name}.log"), "w", encoding="utf8") as kept:
                 kept.write(log)
-        refusal = Refusal(crate, log)
+        refusal = Refusal(crate, log, self.of(crate))
         if status == 0:
             return False, "is proved"
         if refusal.is_unread or status != 1:
             return False, f"cannot be read, or was not judged (status {status})"
         if edit.breaks is None:
             return True, f"is refused by {refusal}; its head names no clause"
-        if edit.breaks in refusal.clauses:
+        if refusal.has(edit.breaks):
             return True, f"is refused by {' '.join(edit.breaks)}"
         return False, f"breaks {' '.join(edit.breaks)}, says its head, and is refused by {refusal}"
 
@@ -197,14 +219,33 @@ def edits_of(crate, gate, others):
     return [Edit(file) for file in sorted(files) if file.endswith(".edit")]
 
 
+def read(log):
+    """Holds the heads of the edits of the gate against a log of it, and says which are not settled."""
+    heads = {(crate, edit.name): edit for crate in os.listdir(os.path.join(TOP, "crates"))
+             for edit in edits_of(crate, True, False)}
+    with open(log, encoding="utf8", errors="replace") as lines:
+        told = [found.groups() for found in map(TOLD.search, lines) if found]
+    settled = 0
+    for crate, name, said in told:
+        edit = heads.get((crate, name))
+        refusal = Refusal(crate, re.sub(r"^.*?(?=note: |\./|src/|specs/)", "", said), os.path.join(TOP, "crates", crate))
+        if edit and edit.breaks and refusal.has(edit.breaks):
+            settled += 1
+        else:
+            print(f"{crate}/{name}: {' '.join(edit.breaks) if edit and edit.breaks else 'no head'}: {said}")
+    print(f"{len(told)} edits, {settled} refused as their heads say")
+
+
 def main():
+    if sys.argv[1:2] == ["--read"] and len(sys.argv) == 3:
+        return read(sys.argv[2])
     words = argparse.ArgumentParser(usage=__doc__)
     words.add_argument("scratch")
     words.add_argument("--gate", action="store_true")
     words.add_argument("--all", action="store_true")
     words.add_argument("--logs")
     words.add_argument("names", nargs="*")
-    words = words.parse_args()
+    words = words.parse_intermixed_args()
     gate, others = words.gate or words.all, words.all or not words.gate
     wanted = {}
     for crate in sorted(os.listdir(os.path.join(TOP, "crates"))):

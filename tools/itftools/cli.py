@@ -38,6 +38,9 @@ def parser():
 
 
 def main(words=None):
+    if not (sys.argv[1:] if words is None else words):
+        parser().print_help(sys.stderr)
+        return WRONG_WORDS
     given = parser().parse_args(words)
     try:
         return given.run(given)
@@ -46,6 +49,9 @@ def main(words=None):
         return NOT_DONE
     except (OSError, Refusal) as why:
         print("itf %s: not done: %s" % (given.command, why), file=sys.stderr)
+        return NOT_DONE
+    except MemoryError:
+        print("itf %s: not done: memory ran out" % given.command, file=sys.stderr)
         return NOT_DONE
     except (IndexError, KeyError, ValueError) as why:
         print("itf %s: not done: a file has a line that is none: %r" % (given.command, why), file=sys.stderr)

@@ -28,7 +28,8 @@ def find(name):
             return place
     found = shutil.which(name)
     if found is None:
-        raise Refusal("no program %s: build it, or set %s to its path" % (name, name.upper()))
+        raise Refusal("no program %s: call ./%s at the top of the checkout once, which builds it, or set %s to the path of"
+                      " a built one" % (name, name, name.upper()))
     return found
 
 

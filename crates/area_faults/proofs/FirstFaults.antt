@@ -136,7 +136,7 @@ module _ (d : Plan) (f : Faults) (all : AreAllFaults d d (λ i. i) f) where
       ];
       broken = no_entry f.faces.open.items
           (λ s c. let (z, Z, b, h) = all.told.over.open_is_open s c in kept h.i h.there h.left_out);
-      unjudged = no_entry f.faces.unjudged.items (λ j c. let h = all.told.over.unjudged_is j c in
+      unjudged = no_entry f.faces.unjudged.items (λ j c. let h = (all.told.over.unjudged_is j c).1 in
           kept h.i h.there h.left_out);
     }
 

@@ -69,7 +69,7 @@ use Rattle.area_faults.proofs.LeftPlaces.{IsRightOf}
 use Rattle.area_faults.proofs.PlacedFaces.{cell_below, cell_number, curves_count, edges_are}
 use Rattle.area_faults.proofs.PlacedFaces.{edges_count, face_below, face_used, faces_there, is_run}
 use Rattle.area_faults.proofs.PlacedFaces.{middle_point, object_point, points_count}
-use Rattle.area_faults.proofs.RestDrawings.{is_doubled, is_drawn, is_rest, is_right, outs}
+use Rattle.area_faults.proofs.RestDrawings.{inside, is_doubled, is_drawn, is_rest, is_right, outs}
 use Rattle.area_faults.proofs.RestDrawings.{rest_count, rest_curve, rest_straights}
 use Rattle.area_faults.proofs.RestNumbers.{IsAt, closed_number, face_place, in_face, middle_at}
 use Rattle.area_faults.proofs.RestNumbers.{open_number, place_all, place_at as place_number}
@@ -694,11 +694,19 @@ module _ (d : Plan) (marks : List Bool) (kept left : List ℕ) (parted : ArePart
           (sym opened.size) (curve_in i (let z = curves.size in omega (arith, k, z))).1;
     }
 
+    none_out : (k : ℕ) → k < length (rest_plan d kept).curves
+        → mark_of marks (rest.number k) ≡ true → ⊥
+    unfolding rest is_rest
+    none_out k b =
+        not_true (mark_of marks (slice_index kept k))
+        (stays_in k (inside d out kept known stays_in rises whole k b))
+
     drawing_faces : AreDrawingFaces d r (λ (i : ℕ). mark_of marks i) rest f
     drawing_faces =
         let n = opened.size in
         record {
           at = at_face;
+          none_out = none_out;
           places = subst (λ (n : ℕ). AreFacePlaces r n at_face) (sym n) face_places;
           closed = λ i k q. closed_face f.open.items opened i (omega (arith, k, n)) q;
           broken = λ i k q. open_face f.open.items opened i (omega (arith, k, n)) q;

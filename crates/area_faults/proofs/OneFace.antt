@@ -109,6 +109,7 @@ module _ (d : Plan) where
     rest,
     record {
       at = λ n. here;
+      none_out = λ k l. none k l;
       places = subst (λ (k : ℕ). AreFacePlaces (bare d) k (λ n. here)) (sym count) places;
       closed = λ n l e i m. absurd (let k = nothing (sym (open_at n l) ∙ e) in omega (arith, m, k));
       broken = λ n l e. opened (some (sym (open_at n l) ∙ e));

@@ -88,10 +88,16 @@ module _ (d : Plan) (out other : ℕ → Bool) (same : (i : ℕ) → i < length 
       curve_over i (Some f) l x =
           ((λ o. x.0 (back i l o)), (x.1.0, x.1.1, x.1.2, faces_over x.1.0 f x.1.3))
 
+    none_over : ((k : ℕ) → k < length r.curves → out (rest.number k) ≡ true → ⊥)
+        → (k : ℕ) → k < length r.curves → other (rest_over.number k) ≡ true → ⊥
+    unfolding rest_over
+    none_over h k l o = h k l (back (rest.number k) (rest.there k l) o)
+
     drawing_over : (f : DrawingFaces) → AreDrawingFaces d r out rest f
         → AreDrawingFaces d r other rest_over f
     drawing_over f x = record {
       at = x.at;
+      none_out = none_over x.none_out;
       places = x.places;
       closed = λ n l o. closed_over (x.at n) (x.closed n l o);
       broken = λ n l o. open_over (x.at n) (x.broken n l o);

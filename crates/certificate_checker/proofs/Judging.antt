@@ -33,7 +33,8 @@ to_lists P d c table edges points e q x =
 
 from_lists : (P : Subject → Type 0) (d : Plan) (c : Claims) (table : List Timed) (edges : List Edge)
     (points : List Placed)
-    → edges ≡ edges_at d (λ n. c.level) → points ≡ d.points → P (subject_with d c table edges points)
+    → edges ≡ edges_at d (λ n. c.level) → points ≡ d.points
+    → P (subject_with d c table edges points)
     → P (subject_of d c table)
 from_lists P d c table edges points e q x =
     subst (λ ps. P (subject_with d c table (edges_at d (λ n. c.level)) ps)) q

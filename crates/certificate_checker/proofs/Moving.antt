@@ -1,7 +1,8 @@
 -- One event of the replay.
 use Rattle.std.proofs.Common.{◌≡◌, ℕ, suc, ◌+◌, ◌<◌, ◌≤◌, ◌^◌, inl, inr, Bool, Option, Some, None}
 use Rattle.std.proofs.Common.{List, [], ◌∷◌, ◌++◌, length, take, drop, get_or, arith, ap, sym, ◌∙◌}
-use Rattle.std.proofs.Common.{subst}
+use Rattle.std.proofs.Common.{◌-◌, zero, refl, subst}
+use Rattle.std.proofs.lemmas.List.{length-append, length-drop, length-take-le}
 use Rattle.std.proofs.Math.Seq.{take-suc}
 use Rattle.plane.specs.Faces.Halves.{Half, over, under}
 use Rattle.plane.specs.Lists.{Has}
@@ -18,8 +19,9 @@ use Rattle.event_mesh.specs.Fans.{CanTurn}
 use Rattle.event_mesh.specs.Turned.{IsEvent, IsTurned, points_of}
 use Rattle.event_mesh.proofs.TurnedEvents.{can_turn}
 use Rattle.certificate.specs.declared.notes.HalfNote.{HalfNote}
+use Rattle.certificate_checker.specs.LiveLists.{live_count}
 use Rattle.certificate_checker.specs.Marked.{AreMarked, IsAtBorder, NamesAcross, OfSome}
-use Rattle.certificate_checker.specs.Progress.{AreMarkedTo, opened_at}
+use Rattle.certificate_checker.specs.Progress.{AreMarkedTo, HasRoom, opened_at}
 use Rattle.certificate_checker.specs.Rules.{HasCounts, PassesEvent}
 use Rattle.certificate_checker.specs.Subjects.{Subject, edge, event, live_list, moves, position_at}
 use Rattle.certificate_checker.proofs.ListParts.{drop_twice, first_after, last_before}
@@ -58,6 +60,42 @@ module _ (s : Subject) (t : IsTimetable (length s.edges) (edge s) s.table) (n : 
       ∙ ap (λ (i : ℕ). take (position_at s k) (live_list s k)
       ++ ((event s k).starting ++ drop i (drop (position_at s k) (live_list s k)))) h
       ∙ sym (next_list k l)
+
+  -- how many edges are live
+  next_size : (k : ℕ) → k < length s.table → PassesEvent s k
+      → length (live_list s (suc k))
+      ≡ length (live_list s k) - length (event s k).ending + length (event s k).starting
+  next_size k l x =
+      let live = live_list s k in
+      let starting = (event s k).starting in
+      let m = length (event s k).ending in
+      let p = position_at s k in
+      let e = ap length (next_live k live starting p m l refl refl refl refl) in
+      let w = x.block.within in
+      let a = length-append (take p live) (starting ++ drop (p + m) live) in
+      let b = length-append starting (drop (p + m) live) in
+      let d = length-drop (p + m) live in
+      let h = length-take-le p live (omega (arith, w)) in
+      omega (arith, e, w, a, b, d, h)
+
+  pub live_size : (k : ℕ) → k ≤ length s.table → ((j : ℕ) → j < k → PassesEvent s j)
+      → length (live_list s k) ≡ live_count s.table k
+  live_size zero w f = refl
+  live_size (suc k) w f =
+      let a = next_size k (omega (arith, w)) (f k (omega arith)) in
+      let b = live_size k (omega (arith, w)) (λ j l. f j (omega (arith, l))) in
+      omega (arith, a, b)
+
+  pub room_after : (k : ℕ) (live starting : List ℕ) (m most : ℕ) → k < length s.table
+      → live ≡ live_list s k → starting ≡ (event s k).starting
+      → m ≡ length (event s k).ending → ((j : ℕ) → j < k → PassesEvent s j) → HasRoom s most
+      → length live - m + length starting ≤ most
+  room_after k live starting m most l e f h passes room =
+      let a = ap length e in
+      let b = ap length f in
+      let n = live_size k (omega (arith, l)) passes in
+      let r = room (suc k) (omega (arith, l)) in
+      omega (arith, a, b, h, n, r)
 
   pub block_within : (k : ℕ) (live : List ℕ) (p m : ℕ) → live ≡ live_list s k → p ≡ position_at s k
       → m ≡ length (event s k).ending → PassesEvent s k → p + m ≤ length live

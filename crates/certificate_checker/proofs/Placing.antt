@@ -195,7 +195,8 @@ module _ (s : Subject) (t : IsTimetable (length s.edges) (edge s) s.table) (n : 
                 (later i (let a = is_strip in omega (arith, a, l)) r));
             lower = get_or es (index_of s j - 1) 0;
             upper = get_or es (index_of s j) 0;
-            is_lower = before_of es (index_of s j) _ b.some (let a = b.within in omega (arith, a)) refl;
+            is_lower = before_of es (index_of s j) _ b.some (let a = b.within in
+                omega (arith, a)) refl;
             is_upper = at_of es (index_of s j) _ b.within refl;
             above = (let c = side-cross (edge s (get_or es (index_of s j - 1) 0)) (point_at s j) in
                 let a = b.sides.above in omega (arith, ints, a, c));

@@ -1,6 +1,6 @@
 -- What claims that prove a drawing count: their notes, positions and places.
 use Rattle.std.proofs.Common.{◌≡◌, ℕ, suc, ◌*◌, ◌^◌, ◌<◌, ◌≤◌, inl, inr, List, [], ◌∷◌, length, map}
-use Rattle.std.proofs.Common.{arith, refl, ap, ◌∙◌, subst}
+use Rattle.std.proofs.Common.{arith, refl, ap, sym, ◌∙◌, subst}
 use Rattle.std.proofs.lemmas.List.{length-map}
 use Rattle.plane.specs.declared.kinds.Edge.{Edge}
 use Rattle.plane.specs.declared.kinds.Point.{Point}
@@ -14,6 +14,8 @@ use Rattle.plane.specs.Runs.Timetables.{Timed, IsTimetable}
 use Rattle.plane.proofs.ListLemmas.SortedLists.{room, sorted_once}
 use Rattle.tubes.specs.FewEdges.{HasFewEdges}
 use Rattle.tubes.specs.Settled.{edges_at}
+use Rattle.tubes.specs.TubedEdges.{IsTubedList}
+use Rattle.tubes.specs.declared.kinds.EdgeList.{EdgeList}
 use Rattle.certificate_checker.specs.Subjects.{Claims}
 use Rattle.certificate_checker.specs.Verdicts.{Proves}
 use Rattle.certificate_checker.proofs.PlaneLaws.{before_trans, half_number, never, number_below}
@@ -80,6 +82,12 @@ two_an_edge m E table t =
     let l = at_most (λ n. origin E (half_of n)) (2 * m) pts (numbered m E pts t.events) once in
     let n = length-map table (λ (t : Timed). t.at) in
     omega (arith, l, n)
+
+-- ---- the edges of a drawing that has few
+pub listed_few : (d : Plan) (level : ℕ) (list : EdgeList) → HasFewEdges d → level ≤ 5
+    → IsTubedList d (λ n. level) list → length list.edges.items < 2 ^ 31
+listed_few d level list few low l =
+    subst (λ es. length es < 2 ^ 31) (sym l.edges) (few (λ n. level) (λ n. low) l.tubes)
 
 -- ---- the counts of claims that prove a drawing of few edges
 module _ (d : Plan) (c : Claims) (h : Proves d c) (few : HasFewEdges d) where

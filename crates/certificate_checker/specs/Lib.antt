@@ -3,10 +3,10 @@ pub mod Rules
 pub mod Chains
 pub mod Verdicts
 pub mod Cases
+pub mod LiveLists
 pub mod Marked
 pub mod Placed
 pub mod InCells
 pub mod Progress
 pub mod Ended
 pub mod Certifying
-pub mod Stops

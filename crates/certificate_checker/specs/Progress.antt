@@ -1,5 +1,6 @@
 -- How far the replay has come.
 use Rattle.std.specs.Prelude.{◌≡◌, ◌↔◌, ℕ, ◌<◌, ◌≤◌, Bool, List, [], length}
+use Rattle.std.specs.Prelude.{vec_capacity}
 use Rattle.plane.specs.Faces.Halves.{Half}
 use Rattle.plane.specs.Runs.Gaps.{Gap, opened}
 use Rattle.plane.specs.Runs.Moves.{step_of, steps_from}
@@ -8,6 +9,7 @@ use Rattle.straight_predicates.specs.EdgeEvents.{width}
 use Rattle.half_edges.specs.HalfEdges.{HalfEdges}
 use Rattle.event_mesh.specs.Turned.{IsTurned}
 use Rattle.certificate_checker.specs.declared.state.State.{State}
+use Rattle.certificate_checker.specs.LiveLists.{live_count}
 use Rattle.certificate_checker.specs.Marked.{IsAtBorder, IsMarked, NamesAcross, OfSome}
 use Rattle.certificate_checker.specs.Placed.{ArePlacedTo}
 use Rattle.certificate_checker.specs.Rules.{PassesEvent}
@@ -36,8 +38,15 @@ pub record IsMovedTo (s : Subject) (k : ℕ) (now : List ℕ) (most : ℕ)
   pub fan : (j : ℕ) → j < length s.table → width (event s j) ≤ most
   pub turned : IsTurned (length s.edges) (edge s) (steps_from [] (moves s)) mesh k
 
+-- So many edges are no fewer than are live at any time.
+abbrev pub HasRoom : Subject → ℕ → Type 0
+HasRoom s most = (j : ℕ) → j ≤ length s.table → live_count s.table j ≤ most
+
+-- There is room for what the events that are left need.
 pub record HasReplayed (s : Subject) (k : ℕ) (state : State) : Type 0 where
-  pub moved : IsMovedTo s k state.live (length state.fan.items) state.mesh
+  pub moved : IsMovedTo s k state.live.edges (length state.fan.items) state.mesh
+  pub room : HasRoom s state.live.most
+  pub block : length state.fan.items ≤ vec_capacity state.ending
   pub border : AreMarkedTo s IsAtBorder k state.marks.border.items
   pub across : AreMarkedTo s (NamesAcross s.claims.notes) k state.marks.across.items
   pub points : ArePlacedTo s k state.placing.next state.placing.bad state.placing.spots.items

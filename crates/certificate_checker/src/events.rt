@@ -12,16 +12,17 @@ ghost use Rattle.certificate_checker.specs.Verdicts.{EventBroken};
 
 use super::case::Case;
 use super::labels::labels_match;
+use super::live_list::LiveList;
 use plane::{Edge, Point};
-use straight_predicates::{ChunkedList, Turn, turn_over};
+use straight_predicates::{Turn, turn_over};
 
 /// The first of the four rules of the event that is broken, by the live list before it.
-pub fn judge_event(case: &Case, event: u32, live: &ChunkedList<u32>) -> Result<(), u8>
+pub fn judge_event(case: &Case, event: u32, live: &LiveList) -> Result<(), u8>
     requires fit { IsFit case.now }
     requires event { event < length (judged case.now).table }
     requires passed { (j : ℕ) → j < event → PassesEvent (judged case.now) j }
-    requires live { live.now ≡ live_list (judged case.now) event }
-    requires known { AreBelow (length case.now.edges.now) live.now }
+    requires live { live.now.edges ≡ live_list (judged case.now) event }
+    requires known { AreBelow (length case.now.edges.now) live.now.edges }
     ensures passes { OnOk result (PassesEvent (judged case.now) event) }
     ensures broken { IfErr result (EventBroken (judged case.now) event) }
 {
@@ -54,15 +55,9 @@ pub fn position_of(case: &Case, event: u32) -> usize
     positions[event as usize] as usize
 }
 
-fn has_block(
-    edges: &[Edge],
-    live: &ChunkedList<u32>,
-    at: Point,
-    position: usize,
-    ending: usize,
-) -> bool
-    requires known { AreBelow (length edges.now) live.now }
-    ensures { IsTrue result ↔ HasBlock (edge_of edges.now) live.now at position ending }
+fn has_block(edges: &[Edge], live: &LiveList, at: Point, position: usize, ending: usize) -> bool
+    requires known { AreBelow (length edges.now) live.now.edges }
+    ensures { IsTrue result ↔ HasBlock (edge_of edges.now) live.now.edges at position ending }
 {
     if position > live.len() || ending > live.len() - position {
         return false;
@@ -71,11 +66,11 @@ fn has_block(
 }
 
 // Whether the edges at the places from one up to another end at the point.
-fn all_end_at(edges: &[Edge], live: &ChunkedList<u32>, from: usize, upto: usize, at: Point) -> bool
-    requires known { AreBelow (length edges.now) live.now }
+fn all_end_at(edges: &[Edge], live: &LiveList, from: usize, upto: usize, at: Point) -> bool
+    requires known { AreBelow (length edges.now) live.now.edges }
     requires order { from ≤ upto }
-    requires within { upto ≤ length live.now }
-    ensures { IsTrue result ↔ ((e : ℕ) → Has e (take (upto - from) (drop from live.now))
+    requires within { upto ≤ length live.now.edges }
+    ensures { IsTrue result ↔ ((e : ℕ) → Has e (take (upto - from) (drop from live.now.edges))
         → (edge_of edges.now e).high ≡ at) }
 {
     for place in from..upto {
@@ -93,17 +88,11 @@ fn ends_at(edges: &[Edge], edge: u32, at: Point) -> bool
     edges[edge as usize].high == at
 }
 
-fn is_between(
-    edges: &[Edge],
-    live: &ChunkedList<u32>,
-    at: Point,
-    position: usize,
-    ending: usize,
-) -> bool
-    requires known { AreBelow (length edges.now) live.now }
+fn is_between(edges: &[Edge], live: &LiveList, at: Point, position: usize, ending: usize) -> bool
+    requires known { AreBelow (length edges.now) live.now.edges }
     requires close { IsCloseToAll edges.now at }
-    requires block { position + ending ≤ length live.now }
-    ensures { IsTrue result ↔ IsBetween (edge_of edges.now) live.now at position ending }
+    requires block { position + ending ≤ length live.now.edges }
+    ensures { IsTrue result ↔ IsBetween (edge_of edges.now) live.now.edges at position ending }
 {
     // The place after the block is no greater than the length, which fits its type.
     let _length = live.len();
@@ -111,23 +100,23 @@ fn is_between(
 }
 
 /// Whether the point is strictly above the edge before the place, where there is one.
-pub fn is_over(edges: &[Edge], live: &ChunkedList<u32>, place: usize, at: Point) -> bool
-    requires known { AreBelow (length edges.now) live.now }
+pub fn is_over(edges: &[Edge], live: &LiveList, place: usize, at: Point) -> bool
+    requires known { AreBelow (length edges.now) live.now.edges }
     requires close { IsCloseToAll edges.now at }
-    requires place { place ≤ length live.now }
+    requires place { place ≤ length live.now.edges }
     ensures { IsTrue result ↔ ((i : ℕ) → place ≡ suc i
-        → pos 0 <ℤ turn_at (edge_of edges.now) (slice_index_or live.now i 0) at) }
+        → pos 0 <ℤ turn_at (edge_of edges.now) (slice_index_or live.now.edges i 0) at) }
 {
     place == 0 || is_above(edges, live.get(place - 1), at)
 }
 
 /// Whether the point is strictly below the edge at the place, where there is one.
-pub fn is_under(edges: &[Edge], live: &ChunkedList<u32>, place: usize, at: Point) -> bool
-    requires known { AreBelow (length edges.now) live.now }
+pub fn is_under(edges: &[Edge], live: &LiveList, place: usize, at: Point) -> bool
+    requires known { AreBelow (length edges.now) live.now.edges }
     requires close { IsCloseToAll edges.now at }
-    requires place { place ≤ length live.now }
-    ensures { IsTrue result ↔ (place < length live.now
-        → turn_at (edge_of edges.now) (slice_index_or live.now place 0) at <ℤ pos 0) }
+    requires place { place ≤ length live.now.edges }
+    ensures { IsTrue result ↔ (place < length live.now.edges
+        → turn_at (edge_of edges.now) (slice_index_or live.now.edges place 0) at <ℤ pos 0) }
 {
     place == live.len() || is_below(edges, live.get(place), at)
 }

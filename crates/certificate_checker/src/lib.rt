@@ -39,14 +39,18 @@
 //!
 //! Cost: a certificate whose edges or points are not as many as the drawing's is answered by
 //! counting the curves, before any edge or tube is made. Any other takes O((m + p) log (m + p))
-//! for m edges and p points, and what the live list moves: at each event one chunk of it, 1,024
-//! edges at most, and a step over each chunk before the place (`straight_predicates::ChunkedList`).
-//! A half arc has 2^(level + 2) + 1 edges. For each point that is placed in a tube that tube is
-//! made and freed again. About 130 bytes an edge, 4 a curve and 25 a point are taken at the start;
-//! the replay takes up to 8 a live edge. A certificate of the bent drawing takes what `forks::bent`
-//! takes first.
+//! for m edges and p points, and what the live list moves: at each event one block of it, 1,024
+//! edges at most, and a step over each block before the place; and where a block is full, all of
+//! it, which comes once for 512 edges that start. A half arc has 2^(level + 2) + 1 edges. For each
+//! point that is placed in a tube that tube is made and freed again.
+//!
+//! Memory is taken before the first event: about 130 bytes an edge, 4 a curve, 25 a point, and 12
+//! for each of the most edges that are live at a time, which the timetable tells. The replay takes
+//! none, and none of its functions has an error for want of it. A certificate of the bent drawing
+//! takes what `forks::bent` takes first.
 #![tactic(auto)]
 
+mod blocks;
 mod case;
 mod chains;
 mod checking;
@@ -58,10 +62,13 @@ mod holding;
 mod labels;
 pub mod laws;
 mod links;
+mod live_list;
 mod marks;
 mod notes;
+mod places;
 mod points;
 mod replaying;
+mod room;
 mod state;
 mod verdict;
 

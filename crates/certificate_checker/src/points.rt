@@ -19,13 +19,14 @@ use super::case::Case;
 use super::chains::side_label;
 use super::events::{is_above, is_below};
 use super::labels::{label_over, label_under};
+use super::live_list::LiveList;
 use super::marks::mark;
 use super::state::{Placing, Spot};
 use certificate::{HalfNote, PointPlace};
 use plane::{Edge, Placed, Point};
 use ports::Memory;
 use std::alloc::Global;
-use straight_predicates::{ChunkedList, before};
+use straight_predicates::before;
 
 fn key(spot: &Spot) -> (i64, i64)
     ensures { result ≡ (spot.now.at.x, spot.now.at.y) }
@@ -70,14 +71,14 @@ fn spots_of(alloc: Global, points: &[Placed]) -> Result<Vec<Spot>, Memory>
 pub fn place_points(
     case: &Case,
     event: u32,
-    live: &ChunkedList<u32>,
+    live: &LiveList,
     placing: &mut Placing,
     marks: &mut [bool],
 )
     requires fit { IsFit case.now }
     requires event { event ≤ length (judged case.now).table }
-    requires live { live.now ≡ live_list (judged case.now) event }
-    requires known { AreBelow (length case.now.edges.now) live.now }
+    requires live { live.now.edges ≡ live_list (judged case.now) event }
+    requires known { AreBelow (length case.now.edges.now) live.now.edges }
     requires placed { ArePlacedTo (judged case.now) event placing.old.next placing.old.bad
         placing.old.spots.items marks.old }
     ensures placed { ArePlacedTo (judged case.now) event placing.new.next placing.new.bad
@@ -130,7 +131,7 @@ fn is_later(at: Point, upto: Option<Point>) -> bool
 fn place_point(
     case: &Case,
     event: u32,
-    live: &ChunkedList<u32>,
+    live: &LiveList,
     upto: Option<Point>,
     spot: Spot,
     bad: &mut u32,
@@ -138,8 +139,8 @@ fn place_point(
 )
     requires fit { IsFit case.now }
     requires event { event ≤ length (judged case.now).table }
-    requires live { live.now ≡ live_list (judged case.now) event }
-    requires known { AreBelow (length case.now.edges.now) live.now }
+    requires live { live.now.edges ≡ live_list (judged case.now) event }
+    requires known { AreBelow (length case.now.edges.now) live.now.edges }
     requires next { IsNextEvent (judged case.now) event upto }
     requires spot { IsSpotOf (judged case.now) event spot }
     requires size { length marks.old ≡ length case.now.certificate.now.notes.items }
@@ -190,17 +191,17 @@ fn is_side_labelled(case: &Case, inside: bool, curve: u32, label: u32) -> bool
 fn cell_of(
     case: &Case,
     event: u32,
-    live: &ChunkedList<u32>,
+    live: &LiveList,
     upto: Option<Point>,
     spot: Spot,
 ) -> Option<usize>
     requires fit { IsFit case.now }
     requires event { event ≤ length (judged case.now).table }
-    requires live { live.now ≡ live_list (judged case.now) event }
-    requires known { AreBelow (length case.now.edges.now) live.now }
+    requires live { live.now.edges ≡ live_list (judged case.now) event }
+    requires known { AreBelow (length case.now.edges.now) live.now.edges }
     requires next { IsNextEvent (judged case.now) event upto }
     requires spot { IsSpotOf (judged case.now) event spot }
-    ensures { IsCellOf (judged case.now) spot.number live.now result }
+    ensures { IsCellOf (judged case.now) spot.number live.now.edges result }
 {
     let PointPlace::Cell(position) = place_of(case, spot.number) else {
         return None;
@@ -235,11 +236,11 @@ fn is_at(at: Point, upto: Option<Point>) -> bool
 }
 
 // Whether the point is between the edges on both sides of the place, with its label at both.
-fn is_in_cell(case: &Case, live: &ChunkedList<u32>, place: usize, spot: Spot) -> bool
+fn is_in_cell(case: &Case, live: &LiveList, place: usize, spot: Spot) -> bool
     requires fit { IsFit case.now }
-    requires known { AreBelow (length case.now.edges.now) live.now }
+    requires known { AreBelow (length case.now.edges.now) live.now.edges }
     requires spot { IsPointOf (judged case.now).points spot }
-    ensures { IsTrue result ↔ IsBetweenEdges (judged case.now) live.now spot.number place }
+    ensures { IsTrue result ↔ IsBetweenEdges (judged case.now) live.now.edges spot.number place }
 {
     if !is_inside(place, live.len()) {
         return false;

@@ -1,41 +1,13 @@
 // What the replay keeps from event to event.
-ghost use Rattle.std.specs.Prelude.{◌≡◌};
-ghost use Rattle.certificate_checker.specs.declared.state.Stop.TheVariants.{Broken};
-ghost use Rattle.certificate_checker.specs.declared.state.Stop.TheVariants.{Memory as OutOfMemory};
-
+use super::live_list::LiveList;
 use half_edges::{HalfEdgeId, Mesh};
 use plane::Point;
-use ports::Memory;
-use straight_predicates::ChunkedList;
 
 /// The rule that is broken, and its place.
 #[derive(Clone, Copy)]
 pub struct Broken {
     pub rule: u8,
     pub place: u32,
-}
-
-/// Why the check ends before its end.
-#[derive(Clone, Copy)]
-pub enum Stop {
-    Broken(Broken),
-    Memory,
-}
-
-impl From<Broken> for Stop {
-    ghost from_gives = { λ b s. s ≡ Broken b };
-
-    fn from(broken: Broken) -> Stop {
-        Stop::Broken(broken)
-    }
-}
-
-impl From<Memory> for Stop {
-    ghost from_gives = { λ _ s. s ≡ OutOfMemory };
-
-    fn from(_: Memory) -> Stop {
-        Stop::Memory
-    }
 }
 
 /// An object's point with its number.
@@ -63,11 +35,12 @@ pub struct Marks {
     pub point: Vec<bool>,
 }
 
-/// The live list, the edges that end at an event, the mesh with room for one event's half-edges,
-/// the marks and the points.
+/// The live list, with room for the most edges that are live at a time; the edges that end at an
+/// event and the mesh, with room for the edges and half-edges of one event; the marks and the
+/// points.
 #[derive(Drop)]
 pub struct State {
-    pub live: ChunkedList<u32>,
+    pub live: LiveList,
     pub ending: Vec<u32>,
     pub mesh: Mesh,
     pub fan: Vec<HalfEdgeId>,

@@ -5,3 +5,4 @@ pub mod Labels
 pub mod Ranking
 pub mod Rows
 pub mod Searching
+pub mod Starts

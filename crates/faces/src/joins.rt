@@ -21,7 +21,7 @@ pub struct Joins {
 
 impl Joins {
     /// The joins of so many half-edges by the cells, in three passes over these. The only error is
-    /// out of memory, which is also the answer to 2^31 cells and more.
+    /// out of memory.
     pub fn new(alloc: Global, halves: usize, cells: &[Cell]) -> Result<Joins, Memory>
         requires few { halves < 2 ^ 32 }
         requires known { AreKnown halves (gaps_of cells.now) }

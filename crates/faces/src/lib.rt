@@ -24,9 +24,9 @@
 //!
 //! Cost: linear in the half-edges and the cells; `links` also sorts its p roots, p log p. Joins
 //! take 4 bytes a half-edge, 8 a cell and 4 a half-edge at the border; beside them a search takes
-//! 8 bytes a half-edge, and that of `links` also 4 a root. `label` and `links` keep none of it. The
-//! places of the rows are numbers of 32 bits: 2^31 cells and more, some 26 GB of them, are answered
-//! as out of memory.
+//! 8 bytes a half-edge, and that of `links` also 4 a root. `label` and `links` keep none of it. Of
+//! 2^31 cells and more, some 26 GB of them, the joins take 8 bytes a half-edge in place of 4: the
+//! places of the rows are then numbers of 64 bits.
 #![tactic(auto)]
 
 mod graph;
@@ -39,6 +39,7 @@ mod partners;
 mod ranks;
 mod searching;
 mod spreading;
+mod starts;
 
 pub use joins::Joins;
 pub use labelled::{JoinedMesh, Labelled};

@@ -24,8 +24,8 @@ use Rattle.fault_lists.specs.DrawingFaces.{AreCurveFaces, AreDrawingFaces, face_
 use Rattle.fault_lists.specs.DrawingFaces.{is_open}
 use Rattle.fault_lists.specs.FaceLists.{AreFaceFaults, ArePair, IsEmptyFace, IsIn, IsJudged}
 use Rattle.fault_lists.specs.Faults.{AreTwo, LiesOutside}
-use Rattle.fault_lists.specs.FaultLists.{AreFaultsOver, AreInOrder, HasFacesOnce, AreToldTwo}
-use Rattle.fault_lists.specs.FaultLists.{IsBeside, IsSharedBy, IsToldOpen}
+use Rattle.fault_lists.specs.FaultLists.{AreFaultsOver, AreInOrder, AreOfClosed, AreToldTwo}
+use Rattle.fault_lists.specs.FaultLists.{HasFacesOnce, IsBeside, IsSharedBy, IsToldOpen}
 use Rattle.fault_lists.specs.Sides.{side_end}
 use Rattle.fault_lists.specs.Telling.{IsFirst}
 use Rattle.fault_lists.proofs.FacesOfRest as faces
@@ -101,6 +101,20 @@ module _ (d r : Plan) (out : ℕ → Bool) (rest : IsRestOf d r out) (f : Drawin
   outer_is_open e =
       let l = D.places.some in
       (D.at 0, D.places.place 0 l, (D.places.outer 0 l).1 refl, D.broken 0 l (sym T.outer_open ∙ e))
+
+  outer_all : t.outer_open ≡ true → (z : Vector) → Place z → IsOuter r z → IsOpen d r out z
+  outer_all e z Z o =
+      let (n, h) = faces.face_of d r out rest f D z Z (outer_off r z Z o) in
+      let zero = faces.outer_number d r out rest f D z n Z h o in
+      faces.number_open d r out rest f D z n Z h
+      (subst (λ m. is_open f m ≡ true) (sym zero) (sym T.outer_open ∙ e))
+
+  open_inner : (s : SideAt) (z : Vector) → Contains t.open.items s → Place z
+      → IsBeside d r out rest s z → IsOuter r z → ⊥
+  open_inner s z c Z b o =
+      let e = (T.broken.is s).0 c in
+      let h = faces.beside_in d r out rest f D e.n s z Z e.side.side b in
+      e.is.bounded (faces.outer_number d r out rest f D z e.n Z h o)
 
   open_once : HasFacesOnce d r out rest t.open.items
   open_once s o z c e Z =
@@ -367,12 +381,70 @@ module _ (d r : Plan) (out : ℕ → Bool) (rest : IsRestOf d r out) (f : Drawin
             closed = faces.closed_number d r out rest f D u b.left a.first h a.closed;
           })
 
+  -- ---- what is listed is of closed faces
+  of_outside : (j : ℕ) → Contains t.outside.items j → IsClosed d r out (at j)
+  of_outside j c =
+      let o = (T.outside.is j).0 c in
+      let (l, h) = faces.face_point d r out rest f D j 0 o.in_outer in
+      faces.number_closed d r out rest f D (at j) 0 (at_place j) h o.closed
+
+  of_shared : (p : PointPair) → Contains t.shared.items p
+      → IsClosed d r out (at p.first) × (IsOuter r (at p.first) → ⊥)
+  of_shared p c =
+      let a = (T.shared.is p).0 c in
+      let (l, h) = faces.face_point d r out rest f D p.first a.n a.first in (
+        faces.number_closed d r out rest f D (at p.first) a.n (at_place p.first) h a.judged.closed,
+        λ o. a.judged.bounded
+            (faces.outer_number d r out rest f D (at p.first) a.n (at_place p.first) h o),
+      )
+
+  of_empty : (s : SideAt) (z : Vector) → Contains t.empty.items s → Place z
+      → IsBeside d r out rest s z → IsClosed d r out z
+  of_empty s z c Z b =
+      let e = (T.empty.is s).0 c in
+      let h = faces.beside_in d r out rest f D e.n s z Z e.side.side b in
+      faces.number_closed d r out rest f D z e.n Z h e.is.judged.closed
+
+  of_cut : (i k : ℕ) (p q : Vector) → Contains t.cuts.items i → k < length r.curves
+      → rest.number k ≡ i → CrossesOne r k p q → IsClosed d r out p × IsClosed d r out q
+  of_cut i k p q c l e crossing =
+      let o = (T.cuts.is i).0 c in
+      let m = faces.curve_number d r out rest f D i o.faces o.there o.is in
+      let same : m.k ≡ k = rest.once m.k k m.there l (m.is ∙ sym e) in
+      let x : CrossesOne r m.k p q = subst (λ s. CrossesOne r s p q) (sym same) crossing in
+      let n = o.faces.left in
+      let (P, Q, p_off, q_off) = ends_off (curve r m.k).kind r m.k p q x in
+      let left : In (side_end (curve r m.k) true p q) n = m.faces.left p q x in
+      let right : In (side_end (curve r m.k) false p q) n = subst
+      (λ s. In (side_end (curve r m.k) false p q) s) (sym o.one) (m.faces.right p q x) in
+      let (h, g) = by_ends (curve r m.k) p q (λ v. In v n) left right in (
+        faces.number_closed d r out rest f D p n P h o.closed,
+        faces.number_closed d r out rest f D q n Q g o.closed,
+      )
+
+  kept : (i : ℕ) → Contains t.cuts.items i
+      → (k : ℕ) × (k < length r.curves) × (rest.number k ≡ i)
+  kept i c =
+      let o = (T.cuts.is i).0 c in
+      let m = faces.curve_number d r out rest f D i o.faces o.there o.is in
+      (m.k, m.there, m.is)
+
+  of_closed : AreOfClosed d r out rest t
+  of_closed = record {
+    outside = of_outside;
+    shared = of_shared;
+    empty = of_empty;
+    cuts = of_cut;
+    kept = kept;
+  }
+
   -- ---- points in open faces
-  unjudged_is : (j : ℕ) → Contains t.unjudged.items j → IsOpen d r out (at j)
+  unjudged_is : (j : ℕ) → Contains t.unjudged.items j
+      → (j < length d.points) × IsOpen d r out (at j)
   unjudged_is j c =
       let o = (T.unjudged.is j).0 c in
       let (l, h) = faces.face_point d r out rest f D j o.n o.in_face in
-      faces.number_open d r out rest f D (at j) o.n (at_place j) h o.broken
+      (l, faces.number_open d r out rest f D (at j) o.n (at_place j) h o.broken)
 
   unjudged : (j : ℕ) → j < length d.points → IsOff r (at j) → IsOpen d r out (at j)
       → Contains t.unjudged.items j
@@ -406,6 +478,10 @@ module _ (d r : Plan) (out : ℕ → Bool) (rest : IsRestOf d r out) (f : Drawin
   pub numbers_tell : AreFaultsOver d r out rest t
   numbers_tell = record {
     order = order;
+    none_out = D.none_out;
+    of_closed = of_closed;
+    outer_all = outer_all;
+    open_inner = open_inner;
     open_once = open_once;
     shared_least = shared_least;
     empty_once = empty_once;

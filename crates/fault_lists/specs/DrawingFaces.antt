@@ -112,6 +112,7 @@ pub record HasCurveBeside (f : DrawingFaces) (n : ℕ) : Type 0 where
 pub record AreDrawingFaces (d r : Plan) (out : ℕ → Bool) (rest : IsRestOf d r out)
     (f : DrawingFaces) : Type 0 where
   pub at : ℕ → Vector
+  pub none_out : (k : ℕ) → k < length r.curves → out (rest.number k) ≡ true → ⊥
   pub places : AreFacePlaces r (face_count f) at
   pub closed : (n : ℕ) → n < face_count f → is_open f n ≡ false → IsClosed d r out (at n)
   pub broken : (n : ℕ) → n < face_count f → is_open f n ≡ true → IsOpen d r out (at n)

@@ -107,19 +107,40 @@ HasFacesOnce d r out rest sides =
     (s o : SideAt) (z : Vector) → Contains sides s → Contains sides o → Place z
     → IsBeside d r out rest s z → IsBeside d r out rest o z → s ≡ o
 
+-- What is listed is of closed faces alone: points outside, points in one bounded face, faces without
+-- a point, and both sides of a curve that is not left out, wherever a segment crosses it.
+pub record AreOfClosed (d r : Plan) (out : ℕ → Bool) (rest : IsRestOf d r out)
+    (f : FaceFaults) : Type 0 where
+  pub outside : (j : ℕ) → Contains f.outside.items j → IsClosed d r out (point (object d j))
+  pub shared : (p : PointPair) → Contains f.shared.items p
+      → IsClosed d r out (point (object d p.first))
+      × (IsOuter r (point (object d p.first)) → ⊥)
+  pub empty : (s : SideAt) (z : Vector) → Contains f.empty.items s → Place z
+      → IsBeside d r out rest s z → IsClosed d r out z
+  pub cuts : (i k : ℕ) (p q : Vector) → Contains f.cuts.items i → k < length r.curves
+      → rest.number k ≡ i → CrossesOne r k p q → IsClosed d r out p × IsClosed d r out q
+  pub kept : (i : ℕ) → Contains f.cuts.items i
+      → (k : ℕ) × (k < length r.curves) × (rest.number k ≡ i)
+
 -- What the lists hold of the faces of r, the rest of d without the curves that are left out.
 pub record AreFaultsOver (d r : Plan) (out : ℕ → Bool) (rest : IsRestOf d r out)
     (f : FaceFaults) : Type 0 where
   pub order : AreInOrder f
+  -- no curve of the rest is left out
+  pub none_out : (k : ℕ) → k < length r.curves → out (rest.number k) ≡ true → ⊥
+  pub of_closed : AreOfClosed d r out rest f
   -- each place off the rest is outer there or not, and in a closed face or in one that is told
   pub outer_or_not : (z : Vector) → Place z → IsOff r z → IsOuter r z ⊎ (IsOuter r z → ⊥)
   pub closed_or_told : (z : Vector) → Place z → IsOff r z
       → IsClosed d r out z ⊎ IsToldOpen d r out rest f z
   pub open_is_open : (s : SideAt) → Contains f.open.items s
       → (z : Vector) × Place z × IsBeside d r out rest s z × IsOpen d r out z
+  pub open_inner : (s : SideAt) (z : Vector) → Contains f.open.items s → Place z
+      → IsBeside d r out rest s z → IsOuter r z → ⊥
   pub open_once : HasFacesOnce d r out rest f.open.items
   pub outer_is_open : f.outer_open ≡ true
       → (z : Vector) × Place z × IsOuter r z × IsOpen d r out z
+  pub outer_all : f.outer_open ≡ true → (z : Vector) → Place z → IsOuter r z → IsOpen d r out z
   -- points outside
   pub outside_is : (j : ℕ) → Contains f.outside.items j → LiesOutside d j
   pub outside : (j : ℕ) → LiesOutside d j → f.outer_open ≡ false → Contains f.outside.items j
@@ -139,7 +160,8 @@ pub record AreFaultsOver (d r : Plan) (out : ℕ → Bool) (rest : IsRestOf d r 
   pub cuts : (i : ℕ) (c : IsCut d i) → i < length d.curves → (out i ≡ true → ⊥)
       → IsClosed d r out c.p → IsClosed d r out c.q → Contains f.cuts.items i
   -- points in open faces
-  pub unjudged_is : (j : ℕ) → Contains f.unjudged.items j → IsOpen d r out (point (object d j))
+  pub unjudged_is : (j : ℕ) → Contains f.unjudged.items j
+      → (j < length d.points) × IsOpen d r out (point (object d j))
   pub unjudged : (j : ℕ) → j < length d.points → IsOff r (point (object d j))
       → IsOpen d r out (point (object d j)) → Contains f.unjudged.items j
 

@@ -1,33 +1,10 @@
--- Two bars, one over the other: their cells are of their edges, and each half-edge leads to the one
--- under the lower bar.
-use Rattle.std.proofs.Common.{◌≡◌, ℕ, zero, suc, ◌<◌, Option, Some, None, List, [], ◌∷◌, refl, arith}
-use Rattle.std.proofs.Common.{◌⊎◌, inl, inr, subst, sym}
-use Rattle.plane.specs.Lists.{Each, Has}
+-- Two bars, one over the other: each half-edge leads to the one under the lower bar.
+use Rattle.std.proofs.Common.{ℕ, zero, suc, Some, List, [], ◌∷◌, inl, inr, refl, arith}
 use Rattle.plane.specs.Runs.Gaps.{Gap}
-use Rattle.half_edges.specs.HalfEdges.{HalfEdges, over_of}
+use Rattle.half_edges.specs.HalfEdges.{HalfEdges}
 use Rattle.half_edges.specs.Meshes.{with_edge, with_faces, without_edges}
-use Rattle.faces.specs.Joined.{Across, AreKnown, HasCell}
+use Rattle.faces.specs.Joined.{Across, HasCell}
 use Rattle.faces.specs.Ranking.{AreRooted, Leads, step, there}
-
--- both edges of the cell, where there are any, have half-edges with numbers below n
-abbrev pub IsSmallEdge : ℕ → Option ℕ → Type 0
-IsSmallEdge n None = Unit {0}
-IsSmallEdge n (Some e) = over_of e < n
-
-pub record IsSmallGap (n : ℕ) (g : Gap) : Type 0 where
-  pub lower : IsSmallEdge n g.lower
-  pub upper : IsSmallEdge n g.upper
-
-small_side : (n e : ℕ) (g : Gap) → IsSmallGap n g → (g.lower ≡ Some e) ⊎ (g.upper ≡ Some e)
-    → over_of e < n
-small_side n e g s (inl q) = subst (IsSmallEdge n) q s.lower
-small_side n e g s (inr q) = subst (IsSmallEdge n) q s.upper
-
-pub small_known : (n : ℕ) (gs : List Gap) → Each (IsSmallGap n) gs → AreKnown n gs
-small_known n [] s g e h side = absurd h
-small_known n (f ∷ gs) (s, ss) g e (inl q) side =
-    small_side n e g (subst (IsSmallGap n) (sym q) s) side
-small_known n (f ∷ gs) (s, ss) g e (inr h) side = small_known n gs ss g e h side
 
 abbrev pub two_bars : HalfEdges
 two_bars = with_edge (with_edge (without_edges 4) 0 2) 1 3

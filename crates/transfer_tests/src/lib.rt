@@ -10,10 +10,6 @@ mod layouts;
 #[cfg(test)]
 mod lines;
 #[cfg(test)]
-mod pairs;
-#[cfg(test)]
 mod shelves;
 #[cfg(test)]
 mod transfers;
-#[cfg(test)]
-mod written;

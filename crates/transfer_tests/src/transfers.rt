@@ -24,7 +24,7 @@ const CODES: Codes = Codes {
 };
 
 // Topic T with the tables A and L, of no and of two lines, and topic U with a table A of one.
-pub const MODEL: &str = "TRANSFER Small; DOMAIN K = COORD2 0.000 0.000 1000.000 1000.000;
+const MODEL: &str = "TRANSFER Small; DOMAIN K = COORD2 0.000 0.000 1000.000 1000.000;
 MODEL M
 TOPIC T =
 TABLE A = NO IDENT END A;
@@ -50,7 +50,7 @@ const DRAWN: &str =
         LIPT 100.000 200.000\nLIPT 100.000 100.000\nELIN\nETAB\nTABL A\n\
         OBJE 1 77 150.000 150.000\nETAB\nETOP\nEMOD\nENDE\n";
 
-pub const OTHER_ORDER: &str = "TOPI U\nTABL A\nOBJE 9\nETAB\nETOP\n\
+const OTHER_ORDER: &str = "TOPI U\nTABL A\nOBJE 9\nETAB\nETOP\n\
         TOPI T\nTABL L\nOBJE 1 a \\\nCONT b\nSTPT 0 0\nLIPT 1 1\nARCP 2 2\nLIPT 3 3\nELIN x\n\
         OBJE 2\nELIN\nSTPT 5 5\nELIN\nETAB\nETOP\nEMOD\nENDE\n";
 
@@ -136,8 +136,8 @@ fn answer(alloc: Global, read: &Result<Transfer, ReadRefusal>) -> Result<String,
     Ok(text)
 }
 
-/// No lines of a text that is longer than any that is read.
-pub fn lines_of(alloc: Global, text: &str) -> Result<Lines, Memory>
+// No lines of a text that is longer than any that is read.
+fn lines_of(alloc: Global, text: &str) -> Result<Lines, Memory>
     ensures { IfOk result (λ lines. lines.total ≤ 268435456) }
 {
     let whole = format!(in alloc; "{HEAD}{text}")?;

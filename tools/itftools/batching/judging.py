@@ -4,6 +4,7 @@ The folder takes its name when it is whole, with `result.json` in it. A verdict 
 program ended with the status of that verdict and its report is whole and says the same, and where the
 transfer did not change meanwhile. All else is NOT JUDGED, with the reason, and never a verdict.
 """
+import contextlib
 import json
 import os
 import platform
@@ -21,7 +22,7 @@ from itftools.refusal import Refusal
 from itftools.statuses import JUDGED
 
 NOT_JUDGED = "NOT JUDGED"
-RESULT = "result.json"
+RESULT, WORK = "result.json", ".work"
 TOOL = [sys.executable, "-m", "itftools"]
 HERE = os.path.dirname(os.path.dirname(os.path.dirname(os.path.abspath(__file__))))
 
@@ -42,9 +43,10 @@ class Judge:
             with open(name, encoding="utf-8") as file:
                 result = json.load(file)
             is_same = all(result.get(key) == value for key, value in self.common.items())
-            if not is_same or result["verdict"] == NOT_JUDGED or result["name"] != printable(source.name):
+            if (not is_same or result["verdict"] == NOT_JUDGED or result["again"]
+                    or result["name"] != printable(source.name)):
                 return None
-            work = os.path.join(self.out, ".work", "%s-%d-%s" % (platform.node(), os.getpid(), source.folder))
+            work = self.work(source)
             os.makedirs(work, exist_ok=True)
             try:
                 _, checksum = sums(source.copy(work))
@@ -54,14 +56,19 @@ class Judge:
         except (OSError, ValueError, KeyError):
             return None
 
+    def work(self, source):
+        """A folder for a delivery while it is judged, by this process of this machine."""
+        return os.path.join(self.out, WORK, "%s~%d~%s" % (platform.node(), os.getpid(), source.folder))
+
     def judge(self, source):
         """Judges a delivery and keeps what came of it; its result."""
-        work = os.path.join(self.out, ".work", "%s-%d-%s" % (platform.node(), os.getpid(), source.folder))
+        work = self.work(source)
         shutil.rmtree(work, ignore_errors=True)
         os.makedirs(work)
         began = time.time()
         result = {"name": printable(source.name), "folder": source.folder, **self.common, "verdict": NOT_JUDGED,
-                  "status": None, "objects": None, "counts": {}, "bytes": None, "sha256": None, "why": "", "notes": []}
+                  "status": None, "objects": None, "counts": {}, "bytes": None, "sha256": None, "why": "", "notes": [],
+                  "again": False}
         try:
             self.into(result, source, work)
         except Exception as why:        # whatever it is, it is no verdict, and the next delivery is judged
@@ -84,6 +91,7 @@ class Judge:
         ended = self.run("itffaults", subprocess.DEVNULL, self.model, transfer, faults)
         if ended not in (0, 1, 2):
             result["notes"].append("no list of all faults: %s" % ended_with(ended))
+            result["again"] = ended < 0         # ended by a signal, perhaps with the whole batch
         if (result["bytes"], result["sha256"]) != sums(transfer):
             raise Refusal("the transfer changed while it was judged")
         listed = faults if ended in (0, 1, 2) and os.path.exists(faults) else "-"
@@ -115,10 +123,15 @@ class Judge:
         """The page is made by a process of its own; where there is none, the verdict stays."""
         paths = os.pathsep.join(filter(None, [HERE, os.environ.get("PYTHONPATH")]))
         words = [self.model, transfer, report, listed, "-o", os.path.join(work, "page.html"), "--lang", self.language]
-        made = subprocess.run([*TOOL, "page", *words], stdin=subprocess.DEVNULL, stdout=subprocess.DEVNULL,
-                              stderr=subprocess.PIPE, env={**os.environ, "PYTHONPATH": paths})
+        try:
+            made = subprocess.run([*TOOL, "page", *words], stdin=subprocess.DEVNULL, stdout=subprocess.DEVNULL,
+                                  stderr=subprocess.PIPE, env={**os.environ, "PYTHONPATH": paths}, timeout=self.timeout)
+        except subprocess.TimeoutExpired:
+            result["notes"].append("no page: it was not made within %g seconds" % self.timeout)
+            return
         if made.returncode != 0:
             lines = made.stderr.decode("utf-8", "replace").strip().splitlines()
+            result["again"] = result["again"] or made.returncode < 0
             result["notes"].append("no page: " + printable(lines[-1] if lines else ended_with(made.returncode)))
 
     @staticmethod
@@ -130,6 +143,30 @@ class Judge:
             os.replace(folder, old)
         os.replace(work, folder)
         shutil.rmtree(old, ignore_errors=True)
+
+
+def tidy(out):
+    """Removes what processes of this machine left behind that run no more; that of others stays."""
+    folder = os.path.join(out, WORK)
+    for name in os.listdir(folder) if os.path.isdir(folder) else ():
+        node, number, _ = (name.split("~", 2) + ["", ""])[:3]
+        if node == platform.node() and number.isdecimal() and not is_running(int(number)):
+            shutil.rmtree(os.path.join(folder, name), ignore_errors=True)
+    with contextlib.suppress(OSError):          # it is not there, or not empty
+        os.rmdir(folder)
+
+
+def is_running(number):
+    """Whether another process with this number runs."""
+    if number == os.getpid():
+        return False
+    try:
+        os.kill(number, 0)
+    except ProcessLookupError:
+        return False
+    except OSError:
+        pass
+    return True
 
 
 def verdict_of(status, report):

@@ -18,12 +18,12 @@ with a line on standard error. 130: it was stopped. 4 also: the words are wrong.
 """
 import os
 import shlex
-import shutil
 import signal
 import sys
 from concurrent.futures import ThreadPoolExecutor, as_completed
 
-from itftools.batching.judging import NOT_JUDGED, Judge
+from itftools.batching.judging import NOT_JUDGED, Judge, tidy
+from itftools.batching.progress import Progress
 from itftools.batching.sources import Source, sources_of
 from itftools.batching.summaries import status_of, told, worst, write_all
 from itftools.program import Program
@@ -98,7 +98,7 @@ def print_commands(given, sources):
 
 def batch(given, judge, sources):
     """Judges all, at most so many at a time, and writes the summaries, also where it is stopped."""
-    shutil.rmtree(os.path.join(given.o, ".work"), ignore_errors=True)
+    tidy(given.o)
     results, is_stopped = {}, False
     signal.signal(signal.SIGTERM, stop)
     try:
@@ -108,13 +108,14 @@ def batch(given, judge, sources):
                 if result:
                     results[source.name] = result
             print("%d of %d were judged before" % (len(results), len(sources)), flush=True)
+        progress = Progress(len(sources), len(results))
         for source, result in each(judge, [source for source in sources if source.name not in results], given.j):
             results[source.name] = result
-            print("[%d/%d] %s: %s" % (len(results), len(sources), result["name"], told(result)), flush=True)
+            progress.told("%s: %s" % (result["name"], told(result)))
     except KeyboardInterrupt:
         is_stopped = True
     found = [results[source.name] for source in sources if source.name in results]
-    shutil.rmtree(os.path.join(given.o, ".work"), ignore_errors=True)
+    tidy(given.o)
     write_all(given.o, found, given.lang, os.path.basename(given.model))
     counts = ["%d %s" % (sum(one["verdict"] == verdict for one in found), verdict.lower())
               for verdict in ("ACCEPTED", "UNDECIDED", "REJECTED", NOT_JUDGED)]

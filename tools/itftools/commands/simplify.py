@@ -1,25 +1,29 @@
-"""Writes a copy of a transfer in which arcs with a fork are chains of straights, for areas that are undecided.
+"""Writes a copy of a transfer in which arcs with a fork, and arcs of some millimetres, are chains of straights.
 
+It is for areas that are undecided.
 A fork is a vertex that two curves leave in nearly one direction (8 |cross| <= dot of the two directions),
 one of them an arc at least: no level of the check can part them. The arc of the less radius becomes the
 chain of the inner corners of its tube, at the least level that is within the bound of the arc. Each
 replaced arc is a line of the output: topic, table, attribute, the line of its ARCP in TRANSFER and its
-number of lines in COPY, radius, and how far the chain is from the arc at most. An arc that no level
-brings within the bound is told, and stays. All other lines are copied byte by byte.
+number of lines in COPY, radius, and how far the chain is from the arc at most. An arc of less than 20 mm,
+which no level encloses, becomes two straights. An arc that nothing brings within the bound is told, and
+stays. All other lines are copied byte by byte.
 
-A verdict on the copy is a verdict on the copy, and on TRANSFER nothing is proved by it; a rejection too,
-since a chain may cross what its arc does not. Arcs of SURFACEs
-stay, and arcs of some millimetres too, which also may keep an area undecided. A transfer with a finding
-in a line or point of an area is refused.
+What a verdict on the copy is worth: COPY accepted says that the areas are partitions when each arc that is
+listed is drawn as its chain, at most so far from it as is told. Of TRANSFER itself nothing is proved by it:
+its arcs may still meet what their chains do not. COPY rejected says nothing against TRANSFER where a chain
+is named: it may cross what its arc does not. Deliver, file and certify TRANSFER, never COPY, and call
+TRANSFER undecided. Arcs of SURFACEs stay. A transfer with a finding in a line or point of an area is
+refused.
 """
 from itftools.files import apart, written_bytes
 from itftools.numbers import decimal, units
 from itftools.reading.model import model_in
 from itftools.reading.transfer import Form, logical_lines, part_of
-from itftools.shapes.chains import chain_within, forked
+from itftools.shapes.chains import chain_within, forked, tiny
 from itftools.shapes.regions import circle
 
-SUMMARY = "a copy in which arcs with forks are chains of straights, for undecided areas"
+SUMMARY = "a copy in which arcs that hinder a verdict are chains of straights, for undecided areas"
 EXAMPLE = "itf simplify village.ili village.itf -o copy.itf"
 NOTE = b"copy by itf simplify: %d arcs are chains of straights; a verdict on this is on the copy"
 
@@ -58,8 +62,9 @@ def run(given):
     chains, stay = {}, 0
     for area in model.areas:
         bound = units(given.bound, area.scale)
-        for first in sorted(forked(area)):
-            found = [chain_within(area.curve(index), bound) for index in (first, first + 1)]
+        small = tiny(area)
+        for first in sorted(forked(area) | small):
+            found = [chain_within(area.curve(index), bound, first in small) for index in (first, first + 1)]
             if None in found:
                 stay += 1
                 print("%s %d stays: no chain is within %s" % (" ".join(area.words), area.lines[first], given.bound))
@@ -70,6 +75,7 @@ def run(given):
     with open(given.transfer, "rb") as file:
         written_bytes(given.o, copied(file.read(), chains, model.goes_on))
     print("%d arcs replaced, %d with a fork stay; a verdict on the copy is on the copy" % (len(chains), stay))
+    print("of TRANSFER nothing is proved by it: see `itf simplify --help`")
     return 0
 
 

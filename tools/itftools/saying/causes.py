@@ -117,14 +117,13 @@ MISSING = {"table": ("ETAB", ("TABL", "ETOP", "TOPI", "EMOD", "ENDE")), "topic":
 
 
 class Course:
-    """How far a transfer came before a line: the last word, what is open, and the last line."""
+    """How far a transfer came before a line: the last word, and what is open."""
 
     def __init__(self, name, number):
-        self.has_head = self.after_end = self.ends_in_line = False
-        self.word, self.topic, self.table, self.last, self.in_line = "", None, None, 0, False
+        self.has_head = self.after_end = False
+        self.word, self.topic, self.table, self.in_line, self.strokes = "", None, None, False, 0
         with open(name, "rb") as file:
             for at, text in physical_lines(file):
-                self.last = at
                 if at >= number:
                     break
                 fields = fields_of(text)
@@ -135,6 +134,10 @@ class Course:
 
     def step(self, word, rest):
         self.word, self.after_end = word, self.after_end or word == "ENDE"
+        if word == "OBJE":
+            self.strokes = 0
+        elif word == "STPT" or word == "ELIN" and not self.in_line:
+            self.strokes += 1
         if word == "TOPI":
             self.topic, self.table = rest, None
         elif word == "TABL":
@@ -149,8 +152,9 @@ class Course:
                 "topic" if self.topic is not None else "model")
 
     def could_stand(self, strokes):
+        """The words that could come, where an object has so many strokes at most."""
         if self.word in ("OBJE", "ELIN"):
-            return "STPT, ELIN, OBJE, ETAB" if strokes else "OBJE, ETAB"
+            return "STPT, ELIN, OBJE, ETAB" if self.strokes < strokes else "OBJE, ETAB"
         return FOLLOW.get(self.word)
 
 

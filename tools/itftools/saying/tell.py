@@ -9,7 +9,7 @@ from itftools.reading.rows import column_of
 from itftools.reading.transfer import physical_lines, scaled
 from itftools.saying import causes
 from itftools.saying.sentences import AREAS, FAULTS, FINDINGS, ROLES, STRUCTURES, SURFACES, VERDICTS
-from itftools.shapes.chains import forks
+from itftools.shapes.chains import SHORT, forks
 from itftools.shapes.curves import length
 from itftools.shapes.hints import hints_of
 from itftools.shapes.named import Named
@@ -19,7 +19,6 @@ from itftools.shapes.regions import (Index, around, curve_at, free_ends_of_fault
 MOST_HINTS = 10         # of a kind
 MOST_ENDS = 20          # faults of a file of which the free ends are told
 MANY = 20               # facts of an area from which on its curves get an index
-SHORT = 0.02            # the length of an arc, in coordinates, below which a tube is often none
 TELLING_WORDS = {
     "hintCross": "seem to cross", "hintNear": "come near each other", "hintHalf": "is about half a turn or more"}
 
@@ -195,7 +194,7 @@ class Teller:
             "%s %s at %s" % (lines_of(area, first, second), TELLING_WORDS[how],
                              self.place(area, (round(at[0]), round(at[1]))))
             for how, _, at, first, second in hints_of(area) if how in TELLING_WORDS])
-        yield "hint: `itf simplify` writes a copy in which arcs with forks are chains of straights"
+        yield "hint: `itf simplify` writes a copy in which such arcs are chains of straights, to look further"
 
     def curve(self, area, index):
         start, end, third = area.curve(index)

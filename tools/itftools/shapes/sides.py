@@ -28,7 +28,7 @@ class Near:
     def __init__(self, area, boxes, but):
         self.area = area
         sizes = sorted(max(box[2] - box[0], box[3] - box[1], 1) for box in boxes)
-        self.size = max(2 * sizes[len(sizes) // 2], 1)
+        self.size = max(4 * sizes[len(sizes) // 2], 1)
         self.is_whole = len(area.lines) < SMALL
         self.squares, self.points, self.wide = defaultdict(list), defaultdict(list), []
         self.known = set()
@@ -54,11 +54,14 @@ class Near:
                               for y in range(rows[0] - ROOM, rows[-1] + ROOM + 1))
 
     def add_curve(self, index):
-        area, size = self.area, self.size
-        first = area.x0[index] // size, area.y0[index] // size
-        if index not in area.thirds and first == (area.x1[index] // size, area.y1[index] // size):
-            if self.is_whole or first in self.known:
-                self.squares[first].append(index)
+        area, size, known = self.area, self.size, self.known
+        left, right, low, high = (area.x0[index] // size, area.x1[index] // size, area.y0[index] // size,
+                                  area.y1[index] // size)
+        if index not in area.thirds and -2 < left - right < 2 and -2 < low - high < 2:      # in four squares at most
+            if self.is_whole or (left, low) in known or (right, high) in known or (left, high) in known or (
+                    right, low) in known:
+                for square in {(left, low), (right, high), (left, high), (right, low)}:
+                    self.squares[square].append(index)
             return
         columns, rows = self.ranges(reach(area, index))
         if len(columns) * len(rows) > FEW:
@@ -102,16 +105,16 @@ class Sides:
         for index, line in enumerate(area.lines):
             if line in lines:
                 self.index_of[line] = index
-        but = {self.index_of[line] for fact in bad for line in fact.lines}
+        self.but = but = {self.index_of[line] for fact in bad for line in fact.lines}
         boxes = [box_of(area.curve(self.index_of[fact.lines[0]])) for fact in facts]
         self.near = Near(area, boxes, but)
         self.limits = extent(area)
 
     def of(self, fact):
         """What stands in `extra` of a fault: `sides_of_line`, and of EMPTY and OPEN `beside`."""
-        if fact.extra.get("bent"):
-            return {}
         index = self.index_of[fact.lines[0]]
+        if fact.extra.get("bent") or index in self.but:
+            return {}
         before, self.area.index = self.area.index, self.near
         try:
             regions = {side: self.region(index, side == "LEFT") for side in ("LEFT", "RIGHT")}

@@ -260,6 +260,7 @@ module _ (d : Plan) (level : ℕ) (edges : List Edge) (owners : List Owner) (fac
       rest d,
       record {
         at = at;
+        none_out = λ k l o. absurd (never_out o);
         places = moved (λ (k : ℕ). AreFacePlaces d k at) face_places;
         closed = λ k l e i m o. absurd (never_out o);
         broken = λ k l e. absurd (never_out (sym (closed k) ∙ e));

@@ -3,7 +3,6 @@
 //! worked rows stand in `crates/worked_rows`.
 
 mod calls;
-mod drawings;
 mod endless;
 mod growths;
 mod links;

@@ -87,8 +87,8 @@ function showSummary() {
   const head = el("tr", {}, el("th", { scope: "col" }, ui("part")), el("th", { scope: "col" }, ui("state")),
     ...kinds.map(name => el("th", { scope: "col" }, kind(name)[0])));
   const body = [...rows].map(([name, row]) => el("tr", {}, el("th", { scope: "row" }, name),
-    el("td", {}, row.part ? state(row.part) : "-"),
-    ...kinds.map(its => el("td", { class: "number" }, !row.counts[its] ? "" : button(count(row.counts[its]),
+    el("td", { "data-label": ui("state") }, row.part ? state(row.part) : "-"),
+    ...kinds.map(its => el("td", { class: "number", "data-label": kind(its)[0] }, !row.counts[its] ? "" : button(count(row.counts[its]),
       () => { setFilter({ kind: its, part: (row.part || row).names.join("."), text: "" }); $("list-title").scrollIntoView(); },
       { "aria-label": ui("showThese", { n: count(row.counts[its]), kind: kind(its)[0], part: name }) })))));
   if (!body.length) return put("summary", el("p", {}, ui("nothing")));
@@ -107,6 +107,8 @@ function state(part) {
 const canvas = $("map"), pen = canvas.getContext("2d");
 const view = { x: 0, y: 0, k: 1 };
 let wide = 0, high = 0, isDue = false;
+const layers = { lines: true, points: true, faults: true, unjudged: true };     // which are shown
+const isShown = fault => fault === chosen || (fault.judged ? layers.faults : layers.unjudged);
 
 function polylines(lists) {
   return lists.map(flat => {
@@ -181,9 +183,9 @@ function draw() {
   pen.clearRect(0, 0, wide, high);
   if (!hasMap) return;
   const edge = [view.x - wide / 2 / view.k, view.y - high / 2 / view.k, view.x + wide / 2 / view.k, view.y + high / 2 / view.k];
-  if (!data.whole) stroke(overview, edge, "#c9ccd1", 0.7);
-  stroke(lines, edge, "#5b6470", 0.8);
-  if (view.k * UNIT > 1.5) {                // objects' points, where a metre has some pixels
+  if (layers.lines && !data.whole) stroke(overview, edge, "#c9ccd1", 0.7);
+  if (layers.lines) stroke(lines, edge, "#5b6470", 0.8);
+  if (layers.points && view.k * UNIT > 1.5) {                // objects' points, where a metre has some pixels
     pen.fillStyle = "#3b6ea5";
     for (let k = 0; k < data.places.length; k += 2) {
       const x = data.places[k], y = data.places[k + 1];
@@ -191,7 +193,7 @@ function draw() {
     }
   }
   pen.font = "bold 10px Arial"; pen.textAlign = "center"; pen.textBaseline = "middle";
-  const list = found();
+  const list = found().filter(isShown);
   for (const fault of list) {
     if (fault.rings.length && seen(fault.rings[0].box, edge)) {
       pen.beginPath();
@@ -320,7 +322,7 @@ canvas.addEventListener("keydown", event => {
 });
 // The fault nearest to a click; at one place each click takes the next.
 function pick(x, y) {
-  const near = found().filter(fault => fault.u).map(fault => [Math.hypot(across(fault.u[0]) - x, down(fault.u[1]) - y), fault])
+  const near = found().filter(fault => fault.u && isShown(fault)).map(fault => [Math.hypot(across(fault.u[0]) - x, down(fault.u[1]) - y), fault])
     .filter(([way]) => way < 14).sort((one, other) => one[0] - other[0]).map(([, fault]) => fault);
   if (near.length) choose(near[(near.indexOf(chosen) + 1) % near.length], false);
 }
@@ -373,10 +375,11 @@ function showList() {
 }
 function row(fault) {
   const first = fault.rows[0];
-  return el("tr", { id: "row-" + fault.id, class: fault === chosen ? "chosen" : "" }, el("td", { class: "number" }, String(fault.id)),
-    el("td", {}, dot(fault.kind, fault.judged), button(kind(fault.kind)[0], () => choose(fault, true))), el("td", {}, nameOf(fault)),
-    el("td", { class: "number" }, fault.rows.map(its => its.line).join(", ")), el("td", {}, first && first.tid || ""),
-    el("td", { class: "number" }, fault.at ? fault.at.join(" / ") : "-"));
+  const cell = (name, its, isNumber) => el("td", { class: isNumber ? "number" : "", "data-label": ui("column_" + name) }, its);
+  return el("tr", { id: "row-" + fault.id, class: fault === chosen ? "chosen" : "" }, cell("id", String(fault.id), true),
+    el("td", {}, dot(fault.kind, fault.judged), button(kind(fault.kind)[0], () => choose(fault, true))), cell("part", nameOf(fault)),
+    cell("line", fault.rows.map(its => its.line).join(", "), true), cell("tid", first && first.tid || ""),
+    cell("place", fault.at ? fault.at.join(" / ") : "-", true));
 }
 $("more").addEventListener("click", () => { most += STEP; showList(); });
 
@@ -441,6 +444,10 @@ function showMap() {
   put("map-buttons", button("+", () => zoom(1.5), { "aria-label": ui("nearer") }), button("\u2212", () => zoom(1 / 1.5), { "aria-label": ui("farther") }),
     button(ui("whole"), fitAll), button(ui("toFaults"), fitFaults, { disabled: !data.faults.length }),
     button(ui("previous"), () => step(-1), { disabled: !data.faults.length }), button(ui("next"), () => step(1), { disabled: !data.faults.length }));
+  $("layers").setAttribute("aria-label", ui("layers"));
+  put("layers", el("span", {}, ui("layers") + ":"), ...Object.keys(layers).map(name => el("label", {},
+    el("input", { type: "checkbox", checked: layers[name], onchange: event => { layers[name] = event.target.checked; due(); } }),
+    ui("layer_" + name))));
   $("map-help").textContent = ui("mapHelp");
   $("thinned").textContent = data.whole ? "" : ui(data.radius ? "thinned" : "thinnedAll", { n: count(data.vertices), radius: data.radius });
   put("legend", ...kindsHere().filter(name => data.faults.some(fault => fault.kind === name && fault.u))

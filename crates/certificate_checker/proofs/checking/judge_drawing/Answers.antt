@@ -12,6 +12,7 @@ judge_list-requires c =
     let d = plan c.args.drawing.now in
     record {
       low = search rules;
+      few = c.requires;
       list = subst (IsListAt d (λ n. c.args.certificate.now.level)) c.in-Some.is
           c.in_ok-edge_list.ensures.list;
       usable = subst (IsUsable d) c.in-Some.is c.in_ok-edge_list.ensures.usable;

@@ -7,7 +7,7 @@ pub returns-then-place-case-clause-broken : goal.returns-then-place-case-clause-
 returns-then-place-case-clause-broken c =
     let l : c.args.state.now.placing.bad < length c.args.case.now.points.now = search rules in
     first_unplaced (judged c.args.case.now) c.requires.fit.table c.requires.fit.counts
-    c.requires.fit.corners c.requires.replayed.moved.passes c.args.state.now.live
+    c.requires.fit.corners c.requires.replayed.moved.passes c.args.state.now.live.edges
     (length c.args.state.now.fan.items) c.args.state.now.mesh c.requires.replayed.moved
     c.args.state.now.marks.border.items c.args.state.now.marks.across.items
     c.args.state.now.marks.point.items c.requires.replayed.border c.requires.replayed.across
@@ -19,7 +19,7 @@ pub returns-clause-ended : goal.returns-clause-ended
 returns-clause-ended c =
     let l : length c.args.case.now.points.now ≤ c.args.state.now.placing.bad = search rules in
     ended (judged c.args.case.now) c.requires.fit.table c.requires.fit.counts c.requires.fit.corners
-    c.requires.replayed.moved.passes c.args.state.now.live
+    c.requires.replayed.moved.passes c.args.state.now.live.edges
     (length c.args.state.now.fan.items) c.args.state.now.mesh c.requires.replayed.moved
     c.args.state.now.marks.border.items c.args.state.now.marks.across.items
     c.args.state.now.marks.point.items c.requires.replayed.border c.requires.replayed.across

@@ -4,4 +4,4 @@ use Rattle.certificate_checker.proofs.events.all_end_at.Given as goal
 
 abbrev pub invariant-loop-place : goal.invariant-loop-place
 invariant-loop-place l = (k : ℕ) → k < l.place - l.from
-    → (edge_of l.edges (get_or (take (l.upto - l.from) (drop l.from l.live)) k 0)).high ≡ l.at
+    → (edge_of l.edges (get_or (take (l.upto - l.from) (drop l.from l.live.edges)) k 0)).high ≡ l.at

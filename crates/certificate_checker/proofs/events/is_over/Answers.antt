@@ -7,7 +7,8 @@ use Rattle.certificate_checker.proofs.events.is_over.Goals as goal
 pub returns-else-place-eq0 : goal.returns-else-place-eq0
 returns-else-place-eq0 c =
     over_place (λ (i : ℕ). pos 0 <ℤ turn_at (edge_of c.args.edges.now)
-    (get_or c.args.live.now i 0) c.args.at) c.args.place c.if-place-eq0.false c.is_above.result
+    (get_or c.args.live.now.edges i 0) c.args.at) c.args.place c.if-place-eq0.false
+    c.is_above.result
     (subst (λ (e : ℕ). IsTrue c.is_above.result
     ↔ (pos 0 <ℤ turn_at (edge_of c.args.edges.now) e c.args.at))
     (c.get.ensures 0) c.is_above.ensures)

@@ -38,7 +38,7 @@ returns-then-not-has_block-clause-broken c =
     let no : c.has_block.result ≡ false = search rules in
     let b : IsTrue c.has_block.result ↔ BlockAt (judged c.args.case.now) c.args.event =
     event_rule (HasBlock (edge (judged c.args.case.now)))
-    (judged c.args.case.now) c.args.event c.has_block.result c.args.live.now c.at-at.result
+    (judged c.args.case.now) c.args.event c.has_block.result c.args.live.now.edges c.at-at.result
     c.position_of-position.result _ c.requires.live c.at-at.ensures
     c.position_of-position.ensures (ap length c.ending-ending.ensures) c.has_block.ensures in
     block refl (unfit c.has_block.result b no)
@@ -49,12 +49,12 @@ returns-then-not-is_between-clause-broken c =
     let hb : IsTrue c.has_block.result = search rules in
     let b : IsTrue c.has_block.result ↔ BlockAt (judged c.args.case.now) c.args.event =
     event_rule (HasBlock (edge (judged c.args.case.now)))
-    (judged c.args.case.now) c.args.event c.has_block.result c.args.live.now c.at-at.result
+    (judged c.args.case.now) c.args.event c.has_block.result c.args.live.now.edges c.at-at.result
     c.position_of-position.result _ c.requires.live c.at-at.ensures
     c.position_of-position.ensures (ap length c.ending-ending.ensures) c.has_block.ensures in
     let t : IsTrue c.is_between.result ↔ BetweenAt (judged c.args.case.now) c.args.event =
     event_rule (IsBetween (edge (judged c.args.case.now)))
-    (judged c.args.case.now) c.args.event c.is_between.result c.args.live.now c.at-at.result
+    (judged c.args.case.now) c.args.event c.is_between.result c.args.live.now.edges c.at-at.result
     c.position_of-position.result _ c.requires.live c.at-at.ensures
     c.position_of-position.ensures (ap length c.ending-ending.ensures) c.is_between.ensures in
     between refl (b.0 hb) (unfit c.is_between.result t no)
@@ -66,12 +66,12 @@ returns-then-not-turn_left-clause-broken c =
     let ht : IsTrue c.is_between.result = search rules in
     let b : IsTrue c.has_block.result ↔ BlockAt (judged c.args.case.now) c.args.event =
     event_rule (HasBlock (edge (judged c.args.case.now)))
-    (judged c.args.case.now) c.args.event c.has_block.result c.args.live.now c.at-at.result
+    (judged c.args.case.now) c.args.event c.has_block.result c.args.live.now.edges c.at-at.result
     c.position_of-position.result _ c.requires.live c.at-at.ensures
     c.position_of-position.ensures (ap length c.ending-ending.ensures) c.has_block.ensures in
     let t : IsTrue c.is_between.result ↔ BetweenAt (judged c.args.case.now) c.args.event =
     event_rule (IsBetween (edge (judged c.args.case.now)))
-    (judged c.args.case.now) c.args.event c.is_between.result c.args.live.now c.at-at.result
+    (judged c.args.case.now) c.args.event c.is_between.result c.args.live.now.edges c.at-at.result
     c.position_of-position.result _ c.requires.live c.at-at.ensures
     c.position_of-position.ensures (ap length c.ending-ending.ensures) c.is_between.ensures in
     let l : IsTrue c.turn_left.result ↔ SlopesAt (judged c.args.case.now) c.args.event = slopes_rule
@@ -87,12 +87,12 @@ returns-then-not-labels_match-clause-broken c =
     let hl : IsTrue c.turn_left.result = search rules in
     let b : IsTrue c.has_block.result ↔ BlockAt (judged c.args.case.now) c.args.event =
     event_rule (HasBlock (edge (judged c.args.case.now)))
-    (judged c.args.case.now) c.args.event c.has_block.result c.args.live.now c.at-at.result
+    (judged c.args.case.now) c.args.event c.has_block.result c.args.live.now.edges c.at-at.result
     c.position_of-position.result _ c.requires.live c.at-at.ensures
     c.position_of-position.ensures (ap length c.ending-ending.ensures) c.has_block.ensures in
     let t : IsTrue c.is_between.result ↔ BetweenAt (judged c.args.case.now) c.args.event =
     event_rule (IsBetween (edge (judged c.args.case.now)))
-    (judged c.args.case.now) c.args.event c.is_between.result c.args.live.now c.at-at.result
+    (judged c.args.case.now) c.args.event c.is_between.result c.args.live.now.edges c.at-at.result
     c.position_of-position.result _ c.requires.live c.at-at.ensures
     c.position_of-position.ensures (ap length c.ending-ending.ensures) c.is_between.ensures in
     let l : IsTrue c.turn_left.result ↔ SlopesAt (judged c.args.case.now) c.args.event = slopes_rule
@@ -100,7 +100,7 @@ returns-then-not-labels_match-clause-broken c =
     c.starting-starting.ensures c.turn_left.ensures in
     let m : IsTrue c.labels_match.result ↔ LabelsAt (judged c.args.case.now) c.args.event =
     labels_at (judged c.args.case.now) c.args.event c.labels_match.result c.deref.result.now
-    c.args.live.now c.starting-starting.result.now c.position_of-position.result _
+    c.args.live.now.edges c.starting-starting.result.now c.position_of-position.result _
     c.deref.ensures.value c.requires.live c.starting-starting.ensures
     c.position_of-position.ensures (ap length c.ending-ending.ensures)
     (let w = (c.has_block.ensures.0 hb).within in omega (arith, w)) c.labels_match.ensures in
@@ -114,12 +114,12 @@ returns-clause-passes c =
     let hm : IsTrue c.labels_match.result = search rules in
     let b : IsTrue c.has_block.result ↔ BlockAt (judged c.args.case.now) c.args.event =
     event_rule (HasBlock (edge (judged c.args.case.now)))
-    (judged c.args.case.now) c.args.event c.has_block.result c.args.live.now c.at-at.result
+    (judged c.args.case.now) c.args.event c.has_block.result c.args.live.now.edges c.at-at.result
     c.position_of-position.result _ c.requires.live c.at-at.ensures
     c.position_of-position.ensures (ap length c.ending-ending.ensures) c.has_block.ensures in
     let t : IsTrue c.is_between.result ↔ BetweenAt (judged c.args.case.now) c.args.event =
     event_rule (IsBetween (edge (judged c.args.case.now)))
-    (judged c.args.case.now) c.args.event c.is_between.result c.args.live.now c.at-at.result
+    (judged c.args.case.now) c.args.event c.is_between.result c.args.live.now.edges c.at-at.result
     c.position_of-position.result _ c.requires.live c.at-at.ensures
     c.position_of-position.ensures (ap length c.ending-ending.ensures) c.is_between.ensures in
     let l : IsTrue c.turn_left.result ↔ SlopesAt (judged c.args.case.now) c.args.event = slopes_rule
@@ -127,7 +127,7 @@ returns-clause-passes c =
     c.starting-starting.ensures c.turn_left.ensures in
     let m : IsTrue c.labels_match.result ↔ LabelsAt (judged c.args.case.now) c.args.event =
     labels_at (judged c.args.case.now) c.args.event c.labels_match.result c.deref.result.now
-    c.args.live.now c.starting-starting.result.now c.position_of-position.result _
+    c.args.live.now.edges c.starting-starting.result.now c.position_of-position.result _
     c.deref.ensures.value c.requires.live c.starting-starting.ensures
     c.position_of-position.ensures (ap length c.ending-ending.ensures)
     (let w = (c.has_block.ensures.0 hb).within in omega (arith, w)) c.labels_match.ensures in

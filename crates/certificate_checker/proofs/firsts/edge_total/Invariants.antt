@@ -8,6 +8,7 @@ use Rattle.certificate_checker.proofs.firsts.edge_total.Given as goal
 abbrev pub invariant-loop-i : goal.invariant-loop-i
 invariant-loop-i l = record {
   total : HaveTubes (plan l.drawing) (λ n. l.level)
-      → l.total ≡ first_edge (drawn_bays (plan l.drawing) (λ n. l.level)) 0 (plan l.drawing).curves l.i;
+      → l.total ≡ first_edge (drawn_bays (plan l.drawing) (λ n. l.level)) 0
+      (plan l.drawing).curves l.i;
   few : l.total ≤ (129 * l.i);
 }

@@ -6,7 +6,7 @@ use Rattle.certificate_checker.proofs.labels.labels_match.Given as goal
 
 abbrev pub invariant-loop-e : goal.invariant-loop-e
 invariant-loop-e l =
-    Match (labels_in l.notes) (over_label (labels_in l.notes) (edge_before l.live l.position))
-    l.starting (under_label (labels_in l.notes) (edge_at l.live (l.position + l.ending)))
+    Match (labels_in l.notes) (over_label (labels_in l.notes) (edge_before l.live.edges l.position))
+    l.starting (under_label (labels_in l.notes) (edge_at l.live.edges (l.position + l.ending)))
     ↔ Match (labels_in l.notes) l.label (drop l.e-index l.starting)
-    (under_label (labels_in l.notes) (edge_at l.live (l.position + l.ending)))
+    (under_label (labels_in l.notes) (edge_at l.live.edges (l.position + l.ending)))

@@ -12,9 +12,9 @@ use Rattle.certificate_checker.proofs.points.place_point.Goals as goal
 pub returns-in-Some-clause-marks : goal.returns-in-Some-clause-marks
 returns-in-Some-clause-marks c =
     cell_marked (judged c.args.case.now) c.requires.fit.table c.requires.fit.counts c.args.event
-    c.requires.event c.args.spot.number c.requires.spot.strip c.args.live.now c.requires.live
+    c.requires.event c.args.spot.number c.requires.spot.strip c.args.live.now.edges c.requires.live
     c.in-Some.i c.args.marks.now c.mark.new.marks c.mark-in-Some.new.marks
-    (subst (IsCellOf (judged c.args.case.now) c.args.spot.number c.args.live.now) c.in-Some.is
+    (subst (IsCellOf (judged c.args.case.now) c.args.spot.number c.args.live.now.edges) c.in-Some.is
     c.cell_of.ensures)
     (subst (λ (e : ℕ). (h : Half) → IsMarked c.mark.new.marks h
     ↔ (IsMarked c.args.marks.now h ⊎ (h ≡ half_of (2 * e + 1))))
@@ -25,14 +25,14 @@ returns-in-Some-clause-marks c =
 
 pub returns-in-Some-clause-bad : goal.returns-in-Some-clause-bad
 returns-in-Some-clause-bad c =
-    let x = subst (IsCellOf (judged c.args.case.now) c.args.spot.number c.args.live.now)
+    let x = subst (IsCellOf (judged c.args.case.now) c.args.spot.number c.args.live.now.edges)
     c.in-Some.is c.cell_of.ensures in
     inl (inl x.0, refl)
 
 pub returns-then-not-is_in_own_tube-clause-bad : goal.returns-then-not-is_in_own_tube-clause-bad
 returns-then-not-is_in_own_tube-clause-bad c =
     let n : c.is_in_own_tube.result ≡ false = search rules in
-    let x = subst (IsCellOf (judged c.args.case.now) c.args.spot.number c.args.live.now)
+    let x = subst (IsCellOf (judged c.args.case.now) c.args.spot.number c.args.live.now.edges)
     c.in-None.is c.cell_of.ensures in
     inr (
       (λ p. elim p [
@@ -49,7 +49,7 @@ returns-else-not-is_in_own_tube-clause-bad c =
 
 pub mark-requires : goal.mark-requires
 mark-requires c =
-    let x = subst (IsCellOf (judged c.args.case.now) c.args.spot.number c.args.live.now)
+    let x = subst (IsCellOf (judged c.args.case.now) c.args.spot.number c.args.live.now.edges)
     c.in-Some.is c.cell_of.ensures in
     let p = x.2 in
     let q = x.3 in
@@ -61,7 +61,7 @@ mark-requires c =
 
 pub overflow_mul-get : goal.overflow_mul-get
 overflow_mul-get c =
-    let x = subst (IsCellOf (judged c.args.case.now) c.args.spot.number c.args.live.now)
+    let x = subst (IsCellOf (judged c.args.case.now) c.args.spot.number c.args.live.now.edges)
     c.in-Some.is c.cell_of.ensures in
     let p = x.2 in
     let q = x.3 in
@@ -72,7 +72,7 @@ overflow_mul-get c =
 
 pub overflow_add-get : goal.overflow_add-get
 overflow_add-get c =
-    let x = subst (IsCellOf (judged c.args.case.now) c.args.spot.number c.args.live.now)
+    let x = subst (IsCellOf (judged c.args.case.now) c.args.spot.number c.args.live.now.edges)
     c.in-Some.is c.cell_of.ensures in
     let p = x.2 in
     let q = x.3 in

@@ -12,22 +12,23 @@ use Rattle.certificate_checker.proofs.replaying.mark_event.Goals as goal
 
 pub mark_neighbours-requires-clause-lower : goal.mark_neighbours-requires-clause-lower
 mark_neighbours-requires-clause-lower c =
-    before_note c.deref.result.now c.args.live.now c.position_of-position.result
+    before_note c.deref.result.now c.args.live.now.edges c.position_of-position.result
     c.edge_before-lower.result c.edge_before-lower.ensures
-    (notes_of c.deref.result.now (length c.args.case.now.edges.now) c.args.live.now
+    (notes_of c.deref.result.now (length c.args.case.now.edges.now) c.args.live.now.edges
     (ap length c.deref.ensures.value ∙ c.requires.fit.counts.notes)
     (live_below (judged c.args.case.now) c.requires.fit.table c.requires.fit.counts c.args.event
     (let l = c.requires.event in
-    omega (arith, l)) c.requires.passed c.args.live.now c.requires.live))
+    omega (arith, l)) c.requires.passed c.args.live.now.edges c.requires.live))
 
 pub mark_neighbours-requires-clause-upper : goal.mark_neighbours-requires-clause-upper
 mark_neighbours-requires-clause-upper c =
-    at_note c.deref.result.now c.args.live.now _ c.edge_at-upper.result c.edge_at-upper.ensures
-    (notes_of c.deref.result.now (length c.args.case.now.edges.now) c.args.live.now
+    at_note c.deref.result.now c.args.live.now.edges _ c.edge_at-upper.result
+    c.edge_at-upper.ensures
+    (notes_of c.deref.result.now (length c.args.case.now.edges.now) c.args.live.now.edges
     (ap length c.deref.ensures.value ∙ c.requires.fit.counts.notes)
     (live_below (judged c.args.case.now) c.requires.fit.table c.requires.fit.counts c.args.event
     (let l = c.requires.event in
-    omega (arith, l)) c.requires.passed c.args.live.now c.requires.live))
+    omega (arith, l)) c.requires.passed c.args.live.now.edges c.requires.live))
 
 pub mark_neighbours-requires-clause-starting : goal.mark_neighbours-requires-clause-starting
 mark_neighbours-requires-clause-starting c =
@@ -44,12 +45,12 @@ returns-clause-border c =
     c.mark_neighbours.auto.border c.requires.border
     (subst (λ gs. AreMarked IsAtBorder gs c.args.border.now c.mark_neighbours.new.border)
     (opened_is (judged c.args.case.now) c.requires.fit.table c.requires.fit.counts c.args.event
-    c.args.live.now c.starting-starting.result.now c.position_of-position.result _
+    c.args.live.now.edges c.starting-starting.result.now c.position_of-position.result _
     c.edge_before-lower.result c.edge_at-upper.result
     c.requires.live c.starting-starting.ensures c.position_of-position.ensures
     (ap length c.ending-ending.ensures)
     (let w = block_within (judged c.args.case.now) c.requires.fit.table c.requires.fit.counts
-    c.args.event c.args.live.now c.position_of-position.result _ c.requires.live
+    c.args.event c.args.live.now.edges c.position_of-position.result _ c.requires.live
     c.position_of-position.ensures (ap length c.ending-ending.ensures) c.requires.passes in
     omega (arith, w))
     c.edge_before-lower.ensures c.edge_at-upper.ensures)
@@ -65,12 +66,12 @@ returns-clause-across c =
     c.mark_neighbours.auto.across c.requires.across
     (subst (λ gs. AreMarked N gs c.args.across.now c.mark_neighbours.new.across)
     (opened_is (judged c.args.case.now) c.requires.fit.table c.requires.fit.counts c.args.event
-    c.args.live.now c.starting-starting.result.now c.position_of-position.result _
+    c.args.live.now.edges c.starting-starting.result.now c.position_of-position.result _
     c.edge_before-lower.result c.edge_at-upper.result
     c.requires.live c.starting-starting.ensures c.position_of-position.ensures
     (ap length c.ending-ending.ensures)
     (let w = block_within (judged c.args.case.now) c.requires.fit.table c.requires.fit.counts
-    c.args.event c.args.live.now c.position_of-position.result _ c.requires.live
+    c.args.event c.args.live.now.edges c.position_of-position.result _ c.requires.live
     c.position_of-position.ensures (ap length c.ending-ending.ensures) c.requires.passes in
     omega (arith, w))
     c.edge_before-lower.ensures c.edge_at-upper.ensures)

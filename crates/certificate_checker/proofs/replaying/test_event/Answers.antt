@@ -8,7 +8,7 @@ pub judge_event-requires-clause-known : goal.judge_event-requires-clause-known
 judge_event-requires-clause-known c =
     live_below (judged c.args.case.now) c.requires.fit.table c.requires.fit.counts c.args.event
     (let l = c.requires.event in
-    omega (arith, l)) c.requires.replayed.moved.passes c.args.state.now.live
+    omega (arith, l)) c.requires.replayed.moved.passes c.args.state.now.live.edges
     c.requires.replayed.moved.live
 
 pub returns-in-Err-clause-broken : goal.returns-in-Err-clause-broken
