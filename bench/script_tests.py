@@ -380,6 +380,8 @@ class Gate(Scratch):
         return done
 
     def test_what_is_released(self):
+        self.gate(0, "")
+        (self.checkout / "released").mkdir()
         self.gate(1, "there is no released program")
         self.release()
         self.assertEqual(self.gate(0, "").stderr, "")
